@@ -1,0 +1,17 @@
+pub mod Numbers
+pub mod Lists
+pub mod State
+pub mod Maps
+pub mod Choosing
+pub mod Granting
+pub mod Commands
+pub mod Allocating
+pub mod Settling
+pub mod Sound
+pub mod Kinds
+pub mod Refusals
+pub mod Call
+pub mod Log
+pub mod Machine
+pub mod Text
+pub mod Sample

@@ -1,0 +1,10 @@
+pub mod Opens
+pub mod Unwind
+pub mod UnwindSettle
+pub mod UnwindTheirs
+pub mod UnwindFree
+pub mod UnwindCalls
+pub mod UnwindOurs
+pub mod UnwindSame
+pub mod Demand3
+pub mod Witness

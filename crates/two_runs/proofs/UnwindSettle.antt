@@ -1,0 +1,275 @@
+-- UnwindSettle.
+-- Assumes nothing.
+use Prim.Native.Nat.{ℕ, zero, suc, _+_, _^_, _≤_, _<_}
+use mathlib.Core.Path.{_≡_, refl, ap, subst, sym, _∙_}
+use mathlib.Core.Bool.{Bool, true, false, not, _&&_}
+use mathlib.Core.List.{List, [], _∷_, _++_, map}
+use native.Mathlib.Omega.{arith}
+use lib.Dec.{T, eqb, leb, ltb, leb→le}
+use lib.ListN.{length, length-map}
+use Rattle.machine.specs.Numbers.{ALLOCFAILED, CHANNELSTOLEN}
+use Rattle.machine.specs.Lists.{if_then_else_, any, all, keep}
+use Rattle.machine.specs.State.{Channel, Lock, Request, State, Reply}
+use Rattle.machine.specs.Maps.{meets, named, change}
+use Rattle.machine.specs.Choosing.{Look, fails, held, grants, look}
+use Rattle.machine.specs.Granting.{taken, keyFor, granted, abortedIn}
+use Rattle.machine.specs.Commands.{ended}
+use Rattle.machine.specs.Settling.{Found, nobody, somebody, Walk, Settled, replied, staying, saying, onLook, walk, walked, goOn, rounds, settle}
+use Rattle.machine.proofs.Tests.{if-elim, and-left, and-right, and-both, by-test, test-true, test-false}
+use Rattle.machine.proofs.Lists.{all-keep}
+use Rattle.machine.proofs.Maps.{apart-meets, length-change}
+use Rattle.machine.proofs.Choosing.{Spares, look-spares}
+use Rattle.two_runs.specs.TwoRuns.{Party, holds, mask, ownLocks, project, ownReplies, fitting, lower}
+use Rattle.two_runs.proofs.Unwind.{spared, change-view, change-fit, own-append, abortedIn-quiet, any-view, named-view, keyFor-not}
+
+-- a lock of the party names only its channels, of the board and at least one, and has an id of its own; no other lock has
+unfoldable pub lockFits : Party → List Channel → Lock → Bool
+lockFits p cs l = named (holds p) (l .map) cs && (ltb (l .map) (2 ^ length cs) && not (eqb (l .map) 0))
+
+unfoldable pub ownLock : Party → List Channel → Lock → Bool
+ownLock p cs l = if eqb (l .key) (p .key) then p .mine (l .id) && lockFits p cs l else not (p .mine (l .id))
+
+-- what settling needs and keeps
+pub record Loop (p : Party) (s : State) : Type 0 where
+  pub real : T (not (eqb (p .key) 0))
+  pub present : T (any (holds p) (s .channels))
+  pub fit : T (all (fitting p) (s .channels))
+  pub locksOK : T (all (ownLock p (s .channels)) (s .locks))
+  pub low : T (all (lower p) (s .waiting))
+  pub few : length (s .channels) + length (s .waiting) < 65535
+
+-- locks over a map that names no channel of the party: not the party's
+module _ (p : Party) (m : ℕ) (cs : List Channel) (off : T (named (λ c. not (holds p c)) m cs)) where
+  met-foreign : (l : Lock) → T (ownLock p cs l) → T (meets (length cs) m (l .map)) → T (not (eqb (l .key) (p .key)))
+  unfolding ownLock lockFits
+  met-foreign l o t = go (eqb (l .key) (p .key)) o
+    where
+      go : (b : Bool) → T (if b then p .mine (l .id) && lockFits p cs l else not (p .mine (l .id))) → T (not b)
+      go false u = tt
+      go true u =
+          rw (apart-meets (holds p) m (l .map) cs off
+          (and-left (named (holds p) (l .map) cs) (ltb (l .map) (2 ^ length cs) && not (eqb (l .map) 0)) (and-right (p .mine (l .id)) (lockFits p cs l) u)))
+          at t
+
+  pub foreign-id : (l : Lock) → T (ownLock p cs l) → T (not (eqb (l .key) (p .key))) → T (not (p .mine (l .id)))
+  unfolding ownLock
+  foreign-id l o t = rw (test-false (eqb (l .key) (p .key)) t) at o
+
+  stolen-quiet : (ls : List Lock) → T (all (ownLock p cs) ls)
+      → ownReplies p (map (ended CHANNELSTOLEN) (keep (λ l. meets (length cs) m (l .map)) ls)) ≡ []
+  unfolding all keep ownReplies ended
+  stolen-quiet [] t = refl
+  stolen-quiet (l ∷ ls) t =
+      let o = and-left (ownLock p cs l) (all (ownLock p cs) ls) t in
+      let ih = stolen-quiet ls (and-right (ownLock p cs l) (all (ownLock p cs) ls) t) in
+      by-test (meets (length cs) m (l .map))
+      (λ u. rw (test-true (meets (length cs) m (l .map)) u, test-false (p .mine (l .id)) (foreign-id l o (met-foreign l o u))) ih)
+      (λ u. rw (test-false (meets (length cs) m (l .map)) u) ih)
+
+  stolen-locks : (ls : List Lock) → T (all (ownLock p cs) ls)
+      → ownLocks p (keep (λ l. not (meets (length cs) m (l .map))) ls) ≡ ownLocks p ls
+  unfolding all keep ownLocks
+  stolen-locks [] t = refl
+  stolen-locks (l ∷ ls) t =
+      let o = and-left (ownLock p cs l) (all (ownLock p cs) ls) t in
+      let ih = stolen-locks ls (and-right (ownLock p cs l) (all (ownLock p cs) ls) t) in
+      by-test (meets (length cs) m (l .map))
+      (λ u. rw (test-true (meets (length cs) m (l .map)) u, test-false (eqb (l .key) (p .key)) (met-foreign l o u)) ih)
+      (λ u. rw (test-false (meets (length cs) m (l .map)) u)
+      (if-cong (eqb (l .key) (p .key)) (ap (λ ks. l ∷ ks) ih) ih))
+    where
+      if-cong : (b : Bool) {w x y z : List Lock} → w ≡ y → x ≡ z → (if b then w else x) ≡ (if b then y else z)
+      if-cong true e h = e
+      if-cong false e h = h
+
+abbrev FoundCalm : Party → List Channel → Found → Type 0
+FoundCalm p cs nobody = Unit {0}
+FoundCalm p cs (somebody r m) = T (named (λ c. not (holds p c)) m cs) × T (lower p r)
+
+-- what a walk from the locks ls does
+record WalkCalm (p : Party) (cs : List Channel) (n : ℕ) (ls : List Lock) (w : Walk) : Type 0 where
+  found : FoundCalm p cs (w .found)
+  quiet : ownReplies p (w .replies) ≡ []
+  locks : ownLocks p (w .locks) ≡ ownLocks p ls
+  locksOK : T (all (ownLock p cs) (w .locks))
+  low : T (all (lower p) (w .waiting))
+  fewer : length (w .waiting) ≤ n
+
+lower-prec : (p : Party) (r : Request) → T (lower p r) → r .prec ≤ p .floor
+unfolding lower
+lower-prec p r t = leb→le (r .prec) (p .floor) (and-left (leb (r .prec) (p .floor)) (not (eqb (r .key) (p .key))) (and-left (leb (r .prec) (p .floor) && not (eqb (r .key) (p .key))) (not (p .mine (r .id))) t))
+
+lower-key : (p : Party) (r : Request) → T (lower p r) → T (not (eqb (r .key) (p .key)))
+unfolding lower
+lower-key p r t = and-right (leb (r .prec) (p .floor)) (not (eqb (r .key) (p .key))) (and-left (leb (r .prec) (p .floor) && not (eqb (r .key) (p .key))) (not (p .mine (r .id))) t)
+
+pub lower-id : (p : Party) (r : Request) → T (lower p r) → T (not (p .mine (r .id)))
+unfolding lower
+lower-id p r t = and-right (leb (r .prec) (p .floor) && not (eqb (r .key) (p .key))) (not (p .mine (r .id))) t
+
+replied-quiet : (p : Party) (e m k : ℕ) (r : Request) (rs : List Reply) → T (lower p r) → ownReplies p rs ≡ [] → ownReplies p (replied e m k r ∷ rs) ≡ []
+unfolding ownReplies keep replied
+replied-quiet p e m k r rs t h = rw (test-false (p .mine (r .id)) (lower-id p r t)) h
+
+module _ (p : Party) (cs : List Channel) (real : T (not (eqb (p .key) 0))) (fit : T (all (fitting p) cs)) where
+  stays : (n : ℕ) (r : Request) (ls : List Lock) (w : Walk) → T (lower p r) → WalkCalm p cs n ls w → WalkCalm p cs (suc n) ls (staying r w)
+  unfolding staying all
+  stays n r ls w t c =
+      record {
+        found = c .found;
+        quiet = c .quiet;
+        locks = c .locks;
+        locksOK = c .locksOK;
+        low = and-both (lower p r) (all (lower p) (w .waiting)) t (c .low);
+        fewer = omega (arith, c .fewer);
+      }
+
+  onLook-calm : (n : ℕ) (l : Look) (r : Request) (rs : List Request) (ls : List Lock) (rest : List Lock → Walk)
+      → Spares (p .floor) cs l → T (lower p r) → T (all (lower p) rs) → length rs ≤ n → T (all (ownLock p cs) ls)
+      → ((k : List Lock) → T (all (ownLock p cs) k) → WalkCalm p cs n k (rest k))
+      → WalkCalm p cs (suc n) ls (onLook (length cs) l r rs ls rest)
+  unfolding onLook saying
+  onLook-calm n fails r rs ls rest sp t a le lo ih =
+      let c = ih ls lo in
+      if-elim (WalkCalm p cs (suc n) ls) (r .impatient)
+      (λ _. says c)
+      (λ _. stays n r ls (rest ls) t c)
+    where
+      says : WalkCalm p cs n ls (rest ls) → WalkCalm p cs (suc n) ls (saying (replied ALLOCFAILED 0 (r .key) r ∷ []) (rest ls))
+      says c =
+          record {
+            found = c .found;
+            quiet = replied-quiet p ALLOCFAILED 0 (r .key) r (rest ls .replies) t (c .quiet);
+            locks = c .locks;
+            locksOK = c .locksOK;
+            low = c .low;
+            fewer = omega (arith, c .fewer);
+          }
+  onLook-calm n (held m) r rs ls rest sp t a le lo ih =
+      let off = spared p m cs real sp fit in
+      let k = keep (λ l. not (meets (length cs) m (l .map))) ls in
+      let c = stays n r k (rest k) t (ih k (all-keep (ownLock p cs) (λ l. not (meets (length cs) m (l .map))) ls lo)) in
+      record {
+        found = c .found;
+        quiet = own-append p (map (ended CHANNELSTOLEN) (keep (λ l. meets (length cs) m (l .map)) ls)) (staying r (rest k) .replies) (stolen-quiet p m cs off ls lo) (c .quiet);
+        locks = c .locks ∙ stolen-locks p m cs off ls lo;
+        locksOK = c .locksOK;
+        low = c .low;
+        fewer = c .fewer;
+      }
+  onLook-calm n (grants m) r rs ls rest sp t a le lo ih =
+      record {
+        found = (spared p m cs real sp fit, t);
+        quiet = unfold ownReplies keep in refl;
+        locks = refl;
+        locksOK = lo;
+        low = a;
+        fewer = omega arith;
+      }
+
+  walk-calm : (rs : List Request) → T (all (lower p) rs) → (ls : List Lock) → T (all (ownLock p cs) ls) → WalkCalm p cs (length rs) ls (walk cs rs ls)
+  unfolding walk all
+  walk-calm [] a ls lo =
+      record { found = tt; quiet = unfold ownReplies keep in refl; locks = refl; locksOK = lo; low = tt; fewer = omega arith }
+  walk-calm (r ∷ rs) a ls lo =
+      let t = and-left (lower p r) (all (lower p) rs) a in
+      let b = and-right (lower p r) (all (lower p) rs) a in
+      onLook-calm (length rs) (look (r .prec) (r .combos) cs) r rs ls (walk cs rs)
+      (look-spares (p .floor) (r .prec) (r .combos) cs (lower-prec p r t)) t b (omega arith) lo (walk-calm rs b)
+
+pub project-path : (p : Party) (s t : State) → map (mask p) (s .channels) ≡ map (mask p) (t .channels) → ownLocks p (s .locks) ≡ ownLocks p (t .locks)
+    → project p s ≡ project p t
+unfolding project
+project-path p s t e h = rw (e, h)
+
+pub same-length : (p : Party) (cs ds : List Channel) → map (mask p) ds ≡ map (mask p) cs → length ds ≡ length cs
+same-length p cs ds e = sym (length-map ds (mask p)) ∙ ap length e ∙ length-map cs (mask p)
+
+lockFits-view : (p : Party) (cs ds : List Channel) → T (not (eqb (p .key) 0)) → map (mask p) ds ≡ map (mask p) cs → (l : Lock) → lockFits p cs l ≡ lockFits p ds l
+unfolding lockFits
+lockFits-view p cs ds k e l = rw (same-length p cs ds e, same) refl
+  where
+    same : named (holds p) (l .map) cs ≡ named (holds p) (l .map) ds
+    same = sym (named-view p (l .map) cs k) ∙ ap (named (holds p) (l .map)) (sym e) ∙ named-view p (l .map) ds k
+
+pub ownLock-view : (p : Party) (cs ds : List Channel) → T (not (eqb (p .key) 0)) → map (mask p) ds ≡ map (mask p) cs → (ls : List Lock)
+    → T (all (ownLock p cs) ls) → T (all (ownLock p ds) ls)
+unfolding all ownLock
+ownLock-view p cs ds k e [] t = tt
+ownLock-view p cs ds k e (l ∷ ls) t =
+    and-both (ownLock p ds l) (all (ownLock p ds) ls)
+    (subst (λ (b : Bool). T (if eqb (l .key) (p .key) then p .mine (l .id) && b else not (p .mine (l .id)))) (lockFits-view p cs ds k e l)
+    (and-left (ownLock p cs l) (all (ownLock p cs) ls) t))
+    (ownLock-view p cs ds k e ls (and-right (ownLock p cs l) (all (ownLock p cs) ls) t))
+
+pub any-same : (p : Party) (cs ds : List Channel) → T (not (eqb (p .key) 0)) → map (mask p) ds ≡ map (mask p) cs → any (holds p) cs ≡ any (holds p) ds
+any-same p cs ds k e = sym (any-view p cs k) ∙ ap (any (holds p)) (sym e) ∙ any-view p ds k
+
+pub record SettleCalm (p : Party) (s : State) (t : Settled) : Type 0 where
+  pub quiet : ownReplies p (t .replies) ≡ []
+  pub still : project p (t .state) ≡ project p s
+  pub loop : Loop p (t .state)
+
+-- a grant to another key
+module _ (p : Party) (s : State) (m k prec : ℕ) (lp : Loop p s) (off : T (named (λ c. not (holds p c)) m (s .channels))) (other : T (not (eqb k (p .key)))) where
+  pub newKeyNot : T (not (eqb (keyFor k s) (p .key)))
+  newKeyNot = keyFor-not p s k (lp .few) (lp .present) other
+
+  grant-view : map (mask p) (change (taken (keyFor k s) prec) m (s .channels)) ≡ map (mask p) (s .channels)
+  unfolding taken
+  grant-view = change-view p (taken (keyFor k s) prec) (λ c _. newKeyNot) m (s .channels) off
+
+  pub grant-loop : Loop p (granted m k prec s)
+  unfolding granted taken fitting all
+  grant-loop =
+      record {
+        real = lp .real;
+        present = rw (any-same p (s .channels) (change (taken (keyFor k s) prec) m (s .channels)) (lp .real) grant-view) at (lp .present);
+        fit = change-fit p (taken (keyFor k s) prec) (λ c _. newKeyNot) (λ c _ _. rw (test-false (eqb (keyFor k s) (p .key)) newKeyNot) tt) m (s .channels) off (lp .fit);
+        locksOK = ownLock-view p (s .channels) (change (taken (keyFor k s) prec) m (s .channels)) (lp .real) grant-view (s .locks) (lp .locksOK);
+        low = lp .low;
+        few = rw (length-change (taken (keyFor k s) prec) m (s .channels)) (lp .few);
+      }
+
+  pub grant-still : project p (granted m k prec s) ≡ project p s
+  unfolding granted
+  grant-still = project-path p (granted m k prec s) s grant-view refl
+
+walked-loop : (p : Party) (s : State) (w : Walk) → Loop p s → WalkCalm p (s .channels) (length (s .waiting)) (s .locks) w → Loop p (walked w s)
+unfolding walked
+walked-loop p s w lp c =
+    record { real = lp .real; present = lp .present; fit = lp .fit; locksOK = c .locksOK; low = c .low; few = omega (arith, c .fewer, lp .few) }
+
+walked-still : (p : Party) (s : State) (w : Walk) → WalkCalm p (s .channels) (length (s .waiting)) (s .locks) w → project p (walked w s) ≡ project p s
+unfolding walked
+walked-still p s w c = project-path p (walked w s) s refl (c .locks)
+
+goOn-calm : (p : Party) (f : Found) (w : Walk) (s : State) (again : State → Settled) → Loop p s → FoundCalm p (s .channels) f
+    → WalkCalm p (s .channels) (length (s .waiting)) (s .locks) w
+    → ((u : State) → Loop p u → SettleCalm p u (again u)) → SettleCalm p s (goOn f w s again)
+unfolding goOn walked
+goOn-calm p nobody w s again lp fc c ih = record { quiet = c .quiet; still = walked-still p s w c; loop = walked-loop p s w lp c }
+goOn-calm p (somebody r m) w s again lp fc c ih =
+    let lp′ = walked-loop p s w lp c in
+    let g = granted m (r .key) (r .prec) (walked w s) in
+    let i = ih g (grant-loop p (walked w s) m (r .key) (r .prec) lp′ (fc .0) (lower-key p r (fc .1))) in
+    record {
+      quiet =
+          own-append p (w .replies ++ abortedIn m (s .channels)) (replied 0 m (keyFor (r .key) (walked w s)) r ∷ again g .replies)
+          (own-append p (w .replies) (abortedIn m (s .channels)) (c .quiet) (abortedIn-quiet p m (s .channels) (fc .0) (lp .fit)))
+          (replied-quiet p 0 m (keyFor (r .key) (walked w s)) r (again g .replies) (fc .1) (i .quiet));
+      still = i .still ∙ (grant-still p (walked w s) m (r .key) (r .prec) lp′ (fc .0) (lower-key p r (fc .1))) ∙ walked-still p s w c;
+      loop = i .loop;
+    }
+
+rounds-calm : (p : Party) (n : ℕ) (s : State) → Loop p s → SettleCalm p s (rounds n s)
+unfolding rounds
+rounds-calm p zero s lp = record { quiet = unfold ownReplies keep in refl; still = refl; loop = lp }
+rounds-calm p (suc n) s lp =
+    let w = walk (s .channels) (s .waiting) (s .locks) in
+    let c = walk-calm p (s .channels) (lp .real) (lp .fit) (s .waiting) (lp .low) (s .locks) (lp .locksOK) in
+    goOn-calm p (w .found) w s (rounds n) lp (c .found) c (rounds-calm p n)
+
+pub settle-calm : (p : Party) (s : State) → Loop p s → SettleCalm p s (settle s)
+unfolding settle
+settle-calm p s lp = rounds-calm p (suc (length (s .waiting))) s lp
