@@ -1,36 +1,12 @@
 /* Writes a hard random log to standard output: generate SEED LINES [STYLE].
    It plays its own log on an arbiter, so that it knows live keys, idle ids and waiting
    requests. Same arguments, same bytes, on every machine. */
+#include "chance.h"
 #include "log.h"
 
 #include <stdio.h>
 #include <stdlib.h>
 #include <string.h>
-
-/* ---- Chance ---- */
-
-static uint64_t chance_state;
-
-/* splitmix64. Draws stand in statements of their own, since C leaves the order of
-   evaluation within an expression open. */
-static uint64_t draw(void)
-{
-    uint64_t z = chance_state += UINT64_C(0x9E3779B97F4A7C15);
-
-    z = (z ^ (z >> 30)) * UINT64_C(0xBF58476D1CE4E5B9);
-    z = (z ^ (z >> 27)) * UINT64_C(0x94D049BB133111EB);
-    return z ^ (z >> 31);
-}
-
-static unsigned below(unsigned limit)
-{
-    return (unsigned)(((draw() >> 32) * limit) >> 32);
-}
-
-static int percent(unsigned odds)
-{
-    return below(100) < odds;
-}
 
 /* ---- Styles ---- */
 
@@ -77,7 +53,7 @@ static const struct Style styles[STYLES] = {
     {"lists",       {14,8, 3, 2, 1, 1, 6, 0, 0, 1, 1, 1,12, 6, 8,46, 0}, 40,12, 60,  1, 40},
     {"bytes",       {1, 1, 1, 1, 1, 1, 1, 1, 1, 1, 1, 1, 1, 1, 1, 1, 1}, 50,30, 20,  5, 50},
     {"opens",       {8,10, 4, 4, 2, 2, 8, 1, 1, 2, 2, 2, 8, 8, 6,20, 1}, 40, 3, 10,  1, 40},
-    {"keys",        {20,18,4, 2, 1, 1, 4, 1, 1, 1, 1, 1, 8, 6, 4,30, 1}, 20, 2, 10,  1, 40}
+    {"keys",        {9, 6, 2, 2, 1, 1, 4, 1, 1, 1, 1, 1, 4, 6, 4,40, 1}, 20, 2, 10,  1, 40}
 };
 
 /* ---- The device as it stands ---- */
@@ -130,7 +106,7 @@ static unsigned pick_playing(void)
 
 /* ---- The parts of a frame ---- */
 
-#define NEAR_THE_END 60u        /* keys from here to the last one */
+#define NEAR_THE_END 30u        /* the keys about the round, on either side */
 
 /* One of the next keys to be issued, so that the count has to pass over it. Near the end
    it is one of those about the round. */
@@ -320,7 +296,7 @@ static void make_frame(struct Frame *f, enum Kind kind, const struct Style *s)
     case ALLOCATE:
         if (percent(50))
             f->key = 0;
-        else if (percent(s == &styles[KEYS] ? 60 : 10))
+        else if (percent(s >= &styles[OPENS] ? 80 : 10))
             f->key = (uint16_t)next_key();
         pick_list(f, s);
         break;
@@ -379,11 +355,11 @@ static enum Kind pick_kind(unsigned style)
 /* The long styles count up with one cheap call a line; 1 if this line is such a one. */
 static int climb(struct Frame *f, unsigned style)
 {
-    int far = style == OPENS ? state.open_count < MOST_OPENS
-            : style == KEYS ? state.last_key >= 200 && state.last_key < LAST_OF_KEYS - NEAR_THE_END
-            : 0;
+    int near = state.last_key < NEAR_THE_END
+            || state.last_key > LAST_OF_KEYS - NEAR_THE_END;
 
-    if (!far || !percent(99))
+    if (style < OPENS || (style == OPENS && state.open_count == MOST_OPENS)
+        || !percent(near ? 30 : 99))
         return 0;
     memset(f, 0, sizeof *f);
     f->operation = CALL_OPEN;
@@ -538,7 +514,7 @@ int main(int count, char **argument)
             fprintf(stderr, "  style %2u: %s\n", i, styles[i].name);
         return 2;
     }
-    chance_state = strtoull(argument[1], NULL, 10);
+    chance_seed(strtoull(argument[1], NULL, 10));
     lines = strtoul(argument[2], NULL, 10);
     if (count == 4)
         chosen = (unsigned)strtoul(argument[3], NULL, 10);
