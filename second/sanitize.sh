@@ -7,7 +7,8 @@ export LC_ALL
 : "${CC:=gcc}" "${SEEDS:=10}"
 work=$(mktemp -d) || exit 1
 trap 'rm -rf "$work"' EXIT
-checks="-std=c99 -Wall -Wextra -pedantic -O1 -g -fsanitize=address,undefined -fno-sanitize-recover=all"
+checks="-std=c99 -Wall -Wextra -pedantic -O1 -g"
+checks="$checks -fsanitize=address,undefined -fno-sanitize-recover=all"
 parts="arbiter.c log.c chance.c"
 $CC $checks -o "$work/arbiter2" arbiter2.c $parts &&
     $CC $checks -o "$work/generate" generate.c $parts &&
