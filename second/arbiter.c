@@ -1,0 +1,679 @@
+/* The audio.device arbiter, written from document 01 and the autodoc.
+   Ids and arrays throughout: no linked lists, no recursion, no allocation. */
+#include "arbiter.h"
+
+#include <string.h>
+
+/* ---- Arrays of ids ---- */
+
+/* An id is in one place only, so a list of 64 always has room for an idle one. */
+static void insert_id(struct Ids *list, unsigned at, uint8_t id)
+{
+    memmove(&list->id[at + 1], &list->id[at], (size_t)list->count - at);
+    list->id[at] = id;
+    list->count++;
+}
+
+static uint8_t remove_id(struct Ids *list, unsigned at)
+{
+    uint8_t id = list->id[at];
+
+    list->count--;
+    memmove(&list->id[at], &list->id[at + 1], (size_t)list->count - at);
+    list->id[list->count] = 0;
+    return id;
+}
+
+/* The id's place in the list, or the count if it is not there. */
+static unsigned find_id(const struct Ids *list, uint8_t id)
+{
+    unsigned at = 0;
+
+    while (at < list->count && list->id[at] != id)
+        at++;
+    return at;
+}
+
+/* ---- Maps ---- */
+
+static int names(unsigned map, unsigned channel)
+{
+    return (map >> channel & 1u) != 0;
+}
+
+static int beyond_board(unsigned map)
+{
+    return map > ALL_CHANNELS;
+}
+
+static unsigned lowest_channel(unsigned map)
+{
+    unsigned c = 0;
+
+    while (!names(map, c))
+        c++;
+    return c;
+}
+
+/* The channels of the map that have this key. "Key 0 matches nothing." */
+static unsigned matching(const struct Arbiter *a, unsigned map, uint16_t key)
+{
+    unsigned own = 0;
+
+    for (unsigned c = 0; c < CHANNELS; c++)
+        if (names(map, c) && key != 0 && a->channel[c].key == key)
+            own |= 1u << c;
+    return own;
+}
+
+/* ---- Replies ---- */
+
+/* A call replies each id at most once, so 64 records are enough. */
+static void add_reply(struct Replies *r, uint8_t id, uint8_t command,
+                      int error, unsigned map, uint16_t key)
+{
+    struct Reply *record = &r->record[r->count++];
+
+    record->id = id;
+    record->command = command;
+    record->error = (int8_t)error;
+    record->map = (uint8_t)map;
+    record->key = key;
+}
+
+/* An outstanding request, already out of its list, is replied and becomes idle. */
+static void end_request(struct Arbiter *a, uint8_t id, int error, unsigned map,
+                        struct Replies *r)
+{
+    struct Request *q = &a->request[id];
+
+    add_reply(r, id, q->command, error, map, q->key);
+    memset(q, 0, sizeof *q);
+}
+
+/* ---- Channels ---- */
+
+/* "FLUSH aborts all its writes." */
+static void flush(struct Arbiter *a, unsigned c, struct Replies *r)
+{
+    while (a->channel[c].writes.count > 0)
+        end_request(a, remove_id(&a->channel[c].writes, 0), IOERR_ABORTED, 0, r);
+}
+
+/* "RESET flushes and un-stops." It does not unlock. */
+static void reset(struct Arbiter *a, unsigned c, struct Replies *r)
+{
+    flush(a, c, r);
+    a->channel[c].stopped = 0;
+}
+
+/* "FREE resets it, unlocks it, makes it free and clears its bit in every lock; a lock
+   with no bit left is replied 0 with map 0." All writes come before all locks. */
+static void free_channels(struct Arbiter *a, unsigned map, struct Replies *r)
+{
+    unsigned at = 0;
+
+    for (unsigned c = 0; c < CHANNELS; c++)
+        if (names(map, c)) {
+            reset(a, c, r);
+            memset(&a->channel[c], 0, sizeof a->channel[c]);
+        }
+    while (at < a->locks.count) {
+        struct Request *lock = &a->request[a->locks.id[at]];
+
+        lock->map = (uint8_t)(lock->map & ~map);
+        if (lock->map == 0)
+            end_request(a, remove_id(&a->locks, at), DONE, 0, r);
+        else
+            at++;
+    }
+}
+
+/* ---- Allocation ---- */
+
+/* "A key is in use if a channel or a waiting allocation has it." */
+static int key_in_use(const struct Arbiter *a, unsigned key)
+{
+    for (unsigned c = 0; c < CHANNELS; c++)
+        if (a->channel[c].key == key)
+            return 1;
+    for (unsigned at = 0; at < a->waiting.count; at++)
+        if (a->request[a->waiting.id[at]].key == key)
+            return 1;
+    return 0;
+}
+
+/* "Count up from the number after the last key issued, 65,535 being followed by 1, to
+   the first not in use." Four channels and 64 requests use at most 68 keys, so the
+   69th candidate is free at the latest. */
+uint16_t arbiter_new_key(const struct Arbiter *a)
+{
+    unsigned key = a->last_key;
+
+    do
+        key = key == LAST_OF_KEYS ? 1 : key + 1;
+    while (key_in_use(a, key));
+    return (uint16_t)key;
+}
+
+/* "Locks play no part in the choice. If the chosen combination names a locked channel,
+   the request is held." */
+static enum Look held_or_granted(const struct Arbiter *a, unsigned chosen)
+{
+    for (unsigned c = 0; c < CHANNELS; c++)
+        if (names(chosen, c) && a->channel[c].locked)
+            return LOOK_HELD;
+    return LOOK_GRANTED;
+}
+
+enum Look arbiter_look(const struct Arbiter *a, int precedence,
+                       const uint8_t *combination, unsigned length, uint8_t *chosen)
+{
+    const int nothing = -129, everything = 128;     /* beside every precedence */
+    int least = everything;
+
+    *chosen = 0;
+    if (length == 0)
+        return LOOK_GRANTED;                        /* "The empty list is granted map 0." */
+    for (unsigned i = 0; i < length; i++) {
+        int cost = nothing;                         /* so far it names only free channels */
+
+        for (unsigned c = 0; c < CHANNELS; c++)
+            if (names(combination[i], c) && a->channel[c].key != 0
+                && a->channel[c].precedence > cost)
+                cost = a->channel[c].precedence;
+        /* Eligible if "strictly below the request's"; "the earliest on a tie". The first
+           combination of free channels costs less than every steal and every
+           precedence, so it is eligible and wins wherever it stands. */
+        if (cost < precedence && cost < least) {
+            least = cost;
+            *chosen = combination[i];
+        }
+    }
+    return least == everything ? LOOK_FAILS : held_or_granted(a, *chosen);
+}
+
+/* "Granting resets each channel ..., then sets key and precedence." The new key is
+   found first: "in the state just before the grant, channels about to be stolen
+   included". */
+static uint16_t grant(struct Arbiter *a, uint16_t key, int precedence, unsigned map,
+                      struct Replies *r)
+{
+    if (key == 0) {
+        key = arbiter_new_key(a);
+        a->last_key = key;
+    }
+    for (unsigned c = 0; c < CHANNELS; c++)
+        if (names(map, c)) {
+            reset(a, c, r);
+            a->channel[c].key = key;
+            a->channel[c].precedence = (int8_t)precedence;
+        }
+    return key;
+}
+
+/* "Every outstanding lock over a channel of its chosen combination is replied -12,
+   oldest first, and ends; the channels stay locked." */
+static void steal_locks(struct Arbiter *a, unsigned chosen, struct Replies *r)
+{
+    unsigned at = 0;
+
+    while (at < a->locks.count) {
+        unsigned map = a->request[a->locks.id[at]].map;
+
+        if ((map & chosen) != 0)
+            end_request(a, remove_id(&a->locks, at), ADIOERR_CHANNELSTOLEN, map, r);
+        else
+            at++;
+    }
+}
+
+/* "Waiting requests stand by precedence, highest first, then by arrival." */
+static void wait_in_order(struct Arbiter *a, uint8_t id)
+{
+    unsigned at = 0;
+
+    while (at < a->waiting.count
+           && a->request[a->waiting.id[at]].precedence >= a->request[id].precedence)
+        at++;
+    insert_id(&a->waiting, at, id);
+}
+
+/* "Walk from the head. ... Granted: grant, reply, remove, and start again at the head.
+   A walk to the end without a grant finishes. The choice is made afresh at each look." */
+static void settle(struct Arbiter *a, struct Replies *r)
+{
+    unsigned at = 0;
+
+    while (at < a->waiting.count) {
+        uint8_t id = a->waiting.id[at];
+        struct Request *q = &a->request[id];
+        uint8_t chosen;
+
+        switch (arbiter_look(a, q->precedence, q->combination, q->length, &chosen)) {
+        case LOOK_FAILS:
+            if (q->nowait)
+                end_request(a, remove_id(&a->waiting, at), ADIOERR_ALLOCFAILED, 0, r);
+            else
+                at++;
+            break;
+        case LOOK_HELD:
+            steal_locks(a, chosen, r);
+            at++;
+            break;
+        case LOOK_GRANTED:
+            q->key = grant(a, q->key, q->precedence, chosen, r);
+            end_request(a, remove_id(&a->waiting, at), DONE, chosen, r);
+            at = 0;
+            break;
+        }
+    }
+}
+
+/* ---- Answers ---- */
+
+static struct Answer answer(int error, unsigned map, uint16_t key)
+{
+    struct Answer made = {0, 0, 0, 0, NO_ID};
+
+    made.error = (int8_t)error;
+    made.map = (uint8_t)map;
+    made.key = key;
+    return made;
+}
+
+/* "A refused call answers map 0 ... and the key it was given." It does not settle. */
+static struct Answer refuse(const struct Frame *f, int error)
+{
+    return answer(error, 0, f->key);
+}
+
+/* "A command finished at once is also replied if QUICK (flag 1) is clear." */
+static void own_reply(const struct Frame *f, struct Replies *r,
+                      int error, unsigned map, uint16_t key)
+{
+    if ((f->flags & IOF_QUICK) == 0)
+        add_reply(r, f->id, f->operation, error, map, key);
+}
+
+/* A command is finished: its own reply stands before settling's replies. */
+static struct Answer finish(struct Arbiter *a, const struct Frame *f, struct Replies *r,
+                            int error, unsigned map, uint16_t key)
+{
+    own_reply(f, r, error, map, key);
+    settle(a, r);
+    return answer(error, map, key);
+}
+
+/* "One that the walk of its own call ends is still answered as outstanding." */
+static struct Answer leave_outstanding(struct Arbiter *a, const struct Frame *f,
+                                       struct Replies *r)
+{
+    struct Answer made = answer(DONE, 0, f->key);
+
+    made.outstanding = 1;
+    settle(a, r);
+    return made;
+}
+
+/* The id's entry is idle, so all 0; the caller fills what the command uses. */
+static struct Request *begin_request(struct Arbiter *a, const struct Frame *f)
+{
+    struct Request *q = &a->request[f->id];
+
+    q->command = f->operation;
+    q->key = f->key;
+    return q;
+}
+
+/* ---- The commands ---- */
+
+static struct Answer allocate(struct Arbiter *a, const struct Frame *f, struct Replies *r)
+{
+    struct Request *q;
+    uint8_t chosen;
+    enum Look seen = arbiter_look(a, f->precedence, f->combination, f->length, &chosen);
+
+    if (seen == LOOK_GRANTED) {
+        uint16_t key = grant(a, f->key, f->precedence, chosen, r);
+
+        return finish(a, f, r, DONE, chosen, key);
+    }
+    if (seen == LOOK_FAILS && (f->flags & ADIOF_NOWAIT) != 0)
+        return finish(a, f, r, ADIOERR_ALLOCFAILED, 0, f->key);
+    /* "A held one waits even with NOWAIT; so does a failing one without it." */
+    q = begin_request(a, f);
+    q->nowait = (f->flags & ADIOF_NOWAIT) != 0;
+    q->precedence = f->precedence;
+    q->length = f->length;
+    memcpy(q->combination, f->combination, f->length);
+    wait_in_order(a, f->id);
+    return leave_outstanding(a, f, r);
+}
+
+/* "Any mismatch locks nothing, -10, map 0. Map 0 is done at once." */
+static struct Answer lock(struct Arbiter *a, const struct Frame *f, struct Replies *r)
+{
+    if (matching(a, f->map, f->key) != f->map)
+        return finish(a, f, r, ADIOERR_NOALLOCATION, 0, f->key);
+    if (f->map == 0)
+        return finish(a, f, r, DONE, 0, f->key);
+    for (unsigned c = 0; c < CHANNELS; c++)
+        if (names(f->map, c))
+            a->channel[c].locked = 1;
+    begin_request(a, f)->map = f->map;
+    insert_id(&a->locks, a->locks.count, f->id);
+    return leave_outstanding(a, f, r);
+}
+
+/* "WRITE and READ use the lowest set bit; map 0 gives -10." */
+static struct Answer write_or_read(struct Arbiter *a, const struct Frame *f,
+                                   struct Replies *r)
+{
+    struct Channel *channel;
+    struct Answer made;
+    unsigned c, id = NO_ID;
+
+    if (f->map == 0)
+        return finish(a, f, r, ADIOERR_NOALLOCATION, 0, f->key);
+    c = lowest_channel(f->map);
+    if (matching(a, 1u << c, f->key) == 0)
+        return finish(a, f, r, ADIOERR_NOALLOCATION, 0, f->key);
+    channel = &a->channel[c];
+    if (f->operation == CMD_WRITE) {
+        begin_request(a, f);
+        insert_id(&channel->writes, channel->writes.count, f->id);
+        return leave_outstanding(a, f, r);
+    }
+    /* "The id at the front, or 255 if the queue is empty or the channel stopped." It is
+       read before the walk, which may end that write. */
+    if (channel->writes.count > 0 && !channel->stopped)
+        id = channel->writes.id[0];
+    made = finish(a, f, r, DONE, 1u << c, f->key);
+    made.last = (uint8_t)id;
+    return made;
+}
+
+/* "Any mismatch gives -10, and the rest is still done." */
+static struct Answer for_each_channel(struct Arbiter *a, const struct Frame *f,
+                                      struct Replies *r)
+{
+    unsigned own = matching(a, f->map, f->key);
+
+    if (f->operation == ADCMD_FREE)
+        free_channels(a, own, r);
+    else
+        for (unsigned c = 0; c < CHANNELS; c++)
+            if (names(own, c))
+                switch (f->operation) {
+                case CMD_RESET: reset(a, c, r); break;
+                case CMD_FLUSH: flush(a, c, r); break;
+                case CMD_STOP: a->channel[c].stopped = 1; break;
+                case CMD_START: a->channel[c].stopped = 0; break;
+                case ADCMD_SETPREC: a->channel[c].precedence = f->precedence; break;
+                default: break;             /* "CLEAR and UPDATE do nothing." */
+                }
+    return finish(a, f, r, own == f->map ? DONE : ADIOERR_NOALLOCATION, own, f->key);
+}
+
+/* ---- Refusals of form ---- */
+
+static int known_command(unsigned command)
+{
+    return (command >= CMD_RESET && command <= ADCMD_SETPREC)
+        || command == ADCMD_LOCK || command == ADCMD_ALLOCATE;
+}
+
+/* Seventeen entries, one of them 10, are -4: the length is checked first (M11). */
+static int list_error(const struct Frame *f)
+{
+    if (f->length > COMBINATIONS)
+        return IOERR_BADLENGTH;
+    for (unsigned i = 0; i < f->length; i++)
+        if (beyond_board(f->combination[i]))
+            return IOERR_BADADDRESS;
+    return DONE;
+}
+
+static int command_error(const struct Frame *f)
+{
+    if (!known_command(f->operation))
+        return IOERR_NOCMD;
+    if (f->operation == ADCMD_ALLOCATE)
+        return list_error(f);
+    return beyond_board(f->map) ? IOERR_BADADDRESS : DONE;
+}
+
+/* ---- The calls ---- */
+
+/* "Order: 1, 5, 4, 3, 2, -3, -4, -5, ... then the key or allocation rule." */
+static struct Answer command(struct Arbiter *a, const struct Frame *f, struct Replies *r)
+{
+    int error;
+
+    if (f->id >= REQUESTS)
+        return refuse(f, REFUSED_ID);
+    if (a->request[f->id].command != 0)
+        return refuse(f, REFUSED_OUTSTANDING);
+    if (a->open_count == 0)
+        return refuse(f, REFUSED_CLOSED);
+    error = command_error(f);
+    if (error != DONE) {
+        own_reply(f, r, error, 0, f->key);
+        return refuse(f, error);
+    }
+    switch (f->operation) {
+    case ADCMD_ALLOCATE: return allocate(a, f, r);
+    case ADCMD_LOCK: return lock(a, f, r);
+    case CMD_WRITE: case CMD_READ: return write_or_read(a, f, r);
+    default: return for_each_channel(a, f, r);
+    }
+}
+
+/* "OPEN with combinations acts as ALLOCATE, but failing or held gives -11, replies no
+   lock and leaves the state unchanged. OPEN with none and key 0 gets a new key": that
+   is the grant of the empty list. */
+static struct Answer open_device(struct Arbiter *a, const struct Frame *f,
+                                 struct Replies *r)
+{
+    uint16_t key;
+    uint8_t chosen;
+    int error = list_error(f);
+
+    if (error != DONE)
+        return refuse(f, error);
+    if (a->open_count == MOST_OPENS)
+        return refuse(f, IOERR_OPENFAIL);
+    if (arbiter_look(a, f->precedence, f->combination, f->length, &chosen) != LOOK_GRANTED)
+        return refuse(f, ADIOERR_ALLOCFAILED);
+    key = grant(a, f->key, f->precedence, chosen, r);
+    a->open_count++;
+    settle(a, r);
+    return answer(DONE, chosen, key);
+}
+
+/* "CLOSE takes 1 from the count and frees every channel with its key." */
+static struct Answer close_device(struct Arbiter *a, const struct Frame *f,
+                                  struct Replies *r)
+{
+    if (a->open_count == 0)
+        return refuse(f, REFUSED_CLOSED);
+    a->open_count--;
+    free_channels(a, matching(a, ALL_CHANNELS, f->key), r);
+    settle(a, r);
+    return answer(DONE, 0, f->key);
+}
+
+/* "ABORT removes a waiting allocation or a write, replied -2; a lock or an idle id
+   answers 'not aborted'." */
+static struct Answer abort_request(struct Arbiter *a, const struct Frame *f,
+                                   struct Replies *r)
+{
+    struct Ids *place = NULL;
+    struct Answer made = answer(DONE, 0, f->key);
+
+    if (f->id >= REQUESTS)
+        return refuse(f, REFUSED_ID);
+    if (a->request[f->id].command == ADCMD_ALLOCATE)
+        place = &a->waiting;
+    if (a->request[f->id].command == CMD_WRITE)
+        for (unsigned c = 0; c < CHANNELS; c++)
+            if (find_id(&a->channel[c].writes, f->id) < a->channel[c].writes.count)
+                place = &a->channel[c].writes;
+    made.last = place != NULL;
+    if (place != NULL)
+        end_request(a, remove_id(place, find_id(place, f->id)), IOERR_ABORTED, 0, r);
+    settle(a, r);
+    return made;
+}
+
+/* "If that channel isn't stopped and has a write, the front write is replied 0 with that
+   channel's bit and removed, and the event answers that bit; else map 0." */
+static struct Answer write_end(struct Arbiter *a, const struct Frame *f, struct Replies *r)
+{
+    unsigned ended = 0;
+
+    if (beyond_board(f->map))
+        return refuse(f, IOERR_BADADDRESS);
+    if (f->map != 0) {
+        unsigned c = lowest_channel(f->map);
+        struct Channel *channel = &a->channel[c];
+
+        if (!channel->stopped && channel->writes.count > 0) {
+            ended = 1u << c;
+            end_request(a, remove_id(&channel->writes, 0), DONE, ended, r);
+        }
+    }
+    settle(a, r);
+    return answer(DONE, ended, f->key);
+}
+
+struct Answer arbiter_call(struct Arbiter *a, const struct Frame *f, struct Replies *r)
+{
+    r->count = 0;
+    if (!arbiter_sound(a))
+        return refuse(f, REFUSED_UNSOUND);
+    if (r->capacity < REQUESTS)
+        return refuse(f, REFUSED_REPLIES);
+    switch (f->operation) {
+    case CALL_OPEN: return open_device(a, f, r);
+    case CALL_CLOSE: return close_device(a, f, r);
+    case CALL_ABORT: return abort_request(a, f, r);
+    case CALL_EVENT: return write_end(a, f, r);
+    default: return command(a, f, r);
+    }
+}
+
+/* "A fresh device has four free channels, nothing outstanding, open count 0, last
+   key 0." */
+void arbiter_fresh(struct Arbiter *a)
+{
+    memset(a, 0, sizeof *a);
+}
+
+/* ---- Sound ---- */
+
+static int all_zero(const uint8_t *bytes, size_t count)
+{
+    for (size_t i = 0; i < count; i++)
+        if (bytes[i] != 0)
+            return 0;
+    return 1;
+}
+
+/* Ids on the table with this command, none of them met before, and 0 behind them.
+   "Each outstanding id in exactly one place." */
+static int sound_place(const struct Arbiter *a, const struct Ids *list, unsigned command,
+                       uint8_t met[REQUESTS])
+{
+    if (list->count > REQUESTS)
+        return 0;
+    for (unsigned at = 0; at < list->count; at++) {
+        unsigned id = list->id[at];
+
+        if (id >= REQUESTS || met[id] || a->request[id].command != command)
+            return 0;
+        met[id] = 1;
+    }
+    return all_zero(&list->id[list->count], REQUESTS - list->count);
+}
+
+/* What only a waiting allocation uses. */
+static int no_allocation_fields(const struct Request *q)
+{
+    return q->nowait == 0 && q->precedence == 0 && q->length == 0
+        && all_zero(q->combination, COMBINATIONS);
+}
+
+static int sound_channel(const struct Arbiter *a, const struct Channel *channel)
+{
+    if (channel->locked > 1 || channel->stopped > 1)
+        return 0;
+    if (channel->key == 0)
+        return channel->precedence == 0 && !channel->locked && !channel->stopped
+            && channel->writes.count == 0;
+    for (unsigned at = 0; at < channel->writes.count; at++) {
+        const struct Request *q = &a->request[channel->writes.id[at]];
+
+        if (q->key != channel->key || q->map != 0 || !no_allocation_fields(q))
+            return 0;
+    }
+    return 1;
+}
+
+/* "Each lock's map nonempty and naming only locked channels; each write and lock with
+   the key of its channels." */
+static int sound_lock(const struct Arbiter *a, const struct Request *q)
+{
+    if (q->map == 0 || beyond_board(q->map) || !no_allocation_fields(q))
+        return 0;
+    for (unsigned c = 0; c < CHANNELS; c++)
+        if (names(q->map, c) && (!a->channel[c].locked || a->channel[c].key != q->key))
+            return 0;
+    return 1;
+}
+
+/* "Waiting requests with 1 to 16 combinations, each at most 15." */
+static int sound_waiting(const struct Request *q)
+{
+    if (q->length < 1 || q->length > COMBINATIONS || q->nowait > 1 || q->map != 0)
+        return 0;
+    for (unsigned i = 0; i < q->length; i++)
+        if (beyond_board(q->combination[i]))
+            return 0;
+    return all_zero(&q->combination[q->length], COMBINATIONS - q->length);
+}
+
+/* "An idle id's entry with all its stored numbers 0." */
+static int sound_idle(const struct Request *q)
+{
+    return q->command == 0 && q->key == 0 && q->map == 0 && no_allocation_fields(q);
+}
+
+int arbiter_sound(const struct Arbiter *a)
+{
+    uint8_t met[REQUESTS] = {0};
+
+    for (unsigned c = 0; c < CHANNELS; c++)
+        if (!sound_place(a, &a->channel[c].writes, CMD_WRITE, met)
+            || !sound_channel(a, &a->channel[c]))
+            return 0;
+    if (!sound_place(a, &a->locks, ADCMD_LOCK, met)
+        || !sound_place(a, &a->waiting, ADCMD_ALLOCATE, met))
+        return 0;
+    for (unsigned at = 0; at < a->locks.count; at++)
+        if (!sound_lock(a, &a->request[a->locks.id[at]]))
+            return 0;
+    for (unsigned at = 0; at < a->waiting.count; at++) {
+        const struct Request *q = &a->request[a->waiting.id[at]];
+
+        if (!sound_waiting(q))
+            return 0;
+        if (at > 0 && a->request[a->waiting.id[at - 1]].precedence < q->precedence)
+            return 0;
+    }
+    for (unsigned id = 0; id < REQUESTS; id++)
+        if (!met[id] && !sound_idle(&a->request[id]))
+            return 0;
+    return 1;
+}

@@ -1,0 +1,119 @@
+/* The audio.device arbiter of document 01, as functions over one struct.
+   Plain C99. Every request is named by its id; every order is an array of ids. */
+#ifndef ARBITER_H
+#define ARBITER_H
+
+#include <stddef.h>
+#include <stdint.h>
+
+#ifndef CHANNELS
+#define CHANNELS 4                          /* at most 8: a map is one byte */
+#endif
+#define ALL_CHANNELS ((1u << CHANNELS) - 1u)
+#define REQUESTS 64u
+#define COMBINATIONS 16u
+#define LAST_OF_KEYS 65535u
+#define MOST_OPENS 65535u
+#define NO_ID 255u                          /* the last byte when it says nothing */
+
+/* exec/io.h and devices/audio.h */
+enum {
+    CMD_RESET = 1, CMD_READ = 2, CMD_WRITE = 3, CMD_UPDATE = 4, CMD_CLEAR = 5,
+    CMD_STOP = 6, CMD_START = 7, CMD_FLUSH = 8,
+    ADCMD_FREE = 9, ADCMD_SETPREC = 10, ADCMD_LOCK = 13, ADCMD_ALLOCATE = 32
+};
+enum { IOF_QUICK = 1, ADIOF_NOWAIT = 64 };
+
+/* Document 01, "Numbers a caller can get back" */
+enum {
+    DONE = 0,
+    IOERR_OPENFAIL = -1, IOERR_ABORTED = -2, IOERR_NOCMD = -3,
+    IOERR_BADLENGTH = -4, IOERR_BADADDRESS = -5,
+    ADIOERR_NOALLOCATION = -10, ADIOERR_ALLOCFAILED = -11, ADIOERR_CHANNELSTOLEN = -12,
+    REFUSED_UNSOUND = 1, REFUSED_CLOSED = 2, REFUSED_OUTSTANDING = 3,
+    REFUSED_ID = 4, REFUSED_REPLIES = 5, REFUSED_LINE = 7
+};
+
+/* "Operations F0 to F3 are OPEN, CLOSE, ABORT, event; others are the command number." */
+enum { CALL_OPEN = 0xF0, CALL_CLOSE = 0xF1, CALL_ABORT = 0xF2, CALL_EVENT = 0xF3 };
+
+/* Ids in order; the places from count on are 0. */
+struct Ids {
+    uint8_t count;
+    uint8_t id[REQUESTS];
+};
+
+struct Channel {
+    uint16_t key;                           /* 0: the channel is free */
+    int8_t precedence;
+    uint8_t locked, stopped;                /* 0 or 1 */
+    struct Ids writes;                      /* oldest first */
+};
+
+/* One outstanding request. What its command does not use is 0; an idle entry is all 0. */
+struct Request {
+    uint8_t command;                        /* 0: the id is idle */
+    uint8_t nowait;                         /* waiting allocation: 0 or 1 */
+    uint8_t map;                            /* lock: the channels it still holds */
+    int8_t precedence;                      /* waiting allocation */
+    uint16_t key;
+    uint8_t length;                         /* waiting allocation: 1 to 16 */
+    uint8_t combination[COMBINATIONS];
+};
+
+struct Arbiter {
+    struct Channel channel[CHANNELS];
+    struct Request request[REQUESTS];
+    struct Ids locks;                       /* oldest first */
+    struct Ids waiting;                     /* highest precedence first, then arrival */
+    uint16_t open_count, last_key;
+};
+
+/* One call, with the bytes of a log frame. */
+struct Frame {
+    uint8_t operation, id, flags, map;
+    int8_t precedence;
+    uint16_t key;
+    uint8_t length;
+    uint8_t combination[255];
+};
+
+struct Reply {
+    uint8_t id, command;
+    int8_t error;
+    uint8_t map;
+    uint16_t key;
+};
+
+/* The caller lends capacity records; a call fills the first count of them. */
+struct Replies {
+    struct Reply *record;
+    size_t capacity, count;
+};
+
+struct Answer {
+    uint8_t outstanding;                    /* 0 or 1 */
+    int8_t error;
+    uint8_t map;
+    uint16_t key;
+    uint8_t last;                           /* READ's id, ABORT's 1 or 0, else 255 */
+};
+
+/* A fresh device: everything free, idle and 0. */
+void arbiter_fresh(struct Arbiter *a);
+
+/* 1 if the state is sound, 0 if not. Reads any bytes safely. */
+int arbiter_sound(const struct Arbiter *a);
+
+/* One call of any kind. Any state, frame and capacity get an answer. */
+struct Answer arbiter_call(struct Arbiter *a, const struct Frame *f, struct Replies *r);
+
+/* The choice of a combination in a sound state; chosen is 0 if it fails. */
+enum Look { LOOK_FAILS, LOOK_HELD, LOOK_GRANTED };
+enum Look arbiter_look(const struct Arbiter *a, int precedence,
+                       const uint8_t *combination, unsigned length, uint8_t *chosen);
+
+/* The key that a grant with key 0 would issue in a sound state. */
+uint16_t arbiter_new_key(const struct Arbiter *a);
+
+#endif

@@ -1,0 +1,313 @@
+/* Plays logs, each on a fresh device, and counts the answers and the replies by what
+   caused them: coverage-count SHORT|LONG LOG... Prints a row for each, and fails if a row
+   that is due was never reached. Some rows are due in LONG logs only. */
+#include "log.h"
+
+#include <stdio.h>
+#include <string.h>
+
+/* Rows of answers: by A0 or A1 and error. */
+static struct AnswerRow {
+    const char *name;
+    int outstanding, error, only_long;
+    unsigned long count;
+} answer_rows[] = {
+    {"A0   0 done", 0, DONE, 0, 0},
+    {"A1   0 outstanding", 1, DONE, 0, 0},
+    {"A0  -1 OPENFAIL", 0, IOERR_OPENFAIL, 1, 0},
+    {"A0  -3 NOCMD", 0, IOERR_NOCMD, 0, 0},
+    {"A0  -4 BADLENGTH", 0, IOERR_BADLENGTH, 0, 0},
+    {"A0  -5 BADADDRESS", 0, IOERR_BADADDRESS, 0, 0},
+    {"A0 -10 NOALLOCATION", 0, ADIOERR_NOALLOCATION, 0, 0},
+    {"A0 -11 ALLOCFAILED", 0, ADIOERR_ALLOCFAILED, 0, 0},
+    {"A0   2 nothing open", 0, REFUSED_CLOSED, 0, 0},
+    {"A0   3 id outstanding", 0, REFUSED_OUTSTANDING, 0, 0},
+    {"A0   4 id above 63", 0, REFUSED_ID, 0, 0},
+    {"A0   7 malformed", 0, REFUSED_LINE, 0, 0}
+};
+
+/* What a reply comes from. A call's number stands for itself. */
+enum { OWN = 256, SETTLING, STEAL };
+#define ANY (-1)
+
+/* Rows of replies: by command, error and cause. ANY leaves a column open. */
+static struct ReplyRow {
+    const char *name;
+    int command, error, cause;
+    unsigned long count;
+} reply_rows[] = {
+    {"ALLOCATE   0, own: granted at once", ADCMD_ALLOCATE, DONE, OWN, 0},
+    {"ALLOCATE   0, settling: granted later", ADCMD_ALLOCATE, DONE, SETTLING, 0},
+    {"ALLOCATE -11, own: NOWAIT fails", ADCMD_ALLOCATE, ADIOERR_ALLOCFAILED, OWN, 0},
+    {"ALLOCATE -11, settling: held one dropped", ADCMD_ALLOCATE, ADIOERR_ALLOCFAILED, SETTLING, 0},
+    {"ALLOCATE  -2, ABORT", ADCMD_ALLOCATE, IOERR_ABORTED, CALL_ABORT, 0},
+    {"ALLOCATE  -4, own", ADCMD_ALLOCATE, IOERR_BADLENGTH, OWN, 0},
+    {"ALLOCATE  -5, own", ADCMD_ALLOCATE, IOERR_BADADDRESS, OWN, 0},
+    {"LOCK   0, FREE emptied it", ADCMD_LOCK, DONE, ADCMD_FREE, 0},
+    {"LOCK   0, CLOSE emptied it", ADCMD_LOCK, DONE, CALL_CLOSE, 0},
+    {"LOCK   0, own: map 0", ADCMD_LOCK, DONE, OWN, 0},
+    {"LOCK -10, own: mismatch", ADCMD_LOCK, ADIOERR_NOALLOCATION, OWN, 0},
+    {"LOCK -12, settling: stolen", ADCMD_LOCK, ADIOERR_CHANNELSTOLEN, SETTLING, 0},
+    {"WRITE   0, event", CMD_WRITE, DONE, CALL_EVENT, 0},
+    {"WRITE  -2, stolen", CMD_WRITE, IOERR_ABORTED, STEAL, 0},
+    {"WRITE  -2, FREE", CMD_WRITE, IOERR_ABORTED, ADCMD_FREE, 0},
+    {"WRITE  -2, CLOSE", CMD_WRITE, IOERR_ABORTED, CALL_CLOSE, 0},
+    {"WRITE  -2, RESET", CMD_WRITE, IOERR_ABORTED, CMD_RESET, 0},
+    {"WRITE  -2, FLUSH", CMD_WRITE, IOERR_ABORTED, CMD_FLUSH, 0},
+    {"WRITE  -2, ABORT", CMD_WRITE, IOERR_ABORTED, CALL_ABORT, 0},
+    {"WRITE -10, own", CMD_WRITE, ADIOERR_NOALLOCATION, OWN, 0},
+    {"READ   0, own", CMD_READ, DONE, OWN, 0},
+    {"READ -10, own", CMD_READ, ADIOERR_NOALLOCATION, OWN, 0},
+    {"RESET   0, own", CMD_RESET, DONE, OWN, 0},
+    {"RESET -10, own", CMD_RESET, ADIOERR_NOALLOCATION, OWN, 0},
+    {"UPDATE   0, own", CMD_UPDATE, DONE, OWN, 0},
+    {"UPDATE -10, own", CMD_UPDATE, ADIOERR_NOALLOCATION, OWN, 0},
+    {"CLEAR   0, own", CMD_CLEAR, DONE, OWN, 0},
+    {"CLEAR -10, own", CMD_CLEAR, ADIOERR_NOALLOCATION, OWN, 0},
+    {"STOP   0, own", CMD_STOP, DONE, OWN, 0},
+    {"STOP -10, own", CMD_STOP, ADIOERR_NOALLOCATION, OWN, 0},
+    {"START   0, own", CMD_START, DONE, OWN, 0},
+    {"START -10, own", CMD_START, ADIOERR_NOALLOCATION, OWN, 0},
+    {"FLUSH   0, own", CMD_FLUSH, DONE, OWN, 0},
+    {"FLUSH -10, own", CMD_FLUSH, ADIOERR_NOALLOCATION, OWN, 0},
+    {"FREE   0, own", ADCMD_FREE, DONE, OWN, 0},
+    {"FREE -10, own", ADCMD_FREE, ADIOERR_NOALLOCATION, OWN, 0},
+    {"SETPREC   0, own", ADCMD_SETPREC, DONE, OWN, 0},
+    {"SETPREC -10, own", ADCMD_SETPREC, ADIOERR_NOALLOCATION, OWN, 0},
+    {"other commands  -5, own", ANY, IOERR_BADADDRESS, OWN, 0},
+    {"unlisted command  -3, own", ANY, IOERR_NOCMD, OWN, 0}
+};
+
+/* What a row of answers does not tell apart. */
+static struct CallRow {
+    const char *name;
+    int only_long;
+    unsigned long count;
+} call_rows[] = {
+    {"OPEN 0 with combinations", 0, 0},
+    {"OPEN 0 without", 0, 0},
+    {"OPEN -11", 0, 0},
+    {"event 0 with a write ended", 0, 0},
+    {"event 0 with map 0", 0, 0},
+    {"ABORT 0, aborted", 0, 0},
+    {"ABORT 0, not aborted", 0, 0},
+    {"READ 0 with an id", 0, 0},
+    {"READ 0 with 255", 0, 0},
+    {"ALLOCATE held, outstanding", 0, 0},
+    {"ALLOCATE held with NOWAIT", 0, 0},
+    {"lock freed in part", 0, 0},
+    {"grant of more than one request in a call", 0, 0},
+    {"full list of sixteen accepted", 0, 0},
+    {"seventeen entries, one of them 10", 0, 0},
+    {"ten replies or more in a call", 0, 0},
+    {"more than 60 outstanding", 0, 0},
+    {"new key passes over keys in use", 0, 0},
+    {"keys come round", 1, 0},
+    {"keys come round over keys in use", 1, 0}
+};
+enum {
+    OPEN_LIST, OPEN_PLAIN, OPEN_FAILED, EVENT_ENDED, EVENT_NOTHING, ABORTED, NOT_ABORTED,
+    READ_ID, READ_NONE, HELD, HELD_NOWAIT, PARTIAL, MANY_GRANTS, SIXTEEN, SEVENTEEN,
+    TEN_REPLIES, NEARLY_FULL, PASSES, ROUND, ROUND_PASSES
+};
+
+#define COUNT_OF(array) (sizeof (array) / sizeof *(array))
+
+static unsigned long lines, unexpected;
+
+static void count_answer(const struct Answer *answer)
+{
+    for (size_t i = 0; i < COUNT_OF(answer_rows); i++)
+        if (answer_rows[i].outstanding == answer->outstanding
+            && answer_rows[i].error == answer->error) {
+            answer_rows[i].count++;
+            return;
+        }
+    unexpected++;
+}
+
+static void count_reply(const struct Reply *reply, int cause)
+{
+    for (size_t i = 0; i < COUNT_OF(reply_rows); i++) {
+        struct ReplyRow *row = &reply_rows[i];
+
+        if ((row->command == ANY || row->command == reply->command)
+            && row->error == reply->error && row->cause == cause) {
+            row->count++;
+            return;
+        }
+    }
+    printf("unexpected reply: command %d, error %d, cause %d\n",
+           reply->command, reply->error, cause);
+    unexpected++;
+}
+
+/* The channel that had this write, in the state before the call. */
+static unsigned channel_of(const struct Arbiter *before, unsigned id)
+{
+    for (unsigned c = 0; c < CHANNELS; c++)
+        for (unsigned at = 0; at < before->channel[c].writes.count; at++)
+            if (before->channel[c].writes.id[at] == id)
+                return c;
+    return 0;
+}
+
+static int cause_of(const struct Arbiter *before, const struct Frame *f,
+                    const struct Answer *answer, const struct Reply *reply)
+{
+    const struct Request *was = &before->request[reply->id];
+    unsigned c;
+
+    if (was->command == 0 && !answer->outstanding)
+        return OWN;
+    if (reply->error == ADIOERR_CHANNELSTOLEN)
+        return SETTLING;
+    if (reply->command == ADCMD_ALLOCATE)
+        return reply->error == IOERR_ABORTED ? CALL_ABORT : SETTLING;
+    if (reply->command != CMD_WRITE || reply->error != IOERR_ABORTED)
+        return f->operation;
+    /* A call aborts by itself only writes of its own key on its own channels. */
+    c = channel_of(before, reply->id);
+    switch (f->operation) {
+    case CMD_RESET: case CMD_FLUSH: case ADCMD_FREE:
+        return was->key == f->key && (f->map >> c & 1) ? f->operation : STEAL;
+    case CALL_CLOSE:
+        return was->key == f->key ? CALL_CLOSE : STEAL;
+    case CALL_ABORT:
+        return reply->id == f->id ? CALL_ABORT : STEAL;
+    default:
+        return STEAL;
+    }
+}
+
+static void count_call(const struct Arbiter *before, const struct Arbiter *after,
+                       const struct Frame *f, const struct Answer *answer,
+                       const struct Replies *replies)
+{
+    int done = answer->error == DONE;
+    unsigned outstanding = 0, grants = 0, sixteens = 0;
+    uint8_t chosen;
+
+    switch (f->operation) {
+    case CALL_OPEN:
+        call_rows[OPEN_LIST].count += done && f->length > 0;
+        call_rows[OPEN_PLAIN].count += done && f->length == 0;
+        call_rows[OPEN_FAILED].count += answer->error == ADIOERR_ALLOCFAILED;
+        break;
+    case CALL_EVENT:
+        call_rows[EVENT_ENDED].count += done && answer->map != 0;
+        call_rows[EVENT_NOTHING].count += done && answer->map == 0;
+        break;
+    case CALL_ABORT:
+        call_rows[ABORTED].count += done && answer->last == 1;
+        call_rows[NOT_ABORTED].count += done && answer->last == 0;
+        break;
+    case CMD_READ:
+        call_rows[READ_ID].count += done && answer->last != NO_ID;
+        call_rows[READ_NONE].count += done && answer->last == NO_ID;
+        break;
+    case ADCMD_ALLOCATE:
+        if (answer->outstanding && arbiter_look(before, f->precedence, f->combination,
+                                                f->length, &chosen) == LOOK_HELD) {
+            call_rows[HELD].count++;
+            call_rows[HELD_NOWAIT].count += (f->flags & ADIOF_NOWAIT) != 0;
+        }
+        break;
+    default:
+        break;
+    }
+    if (f->operation == CALL_OPEN || f->operation == ADCMD_ALLOCATE) {
+        for (unsigned i = 0; i < f->length; i++)
+            sixteens += f->combination[i] == 0x10;
+        call_rows[SIXTEEN].count += f->length == COMBINATIONS && answer->error <= 0
+            && answer->error != IOERR_BADADDRESS;
+        call_rows[SEVENTEEN].count += f->length == 17 && sixteens > 0
+            && answer->error == IOERR_BADLENGTH;
+    }
+    for (unsigned id = 0; id < REQUESTS; id++) {
+        outstanding += after->request[id].command != 0;
+        if (after->request[id].command == ADCMD_LOCK
+            && before->request[id].command == ADCMD_LOCK
+            && after->request[id].map != before->request[id].map)
+            call_rows[PARTIAL].count++;
+    }
+    for (size_t i = 0; i < replies->count; i++)
+        grants += replies->record[i].command == ADCMD_ALLOCATE
+            && replies->record[i].error == DONE
+            && before->request[replies->record[i].id].command == ADCMD_ALLOCATE;
+    call_rows[MANY_GRANTS].count += grants > 1;
+    call_rows[TEN_REPLIES].count += replies->count >= 10;
+    call_rows[NEARLY_FULL].count += outstanding > 60;
+    if (done && !answer->outstanding && f->key == 0
+        && (f->operation == CALL_OPEN || f->operation == ADCMD_ALLOCATE)) {
+        int round = answer->key < before->last_key;
+
+        call_rows[PASSES].count += !round && answer->key > before->last_key + 1;
+        call_rows[ROUND].count += round;
+        call_rows[ROUND_PASSES].count += round
+            && (before->last_key < LAST_OF_KEYS || answer->key > 1);
+    }
+}
+
+/* One row, per thousand lines; 1 if it is due and was never reached. */
+static int print_row(const char *name, unsigned long count, int only_long)
+{
+    printf("| %-42s | %8lu | %8.2f |\n", name, count, 1000.0 * (double)count / (double)lines);
+    return count == 0 && !only_long;
+}
+
+static void play(FILE *log)
+{
+    static struct Arbiter state, before;
+    static struct Reply record[REQUESTS];
+    struct Replies replies = {record, REQUESTS, 0};
+    struct Frame frame;
+    enum Line line;
+
+    arbiter_fresh(&state);
+    while ((line = log_read(log, &frame)) != LINE_NONE) {
+        struct Answer answer = log_malformed();
+
+        lines++;
+        if (line == LINE_FRAME) {
+            before = state;
+            answer = arbiter_call(&state, &frame, &replies);
+            for (size_t i = 0; i < replies.count; i++)
+                count_reply(&record[i], cause_of(&before, &frame, &answer, &record[i]));
+            count_call(&before, &state, &frame, &answer, &replies);
+        }
+        count_answer(&answer);
+    }
+}
+
+int main(int count, char **argument)
+{
+    int is_long = count > 1 && strcmp(argument[1], "LONG") == 0, missing = 0;
+
+    for (int i = 2; i < count; i++) {
+        FILE *log = fopen(argument[i], "rb");
+
+        if (log == NULL) {
+            fprintf(stderr, "coverage-count: cannot read %s\n", argument[i]);
+            return 2;
+        }
+        play(log);
+        fclose(log);
+    }
+    if (lines == 0) {
+        fputs("usage: coverage-count SHORT|LONG LOG...\n", stderr);
+        return 2;
+    }
+    printf("| %-42s | %8s | %8s |\n", "", "count", "per 1000");
+    printf("|--------------------------------------------|----------|----------|\n");
+    for (size_t i = 0; i < COUNT_OF(answer_rows); i++)
+        missing += print_row(answer_rows[i].name, answer_rows[i].count,
+                             answer_rows[i].only_long && !is_long);
+    for (size_t i = 0; i < COUNT_OF(reply_rows); i++)
+        missing += print_row(reply_rows[i].name, reply_rows[i].count, 0);
+    for (size_t i = 0; i < COUNT_OF(call_rows); i++)
+        missing += print_row(call_rows[i].name, call_rows[i].count,
+                             call_rows[i].only_long && !is_long);
+    printf("\n%lu lines, %d rows missing, %lu unexpected\n", lines, missing, unexpected);
+    return missing != 0 || unexpected != 0;
+}

@@ -1,0 +1,20 @@
+#!/bin/sh
+# Counts what the generated logs reach: seeds 1 to 20 at 1000 lines, then the long styles.
+cd "$(dirname "$0")" || exit 1
+work=$(mktemp -d) || exit 1
+trap 'rm -rf "$work"' EXIT
+
+for seed in 1 2 3 4 5 6 7 8 9 10 11 12 13 14 15 16 17 18 19 20; do
+    ./generate $seed 1000 >"$work/short.$seed"
+done
+echo "Seeds 1 to 20, 1000 lines each"
+./coverage-count SHORT "$work"/short.* || exit 1
+
+for seed in 1 2 3 4 5 6; do
+    ./generate $seed 70000 11 >"$work/long.opens.$seed"
+    ./generate $seed 70000 12 >"$work/long.keys.$seed"
+    ./generate $seed 72000 >"$work/long.mix.$seed"
+done
+echo
+echo "Seeds 1 to 6: styles 11 and 12 at 70,000 lines, the mix at 72,000"
+./coverage-count LONG "$work"/long.*

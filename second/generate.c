@@ -1,0 +1,552 @@
+/* Writes a hard random log to standard output: generate SEED LINES [STYLE].
+   It plays its own log on an arbiter, so that it knows live keys, idle ids and waiting
+   requests. Same arguments, same bytes, on every machine. */
+#include "chance.h"
+#include "log.h"
+
+#include <stdio.h>
+#include <stdlib.h>
+#include <string.h>
+
+/* ---- Styles ---- */
+
+enum Kind {
+    OPEN, CLOSE, ABORT, EVENT, RESET, READ, WRITE, UPDATE, CLEAR, STOP, START, FLUSH,
+    FREE, SETPREC, LOCK, ALLOCATE, UNKNOWN, KINDS
+};
+
+static const uint8_t operation_of[KINDS] = {
+    CALL_OPEN, CALL_CLOSE, CALL_ABORT, CALL_EVENT, CMD_RESET, CMD_READ, CMD_WRITE,
+    CMD_UPDATE, CMD_CLEAR, CMD_STOP, CMD_START, CMD_FLUSH, ADCMD_FREE, ADCMD_SETPREC,
+    ADCMD_LOCK, ADCMD_ALLOCATE, 0
+};
+
+struct Style {
+    const char *name;
+    uint8_t weight[KINDS];      /* in the order of enum Kind */
+    uint8_t nowait;             /* percent of allocations with NOWAIT */
+    uint8_t wrong;              /* percent of calls with a wrong id, map or list */
+    uint8_t full;               /* percent of lists with sixteen entries */
+    uint8_t malformed;          /* percent of malformed lines */
+    uint8_t drain;              /* outstanding requests above which they are ended */
+};
+
+enum {
+    MIX, LOCKS, NOWAIT, QUEUES, FULL, ABORTS, PRECEDENCES, REFUSALS, MALFORMED, LISTS,
+    BYTES, OPENS, KEYS, STYLES
+};
+#define SHORT_STYLES OPENS      /* 1 to 10 take part in the mix */
+#define LONG_STRETCH 67500ul    /* lines in which the count or the keys reach their end */
+#define LONG_LOG 70000ul        /* a mix this long begins with such a stretch */
+
+static const struct Style styles[STYLES] = {
+    /*              Op Cl Ab Ev Rs Rd Wr Up Cr Sp St Fl Fr Pr Lk Al Un */
+    {"mix",         {0}, 0, 0, 0, 0, 0},
+    {"locks",       {2, 2, 2, 1, 1, 1, 6, 1, 1, 1, 1, 1,18, 6,26,34, 0}, 30, 2,  5,  1, 30},
+    {"nowait",      {2, 1, 3, 1, 1, 1, 3, 0, 0, 1, 1, 1, 9,26,20,36, 0}, 85, 2,  5,  1, 30},
+    {"queues",      {2, 1, 5,14, 3, 8,46, 1, 1, 4, 6, 2, 2, 2, 1, 5, 0}, 30, 2,  5,  1, 62},
+    {"full",        {3, 0, 1, 2, 0, 3,64, 0, 0, 2, 2, 0, 0, 1, 6,18, 0}, 30, 3,  5,  1, 62},
+    {"aborts",      {2, 1,30, 3, 1, 2,22, 1, 1, 1, 1, 1, 4, 4, 8,24, 0}, 20, 3,  5,  1, 40},
+    {"precedences", {5, 4, 3, 2, 1, 1, 8, 1, 1, 1, 1, 1, 8,30, 6,30, 0}, 25, 2, 10,  1, 40},
+    {"refusals",    {9,14, 4, 5, 4, 4, 9, 4, 4, 4, 4, 4, 6, 5, 5,18,10}, 40,40, 15,  2, 30},
+    {"malformed",   {6, 4, 4, 6, 3, 4,12, 3, 3, 4, 4, 3, 8, 6, 8,20, 2}, 40, 5, 10, 50, 40},
+    {"lists",       {14,8, 3, 2, 1, 1, 6, 0, 0, 1, 1, 1,12, 6, 8,46, 0}, 40,12, 60,  1, 40},
+    {"bytes",       {1, 1, 1, 1, 1, 1, 1, 1, 1, 1, 1, 1, 1, 1, 1, 1, 1}, 50,30, 20,  5, 50},
+    {"opens",       {8,10, 4, 4, 2, 2, 8, 1, 1, 2, 2, 2, 8, 8, 6,20, 1}, 40, 3, 10,  1, 40},
+    {"keys",        {9, 6, 2, 2, 1, 1, 4, 1, 1, 1, 1, 1, 4, 6, 4,40, 1}, 20, 2, 10,  1, 40}
+};
+
+/* ---- The device as it stands ---- */
+
+static struct Arbiter state;
+
+static int outstanding(unsigned id)
+{
+    return state.request[id].command != 0;
+}
+
+static unsigned count_outstanding(void)
+{
+    unsigned count = 0;
+
+    for (unsigned id = 0; id < REQUESTS; id++)
+        count += (unsigned)outstanding(id);
+    return count;
+}
+
+/* An id that is outstanding, or idle, from a random place on; any id if there is none. */
+static unsigned pick_id(int wanted)
+{
+    unsigned id = below(REQUESTS);
+
+    for (unsigned tries = 0; tries < REQUESTS && outstanding(id) != wanted; tries++)
+        id = (id + 1) % REQUESTS;
+    return id;
+}
+
+/* A channel that is allocated, from a random place on; any channel if there is none. */
+static unsigned pick_channel(void)
+{
+    unsigned c = below(CHANNELS);
+
+    for (unsigned tries = 0; tries < CHANNELS && state.channel[c].key == 0; tries++)
+        c = (c + 1) % CHANNELS;
+    return c;
+}
+
+/* A channel that has a write, from a random place on; any channel if there is none. */
+static unsigned pick_playing(void)
+{
+    unsigned c = below(CHANNELS);
+
+    for (unsigned tries = 0; tries < CHANNELS && state.channel[c].writes.count == 0; tries++)
+        c = (c + 1) % CHANNELS;
+    return c;
+}
+
+/* ---- The parts of a frame ---- */
+
+#define NEAR_THE_END 30u        /* the keys about the round, on either side */
+
+/* One of the next keys to be issued, so that the count has to pass over it. Near the end
+   it is one of those about the round. */
+static unsigned next_key(void)
+{
+    unsigned key = state.last_key + 1 + below(4);
+
+    if (state.last_key > LAST_OF_KEYS - NEAR_THE_END)
+        key = LAST_OF_KEYS - 2 + below(6);
+    return key > LAST_OF_KEYS ? key - LAST_OF_KEYS : key;
+}
+
+static unsigned pick_key(void)
+{
+    unsigned odds = below(100);
+
+    if (odds < 78)
+        return state.channel[pick_channel()].key;
+    if (odds < 84)
+        return state.request[pick_id(1)].key;
+    if (odds < 88)
+        return 0;
+    if (odds < 91)
+        return 1 + below(8);
+    if (odds < 94)
+        return state.last_key;
+    if (odds < 97)
+        return next_key();
+    if (odds < 98)
+        return LAST_OF_KEYS - below(4);
+    return below(LAST_OF_KEYS + 1);
+}
+
+/* Mostly the channels of this key, all of them, some, or some more. */
+static unsigned pick_map(unsigned key)
+{
+    unsigned odds = below(100), random = below(ALL_CHANNELS + 1), own = 0;
+
+    for (unsigned c = 0; c < CHANNELS; c++)
+        if (key != 0 && state.channel[c].key == key)
+            own |= 1u << c;
+    if (odds < 45)
+        return own;
+    if (odds < 80)
+        return (own & random) != 0 ? own & random : own;
+    if (odds < 92)
+        return own | random;
+    return random;
+}
+
+/* Few values, so that many are equal; now and then an end of the range. */
+static int pick_precedence(void)
+{
+    static const int8_t ends[8] = {-128, -127, -1, 10, 20, 100, 126, 127};
+    unsigned odds = below(100);
+
+    if (odds < 85)
+        return (int)below(7) - 3;
+    if (odds < 97)
+        return ends[below(8)];
+    return (int)below(256) - 128;
+}
+
+static unsigned pick_combination(void)
+{
+    unsigned odds = below(100);
+
+    if (odds < 1)
+        return 0;
+    if (odds < 35)
+        return 1u << below(CHANNELS);
+    return 1 + below(ALL_CHANNELS);
+}
+
+static void pick_list(struct Frame *f, const struct Style *s)
+{
+    unsigned odds = below(100);
+
+    if (percent(s->full))
+        f->length = COMBINATIONS;
+    else if (odds < 4)
+        f->length = 0;
+    else if (odds < 85)
+        f->length = (uint8_t)(1 + below(3));
+    else
+        f->length = (uint8_t)(4 + below(12));
+    for (unsigned i = 0; i < f->length; i++)
+        f->combination[i] = (uint8_t)pick_combination();
+    /* As in M10, only the last entry differs. */
+    if (f->length == COMBINATIONS && percent(40))
+        memset(f->combination, f->combination[0], COMBINATIONS - 1);
+}
+
+/* A list that is refused, or with ignore set any list at all, up to the longest. */
+static void spoil_list(struct Frame *f, int ignore)
+{
+    unsigned odds = below(6), high = 16 + below(240);
+
+    if (ignore)
+        f->length = (uint8_t)below(256);
+    else if (odds < 2 && f->length > 0)
+        f->combination[below(f->length)] = (uint8_t)high;
+    else if (odds < 5)
+        f->length = 17;
+    else
+        f->length = (uint8_t)(18 + below(238));
+    for (unsigned i = COMBINATIONS; i < f->length; i++)
+        f->combination[i] = (uint8_t)pick_combination();
+    /* The document's trap: seventeen entries, one of them 10. */
+    if (f->length > COMBINATIONS && percent(50))
+        f->combination[below(f->length)] = 0x10;
+}
+
+/* Every number but those of the listed commands and of F0 to F3. */
+static unsigned pick_unknown(void)
+{
+    static const uint8_t near[8] = {0, 11, 12, 14, 15, 31, 33, 0xF4};
+    unsigned number = near[below(8)];
+
+    if (percent(40))
+        number = below(256);
+    for (unsigned kind = 0; kind < UNKNOWN; kind++)
+        if (operation_of[kind] == number)
+            return 11;
+    return number;
+}
+
+/* ---- Frames ---- */
+
+/* One thing is wrong: the id, the map or the list. */
+static void spoil(struct Frame *f)
+{
+    int listed = f->operation == CALL_OPEN || f->operation == ADCMD_ALLOCATE;
+    unsigned odds = below(10);
+
+    if (listed && percent(60))
+        odds = 9;
+    if (odds < 2)
+        f->id = (uint8_t)(64 + below(192));
+    else if (odds < 4)
+        f->id = (uint8_t)pick_id(1);
+    else if (odds < 5)
+        f->map = (uint8_t)(16u << below(4));
+    else if (odds < 7)
+        f->map = (uint8_t)(16 + below(240));
+    else
+        spoil_list(f, !listed);
+}
+
+static void make_frame(struct Frame *f, enum Kind kind, const struct Style *s)
+{
+    memset(f, 0, sizeof *f);
+    f->operation = operation_of[kind];
+    f->id = (uint8_t)pick_id(0);
+    f->flags = percent(50) ? IOF_QUICK : 0;
+    if (percent(10))
+        f->flags = (uint8_t)(f->flags | (below(256) & ~(unsigned)ADIOF_NOWAIT));
+    if (percent(s->nowait))
+        f->flags |= ADIOF_NOWAIT;
+    f->precedence = (int8_t)pick_precedence();
+    f->key = (uint16_t)pick_key();
+    f->map = (uint8_t)pick_map(f->key);
+    switch (kind) {
+    case OPEN:
+        if (percent(50))
+            f->key = 0;
+        if (percent(60))
+            pick_list(f, s);
+        break;
+    case CLOSE:
+        if (percent(30))
+            f->key = 0;
+        break;
+    case ABORT:
+        if (percent(85))
+            f->id = (uint8_t)pick_id(1);
+        break;
+    case EVENT:
+        if (percent(80))
+            f->map = (uint8_t)(1u << pick_playing());
+        break;
+    case SETPREC:
+        /* Raised above the waiting requests, so that held ones fail. */
+        if (s == &styles[NOWAIT] && percent(60))
+            f->precedence = (int8_t)(2 + below(4));
+        break;
+    case ALLOCATE:
+        if (percent(50))
+            f->key = 0;
+        else if (percent(s >= &styles[OPENS] ? 80 : 10))
+            f->key = (uint16_t)next_key();
+        pick_list(f, s);
+        break;
+    case UNKNOWN:
+        f->operation = (uint8_t)pick_unknown();
+        break;
+    default:
+        break;
+    }
+    if (percent(s->wrong))
+        spoil(f);
+}
+
+/* Any bytes. Most fields stay near what means something. */
+static void any_frame(struct Frame *f)
+{
+    memset(f, 0, sizeof *f);
+    f->operation = percent(80) ? operation_of[below(KINDS)] : (uint8_t)below(256);
+    f->id = (uint8_t)(percent(90) ? below(72) : below(256));
+    f->flags = (uint8_t)below(256);
+    f->map = (uint8_t)(percent(85) ? below(16) : below(256));
+    f->precedence = (int8_t)((int)below(256) - 128);
+    f->key = (uint16_t)(percent(60) ? pick_key() : below(65536));
+    f->length = (uint8_t)(percent(85) ? below(18) : below(256));
+    for (unsigned i = 0; i < f->length; i++)
+        f->combination[i] = (uint8_t)(percent(98) ? below(16) : below(256));
+    if (state.open_count == 0 && percent(50)) {
+        f->operation = CALL_OPEN;
+        f->length = 0;
+    }
+}
+
+static enum Kind pick_kind(unsigned style)
+{
+    const struct Style *s = &styles[style];
+    unsigned sum = 0, at, kind = 0;
+
+    /* Closed, most calls would be refused with 2. */
+    if (state.open_count == 0 && percent(style == REFUSALS ? 30 : 80))
+        return OPEN;
+    if (count_outstanding() > s->drain && percent(50)) {
+        static const enum Kind drains[6] = {ABORT, EVENT, FLUSH, FREE, CLOSE, RESET};
+
+        return drains[below(6)];
+    }
+    for (unsigned i = 0; i < KINDS; i++)
+        sum += s->weight[i];
+    at = below(sum);
+    while (at >= s->weight[kind])
+        at -= s->weight[kind++];
+    if (kind == CLOSE && state.open_count == 1 && style != REFUSALS && percent(60))
+        return OPEN;
+    return (enum Kind)kind;
+}
+
+/* The long styles count up with one cheap call a line; 1 if this line is such a one. */
+static int climb(struct Frame *f, unsigned style)
+{
+    int near = state.last_key < NEAR_THE_END
+            || state.last_key > LAST_OF_KEYS - NEAR_THE_END;
+
+    if (style < OPENS || (style == OPENS && state.open_count == MOST_OPENS)
+        || !percent(near ? 30 : 99))
+        return 0;
+    memset(f, 0, sizeof *f);
+    f->operation = CALL_OPEN;
+    if (style == KEYS && state.open_count > 0) {
+        f->operation = ADCMD_ALLOCATE;
+        f->flags = IOF_QUICK;
+        f->id = (uint8_t)pick_id(0);
+    }
+    return 1;
+}
+
+/* ---- Lines ---- */
+
+static char text[1 << 17];      /* the line, without its LF */
+static size_t length;
+
+static void put_byte(unsigned byte)
+{
+    static const char digits[] = "0123456789ABCDEF";
+
+    text[length++] = digits[byte >> 4 & 15];
+    text[length++] = digits[byte & 15];
+}
+
+static void put_frame(const struct Frame *f)
+{
+    put_byte(f->operation);
+    put_byte(f->id);
+    put_byte(f->flags);
+    put_byte(f->map);
+    put_byte((uint8_t)f->precedence);
+    put_byte((unsigned)f->key >> 8);
+    put_byte(f->key & 255u);
+    put_byte(f->length);
+    for (unsigned i = 0; i < f->length; i++)
+        put_byte(f->combination[i]);
+}
+
+static void put_digits(size_t until)
+{
+    while (length + 1 < until)
+        put_byte(below(256));
+    if (length < until)
+        text[length++] = '7';
+}
+
+/* The line holds a frame; it becomes one that document 01 calls malformed. */
+static void damage(void)
+{
+    static const char strange[] = "GZ@/:` \t.-xgz\"\\";
+    unsigned at = below((unsigned)length);
+    unsigned odds;
+
+    switch (below(16)) {
+    case 0:                                 /* an empty line */
+        length = 0;
+        break;
+    case 1:                                 /* odd, one digit less */
+        length--;
+        break;
+    case 2:                                 /* odd, one digit more */
+        text[length++] = '0';
+        break;
+    case 3:                                 /* lower case */
+        text[at] = (char)("abcdef"[below(6)]);
+        break;
+    case 4:                                 /* no digit at all */
+        text[at] = strange[below(sizeof strange - 1)];
+        break;
+    case 5:                                 /* no whole head */
+        length = 2 * below(FRAME_HEAD);
+        break;
+    case 6:                                 /* one byte less than n says */
+        length -= 2;
+        break;
+    case 7:                                 /* one byte more than n says */
+        put_byte(below(16));
+        break;
+    case 8:                                 /* longer than any frame */
+        odds = below(8);
+        put_digits(odds == 0 ? 60000 + below(60000) : LONGEST_LINE + 1 + below(600));
+        break;
+    case 9:                                 /* the longest frame and more */
+        length = 14;
+        put_byte(255);
+        put_digits(LONGEST_LINE);
+        put_digits(LONGEST_LINE + 1 + below(4));
+        break;
+    case 10:                                /* CR before the LF */
+        text[length++] = '\r';
+        break;
+    case 11:
+        text[at] = '\0';
+        break;
+    case 12:                                /* a high byte */
+        text[at] = (char)(128 + (int)below(128) - 256);
+        break;
+    case 13:                                /* two frames on a line */
+        memcpy(&text[length], text, length);
+        length *= 2;
+        break;
+    case 14:                                /* a space at the end */
+        text[length++] = ' ';
+        break;
+    default:                                /* any bytes */
+        length = below(60);
+        for (size_t i = 0; i < length; i++) {
+            text[i] = (char)((int)below(256) - 128);
+            if (text[i] == '\n')
+                text[i] = 'F';
+        }
+        break;
+    }
+}
+
+static void make_line(unsigned style)
+{
+    const struct Style *s = &styles[style];
+    struct Frame f;
+
+    if (!climb(&f, style)) {
+        if (style == BYTES)
+            any_frame(&f);
+        else
+            make_frame(&f, pick_kind(style), s);
+    }
+    length = 0;
+    put_frame(&f);
+    if (percent(s->malformed))
+        damage();
+}
+
+/* The arbiter follows the line as a reader of the log would. */
+static void follow_line(void)
+{
+    static struct Reply record[REQUESTS];
+    struct Replies replies = {record, REQUESTS, 0};
+    struct Frame f;
+
+    if (log_decode(text, length, &f))
+        arbiter_call(&state, &f, &replies);
+}
+
+int main(int count, char **argument)
+{
+    unsigned long lines, left = 0;
+    unsigned chosen = MIX, style = MIX;
+
+    if (count < 3 || count > 4) {
+        fputs("usage: generate SEED LINES [STYLE]\n", stderr);
+        for (unsigned i = 0; i < STYLES; i++)
+            fprintf(stderr, "  style %2u: %s\n", i, styles[i].name);
+        return 2;
+    }
+    chance_seed(strtoull(argument[1], NULL, 10));
+    lines = strtoul(argument[2], NULL, 10);
+    if (count == 4)
+        chosen = (unsigned)strtoul(argument[3], NULL, 10);
+    if (chosen >= STYLES) {
+        fputs("generate: no such style\n", stderr);
+        return 2;
+    }
+    arbiter_fresh(&state);
+    style = chosen;
+    if (chosen == MIX && lines >= LONG_LOG) {
+        style = percent(50) ? OPENS : KEYS;
+        left = LONG_STRETCH;
+    }
+    for (unsigned long line = 1; line <= lines; line++) {
+        if (chosen == MIX && left == 0) {
+            style = 1 + below(SHORT_STYLES - 1);
+            left = 20 + below(180);
+        }
+        if (left > 0)
+            left--;
+        make_line(style);
+        /* The last line may lack its LF, or its end as well. */
+        if (line == lines && length > 1 && percent(25))
+            length = 1 + below((unsigned)length - 1);
+        follow_line();
+        fwrite(text, 1, length, stdout);
+        if (line < lines || percent(50))
+            putchar('\n');
+    }
+    if (fflush(stdout) != 0 || ferror(stdout)) {
+        fputs("generate: output failed\n", stderr);
+        return 1;
+    }
+    return 0;
+}

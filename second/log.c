@@ -1,0 +1,104 @@
+/* Reads and writes the lines of document 01's log, in constant memory. */
+#include "log.h"
+
+#include <string.h>
+
+static const char digits[] = "0123456789ABCDEF";
+
+/* The digit's value, or -1: lower case is malformed too. */
+static int digit_value(char c)
+{
+    const char *found = memchr(digits, c, 16);
+
+    return found == NULL ? -1 : (int)(found - digits);
+}
+
+int log_decode(const char *line, size_t length, struct Frame *f)
+{
+    uint8_t byte[FRAME_HEAD + 255];
+    size_t count = length / 2;
+
+    if (length % 2 != 0 || count < FRAME_HEAD || count > sizeof byte)
+        return 0;
+    for (size_t i = 0; i < count; i++) {
+        int high = digit_value(line[2 * i]), low = digit_value(line[2 * i + 1]);
+
+        if (high < 0 || low < 0)
+            return 0;
+        byte[i] = (uint8_t)(16 * high + low);
+    }
+    if (count != FRAME_HEAD + byte[7])
+        return 0;                                       /* "exactly n combination bytes" */
+    f->operation = byte[0];
+    f->id = byte[1];
+    f->flags = byte[2];
+    f->map = byte[3];
+    f->precedence = (int8_t)(byte[4] < 128 ? byte[4] : byte[4] - 256);
+    f->key = (uint16_t)(256 * byte[5] + byte[6]);
+    f->length = byte[7];
+    memcpy(f->combination, &byte[FRAME_HEAD], f->length);
+    return 1;
+}
+
+/* A line longer than the longest frame is read to its end but not kept. */
+enum Line log_read(FILE *in, struct Frame *f)
+{
+    char line[LONGEST_LINE + 1];
+    size_t length = 0;
+    int c;
+
+    while ((c = getc(in)) != EOF && c != '\n')
+        if (length < sizeof line)
+            line[length++] = (char)c;
+    if (c == EOF && length == 0)
+        return LINE_NONE;                               /* "the last LF may be absent" */
+    return log_decode(line, length, f) ? LINE_FRAME : LINE_MALFORMED;
+}
+
+struct Answer log_malformed(void)
+{
+    struct Answer made = {0, REFUSED_LINE, 0, 0, NO_ID};
+
+    return made;
+}
+
+static void write_line(FILE *out, const uint8_t *byte, size_t count)
+{
+    char line[16];
+    size_t length = 0;
+
+    for (size_t i = 0; i < count; i++) {
+        line[length++] = digits[byte[i] >> 4];
+        line[length++] = digits[byte[i] & 15];
+    }
+    line[length++] = '\n';
+    fwrite(line, 1, length, out);
+}
+
+/* "C0, id, command, error, map, key" */
+void log_write_reply(FILE *out, const struct Reply *reply)
+{
+    uint8_t byte[7] = {0xC0, 0, 0, 0, 0, 0, 0};
+
+    byte[1] = reply->id;
+    byte[2] = reply->command;
+    byte[3] = (uint8_t)reply->error;
+    byte[4] = reply->map;
+    byte[5] = (uint8_t)(reply->key >> 8);
+    byte[6] = (uint8_t)(reply->key & 255);
+    write_line(out, byte, sizeof byte);
+}
+
+/* "A0 done or A1 outstanding, error, map, key, last byte" */
+void log_write_answer(FILE *out, const struct Answer *answer)
+{
+    uint8_t byte[6] = {0xA0, 0, 0, 0, 0, 0};
+
+    byte[0] = (uint8_t)(0xA0 + answer->outstanding);
+    byte[1] = (uint8_t)answer->error;
+    byte[2] = answer->map;
+    byte[3] = (uint8_t)(answer->key >> 8);
+    byte[4] = (uint8_t)(answer->key & 255);
+    byte[5] = answer->last;
+    write_line(out, byte, sizeof byte);
+}

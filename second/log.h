@@ -1,0 +1,26 @@
+/* The log of document 01: lines of upper-case hexadecimal in, replies and answers out. */
+#ifndef LOG_H
+#define LOG_H
+
+#include "arbiter.h"
+
+#include <stdio.h>
+
+#define FRAME_HEAD 8u                                   /* bytes before the combinations */
+#define LONGEST_LINE (2u * (FRAME_HEAD + 255u))         /* characters without the LF */
+
+enum Line { LINE_NONE, LINE_MALFORMED, LINE_FRAME };
+
+/* The next line of the log, of any length and any bytes. LINE_NONE: the log has ended. */
+enum Line log_read(FILE *in, struct Frame *f);
+
+/* 1 if these characters are one frame, which is then stored; 0 if they are malformed. */
+int log_decode(const char *line, size_t length, struct Frame *f);
+
+/* The answer to a malformed line: error 7, map 0, key 0. */
+struct Answer log_malformed(void);
+
+void log_write_reply(FILE *out, const struct Reply *reply);
+void log_write_answer(FILE *out, const struct Answer *answer);
+
+#endif

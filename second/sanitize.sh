@@ -1,0 +1,46 @@
+#!/bin/sh
+# Plays generated logs, damaged logs and random bytes under the address and undefined
+# sanitizers, and compares every output with that of the optimised program.
+cd "$(dirname "$0")" || exit 1
+LC_ALL=C
+export LC_ALL
+: "${CC:=gcc}" "${SEEDS:=10}"
+work=$(mktemp -d) || exit 1
+trap 'rm -rf "$work"' EXIT
+checks="-std=c99 -Wall -Wextra -pedantic -O1 -g"
+checks="$checks -fsanitize=address,undefined -fno-sanitize-recover=all"
+parts="arbiter.c log.c chance.c"
+$CC $checks -o "$work/arbiter2" arbiter2.c $parts &&
+    $CC $checks -o "$work/generate" generate.c $parts &&
+    $CC $checks -o "$work/test" test.c $parts || exit 1
+played=0
+
+# play NAME: $work/log through both programs.
+play() {
+    "$work/arbiter2" <"$work/log" >"$work/checked" && ./arbiter2 <"$work/log" >"$work/plain" &&
+        cmp "$work/checked" "$work/plain" || { echo "FAILED: $1"; exit 1; }
+    played=$((played + 1))
+}
+
+"$work/test" || exit 1
+seed=0
+while [ $seed -lt "$SEEDS" ]; do
+    seed=$((seed + 1))
+    for style in 0 1 2 3 4 5 6 7 8 9 10 11 12; do
+        "$work/generate" $seed 2000 $style >"$work/log" || exit 1
+        ./generate $seed 2000 $style | cmp - "$work/log" || exit 1
+        play "style $style, seed $seed"
+        cp "$work/log" "$work/whole"
+        for odds in 1 30 1000; do
+            ./damage $seed $odds <"$work/whole" >"$work/log"
+            play "style $style, seed $seed, damaged at 1 in $odds"
+        done
+    done
+done
+for style in 0 11 12; do
+    "$work/generate" 1 72000 $style >"$work/log" || exit 1
+    play "style $style, long"
+done
+head -c 5000000 /dev/zero >"$work/log"
+play "one line of NULs"
+echo "sanitize.sh: $played logs played, no difference"

@@ -1,0 +1,354 @@
+/* Tests of the arbiter's C functions: the marked examples M1 to M13, what a log cannot
+   reach (refusals 1 and 5, states not settled) and the sound test. */
+#include "arbiter.h"
+
+#include <stdio.h>
+#include <string.h>
+
+static int passed, failed;
+
+static void check(int holds, const char *what)
+{
+    if (holds) {
+        passed++;
+    } else {
+        failed++;
+        printf("FAILED: %s\n", what);
+    }
+}
+
+static struct Reply record[REQUESTS + 1];
+static struct Replies replies = {record, REQUESTS, 0};
+
+/* One call with a list given as a string of bytes; \0 is no entry here. */
+static struct Answer call(struct Arbiter *a, unsigned operation, unsigned id,
+                          unsigned flags, unsigned map, int precedence, unsigned key,
+                          const char *list)
+{
+    struct Frame f = {0};
+
+    f.operation = (uint8_t)operation;
+    f.id = (uint8_t)id;
+    f.flags = (uint8_t)flags;
+    f.map = (uint8_t)map;
+    f.precedence = (int8_t)precedence;
+    f.key = (uint16_t)key;
+    f.length = (uint8_t)strlen(list);
+    memcpy(f.combination, list, f.length);
+    return arbiter_call(a, &f, &replies);
+}
+
+static int same_answer(struct Answer got, unsigned outstanding, int error, unsigned map,
+                       unsigned key, unsigned last)
+{
+    return got.outstanding == outstanding && got.error == error && got.map == map
+        && got.key == key && got.last == last;
+}
+
+static int same_reply(size_t at, unsigned id, unsigned command, int error, unsigned map,
+                      unsigned key)
+{
+    const struct Reply *got = &record[at];
+
+    return at < replies.count && got->id == id && got->command == command
+        && got->error == error && got->map == map && got->key == key;
+}
+
+/* "Channel 0 key 5 precedence 10; 1 free; 2 and 3 key 6 precedence 3, 3 locked." */
+static void marked_state(struct Arbiter *a)
+{
+    arbiter_fresh(a);
+    a->open_count = 1;
+    a->channel[0].key = 5;
+    a->channel[0].precedence = 10;
+    a->channel[2].key = a->channel[3].key = 6;
+    a->channel[2].precedence = a->channel[3].precedence = 3;
+    a->channel[3].locked = 1;
+}
+
+static void test_marked(void)
+{
+    static const struct {
+        const char *name;
+        int precedence;
+        unsigned length;
+        uint8_t list[16];
+        enum Look look;
+        unsigned chosen;
+    } marked[] = {
+        {"M1", 0, 2, {0x01, 0x02}, LOOK_GRANTED, 0x02},
+        {"M2", 10, 1, {0x01}, LOOK_FAILS, 0},
+        {"M3", 11, 1, {0x01}, LOOK_GRANTED, 0x01},
+        {"M4", 11, 2, {0x01, 0x04}, LOOK_GRANTED, 0x04},
+        {"M5", 11, 2, {0x05, 0x06}, LOOK_GRANTED, 0x06},
+        {"M6", 11, 2, {0x08, 0x04}, LOOK_HELD, 0x08},
+        {"M7", -128, 1, {0x04}, LOOK_FAILS, 0},
+        {"M8", -128, 1, {0x02}, LOOK_GRANTED, 0x02},
+        {"M9", 0, 1, {0x00}, LOOK_GRANTED, 0x00},
+        {"M10", 0, 16, {1, 1, 1, 1, 1, 1, 1, 1, 1, 1, 1, 1, 1, 1, 1, 2}, LOOK_GRANTED, 0x02},
+        {"M13", 0, 0, {0}, LOOK_GRANTED, 0x00}
+    };
+    struct Arbiter a;
+
+    marked_state(&a);
+    check(arbiter_sound(&a), "the marked state is sound");
+    for (size_t i = 0; i < sizeof marked / sizeof *marked; i++) {
+        uint8_t chosen;
+        enum Look look = arbiter_look(&a, marked[i].precedence, marked[i].list,
+                                      marked[i].length, &chosen);
+        struct Arbiter b = a;
+        struct Frame f = {ADCMD_ALLOCATE, 9, IOF_QUICK | ADIOF_NOWAIT, 0, 0, 5, 0, {0}};
+        struct Answer got;
+
+        check(look == marked[i].look && chosen == marked[i].chosen, marked[i].name);
+        f.precedence = (int8_t)marked[i].precedence;
+        f.length = (uint8_t)marked[i].length;
+        memcpy(f.combination, marked[i].list, f.length);
+        got = arbiter_call(&b, &f, &replies);
+        check(replies.count == 0 && (look == LOOK_HELD ? same_answer(got, 1, 0, 0, 5, 255)
+              : look == LOOK_FAILS ? same_answer(got, 0, ADIOERR_ALLOCFAILED, 0, 5, 255)
+              : same_answer(got, 0, 0, marked[i].chosen, 5, 255)), marked[i].name);
+    }
+    check(same_answer(call(&a, ADCMD_ALLOCATE, 9, IOF_QUICK, 0, 11, 7,
+                           "\1\1\1\1\1\1\1\1\1\1\1\1\1\1\1\1\x10"),
+                      0, IOERR_BADLENGTH, 0, 7, 255), "M11");
+
+    marked_state(&a);
+    a.channel[0].key = 1;
+    a.channel[2].key = a.channel[3].key = 2;
+    a.last_key = 65535;
+    check(arbiter_new_key(&a) == 3, "M12");
+    check(same_answer(call(&a, CALL_OPEN, 0, 0, 0, 11, 0, "\1"), 0, 0, 1, 3, 255)
+          && a.last_key == 3, "M12 by OPEN, stealing key 1's channel");
+}
+
+/* Keys used by waiting requests are skipped: at most 69 candidates. */
+static void test_most_candidates(void)
+{
+    struct Arbiter a;
+
+    arbiter_fresh(&a);
+    a.open_count = 1;
+    a.last_key = 65500;
+    for (unsigned c = 0; c < 4; c++)
+        call(&a, ADCMD_ALLOCATE, 0, IOF_QUICK, 0, 1, 65501 + c, "\1\2\4\10");
+    for (unsigned id = 0; id < REQUESTS; id++) {
+        unsigned key = 65505 + id;
+
+        call(&a, ADCMD_ALLOCATE, id, 0, 0, 0, key > 65535 ? key - 65535 : key, "\17");
+    }
+    check(a.waiting.count == REQUESTS && arbiter_sound(&a), "64 wait");
+    check(arbiter_new_key(&a) == 34, "the 69th candidate");
+    call(&a, CALL_ABORT, 40, 0, 0, 0, 0, "");
+    check(arbiter_new_key(&a) == 10, "a key no longer waiting");
+}
+
+/* A call may make 64 replies, and no more. */
+static void test_most_replies(void)
+{
+    struct Arbiter a;
+
+    arbiter_fresh(&a);
+    a.open_count = 1;
+    call(&a, ADCMD_ALLOCATE, 0, IOF_QUICK, 0, 1, 8, "\3");
+    for (unsigned id = 0; id < REQUESTS; id++)
+        call(&a, CMD_WRITE, id, 0, id % 2 + 1, 0, 8, "");
+    memset(record, 0x55, sizeof record);
+    check(same_answer(call(&a, CALL_OPEN, 0, 0, 0, 2, 9, "\3"), 0, 0, 3, 9, 255)
+          && replies.count == REQUESTS, "64 replies");
+    check(same_reply(0, 0, CMD_WRITE, IOERR_ABORTED, 0, 8)
+          && same_reply(31, 62, CMD_WRITE, IOERR_ABORTED, 0, 8)
+          && same_reply(32, 1, CMD_WRITE, IOERR_ABORTED, 0, 8)
+          && same_reply(63, 63, CMD_WRITE, IOERR_ABORTED, 0, 8),
+          "by channel, then oldest first");
+    check(record[64].id == 0x55, "records beyond the number reported are not touched");
+    check(arbiter_sound(&a), "sound after 64 replies");
+}
+
+/* Refusals 1 and 5 change nothing, and 1 comes first. */
+static void test_refusals(void)
+{
+    struct Arbiter a, before;
+
+    marked_state(&a);
+    memcpy(&before, &a, sizeof a);
+    memset(record, 0x55, sizeof record);
+    replies.capacity = REQUESTS - 1;
+    check(same_answer(call(&a, ADCMD_FREE, 200, 0, 1, 0, 5, ""), 0, 5, 0, 5, 255), "5");
+    check(same_answer(call(&a, CALL_OPEN, 0, 0, 0, 0, 5, ""), 0, 5, 0, 5, 255), "5, OPEN");
+    check(same_answer(call(&a, CALL_CLOSE, 0, 0, 0, 0, 5, ""), 0, 5, 0, 5, 255), "5, CLOSE");
+    check(same_answer(call(&a, CALL_ABORT, 0, 0, 0, 0, 5, ""), 0, 5, 0, 5, 255), "5, ABORT");
+    check(same_answer(call(&a, CALL_EVENT, 0, 0, 1, 0, 5, ""), 0, 5, 0, 5, 255), "5, event");
+    check(memcmp(&before, &a, sizeof a) == 0 && replies.count == 0
+          && record[0].id == 0x55, "5 leaves state and replies");
+    a.channel[1].precedence = 1;
+    memcpy(&before, &a, sizeof a);
+    check(same_answer(call(&a, ADCMD_FREE, 200, 0, 1, 0, 5, ""), 0, 1, 0, 5, 255), "1 before 5");
+    replies.capacity = REQUESTS;
+    for (unsigned operation = 0; operation < 256; operation++)
+        check(same_answer(call(&a, operation, 0, 0, 1, 0, 5, ""), 0, 1, 0, 5, 255), "1");
+    check(memcmp(&before, &a, sizeof a) == 0 && record[0].id == 0x55, "1 leaves all");
+}
+
+/* Puts a waiting allocation into the state without settling. */
+static void put_waiting(struct Arbiter *a, unsigned id, int precedence, unsigned key,
+                        unsigned nowait, unsigned combination)
+{
+    struct Request *q = &a->request[id];
+
+    q->command = ADCMD_ALLOCATE;
+    q->precedence = (int8_t)precedence;
+    q->key = (uint16_t)key;
+    q->nowait = (uint8_t)nowait;
+    q->length = 1;
+    q->combination[0] = (uint8_t)combination;
+    a->waiting.id[a->waiting.count++] = (uint8_t)id;
+}
+
+/* A sound state need not be settled: calls that do nothing themselves settle it. */
+static void test_unsettled(void)
+{
+    struct Arbiter a, b;
+
+    marked_state(&a);
+    put_waiting(&a, 20, 11, 8, 0, 0x01);
+    put_waiting(&a, 21, 10, 9, 1, 0x01);
+    put_waiting(&a, 22, -5, 0, 0, 0x02);
+    check(arbiter_sound(&a), "a state not settled is sound");
+
+    b = a;
+    check(same_answer(call(&b, CMD_CLEAR, 0, 0, 0, 0, 0, ""), 0, 0, 0, 0, 255)
+          && replies.count == 4
+          && same_reply(0, 0, CMD_CLEAR, 0, 0, 0)
+          && same_reply(1, 20, ADCMD_ALLOCATE, 0, 1, 8)
+          && same_reply(2, 21, ADCMD_ALLOCATE, ADIOERR_ALLOCFAILED, 0, 9)
+          && same_reply(3, 22, ADCMD_ALLOCATE, 0, 2, 1), "CLEAR settles");
+    b = a;
+    call(&b, CALL_ABORT, 50, 0, 0, 0, 0, "");
+    check(replies.count == 3, "\"not aborted\" settles");
+    b = a;
+    check(same_answer(call(&b, ADCMD_ALLOCATE, 0, ADIOF_NOWAIT, 0, 0, 4, "\1"),
+                      0, ADIOERR_ALLOCFAILED, 0, 4, 255)
+          && replies.count == 4 && same_reply(1, 20, ADCMD_ALLOCATE, 0, 1, 8),
+          "ALLOCATE's -11 settles");
+    b = a;
+    call(&b, CALL_OPEN, 0, 0, 0, 0, 4, "\1");
+    check(replies.count == 0 && memcmp(&a, &b, sizeof a) == 0, "OPEN's -11 does not");
+    call(&b, 99, 0, IOF_QUICK, 0, 0, 4, "");
+    call(&b, CMD_CLEAR, 0, IOF_QUICK, 16, 0, 4, "");
+    call(&b, CALL_EVENT, 0, 0, 16, 0, 4, "");
+    call(&b, CMD_CLEAR, 20, 0, 0, 0, 4, "");
+    check(replies.count == 0 && memcmp(&a, &b, sizeof a) == 0, "refusals do not settle");
+    b = a;
+    b.open_count = 65535;
+    call(&b, CALL_OPEN, 0, 0, 0, 0, 4, "");
+    check(replies.count == 0 && b.waiting.count == 3, "-1 does not settle");
+
+    /* READ's answer is settled before the walk, which aborts that very write. */
+    b = a;
+    call(&b, CMD_WRITE, 30, 0, 1, 0, 5, "");
+    check(same_reply(0, 30, CMD_WRITE, IOERR_ABORTED, 0, 5)
+          && same_reply(1, 20, ADCMD_ALLOCATE, 0, 1, 8), "the walk may end its own call's write");
+    b = a;
+    b.request[30].command = CMD_WRITE;
+    b.request[30].key = 5;
+    b.channel[0].writes.id[0] = 30;
+    b.channel[0].writes.count = 1;
+    check(same_answer(call(&b, CMD_READ, 0, IOF_QUICK, 1, 0, 5, ""), 0, 0, 1, 5, 30)
+          && same_reply(0, 30, CMD_WRITE, IOERR_ABORTED, 0, 5), "READ before the walk");
+
+    /* Held, answered as outstanding, then dropped in the walk of its own call: the
+       channel it also wants goes to a higher one first. */
+    marked_state(&a);
+    put_waiting(&a, 20, 50, 8, 0, 0x02);
+    check(same_answer(call(&a, ADCMD_ALLOCATE, 0, ADIOF_NOWAIT, 0, 40, 9, "\12"),
+                      1, 0, 0, 9, 255)
+          && replies.count == 2
+          && same_reply(0, 20, ADCMD_ALLOCATE, 0, 2, 8)
+          && same_reply(1, 0, ADCMD_ALLOCATE, ADIOERR_ALLOCFAILED, 0, 9),
+          "held, then dropped in its own walk");
+}
+
+/* Each clause of "Sound means" is broken alone. */
+static void test_sound(void)
+{
+    struct Arbiter good, a;
+
+    marked_state(&good);
+    call(&good, ADCMD_LOCK, 1, 0, 4, 0, 6, "");
+    call(&good, CMD_WRITE, 2, 0, 1, 0, 5, "");
+    call(&good, CMD_WRITE, 3, 0, 1, 0, 5, "");
+    call(&good, ADCMD_ALLOCATE, 4, 0, 0, 2, 0, "\1");
+    call(&good, ADCMD_ALLOCATE, 5, 0, 0, 2, 7, "\1\5");
+    check(arbiter_sound(&good), "sound");
+#define UNSOUND(change) \
+    do { a = good; change; check(!arbiter_sound(&a), "not sound: " #change); } while (0)
+#define SOUND(change) \
+    do { a = good; change; check(arbiter_sound(&a), "sound: " #change); } while (0)
+    UNSOUND(a.channel[1].precedence = -1);
+    UNSOUND(a.channel[1].locked = 1);
+    UNSOUND(a.channel[1].stopped = 1);
+    UNSOUND(a.channel[0].key = 0);
+    UNSOUND(a.channel[0].key = 6);
+    UNSOUND(a.channel[0].locked = 2);
+    UNSOUND(a.channel[0].stopped = 2);
+    UNSOUND(a.channel[0].writes.count = 1);
+    UNSOUND(a.channel[0].writes.count = 3);
+    UNSOUND(a.channel[0].writes.count = 65);
+    UNSOUND(a.channel[0].writes.count = 255);
+    UNSOUND(a.channel[0].writes.id[0] = 3);
+    UNSOUND(a.channel[0].writes.id[0] = 64);
+    UNSOUND(a.channel[0].writes.id[0] = 255);
+    UNSOUND(a.channel[0].writes.id[0] = 1);
+    UNSOUND(a.channel[0].writes.id[63] = 2);
+    UNSOUND(a.request[2].map = 1);
+    UNSOUND(a.request[2].nowait = 1);
+    UNSOUND(a.request[2].precedence = 1);
+    UNSOUND(a.request[2].length = 1);
+    UNSOUND(a.request[2].combination[15] = 1);
+    UNSOUND(a.request[2].command = ADCMD_LOCK);
+    UNSOUND(a.request[2].command = 0);
+    UNSOUND(a.request[2].key = 6);
+    UNSOUND(a.channel[2].locked = 0);
+    UNSOUND(a.request[1].key = 5);
+    UNSOUND(a.request[1].map = 0);
+    UNSOUND(a.request[1].map = 6);
+    UNSOUND(a.request[1].map = 0x14);
+    UNSOUND(a.request[1].precedence = 3);
+    UNSOUND(a.locks.count = 0);
+    UNSOUND(a.locks.count = 200);
+    UNSOUND(a.locks.id[1] = 1; a.locks.count = 2);
+    UNSOUND(a.request[4].length = 0);
+    UNSOUND(a.request[4].length = 17);
+    UNSOUND(a.request[4].combination[0] = 16);
+    UNSOUND(a.request[4].combination[1] = 1);
+    UNSOUND(a.request[4].nowait = 2);
+    UNSOUND(a.request[4].map = 1);
+    UNSOUND(a.request[4].precedence = 1);
+    UNSOUND(a.waiting.id[0] = 5; a.waiting.id[1] = 5);
+    UNSOUND(a.waiting.count = 1);
+    UNSOUND(a.request[6].key = 1);
+    UNSOUND(a.request[6].map = 1);
+    UNSOUND(a.request[63].combination[7] = 1);
+    UNSOUND(a.request[0].nowait = 1);
+    SOUND(a.channel[0].locked = 1);
+    SOUND(a.channel[0].stopped = 1);
+    SOUND(a.request[1].map = 0xC);
+    SOUND(a.open_count = 0);
+    SOUND(a.last_key = 65535);
+    SOUND(a.request[4].nowait = 1; a.request[4].combination[0] = 0);
+    SOUND(a.waiting.id[0] = 5; a.waiting.id[1] = 4);
+    SOUND(a.request[4].precedence = 127);
+}
+
+int main(void)
+{
+    test_marked();
+    test_most_candidates();
+    test_most_replies();
+    test_refusals();
+    test_unsettled();
+    test_sound();
+    printf("test.c: %d passed, %d failed\n", passed, failed);
+    return failed != 0;
+}

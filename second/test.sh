@@ -1,0 +1,118 @@
+#!/bin/sh
+# Tests arbiter2 on the paper's sample log, on hand-worked cases and on malformed lines.
+cd "$(dirname "$0")" || exit 1
+LC_ALL=C
+export LC_ALL
+work=$(mktemp -d) || exit 1
+trap 'rm -rf "$work"' EXIT
+passed=0
+failed=0
+
+# check NAME: plays $work/log and compares the output with $work/expected.
+check() {
+    ./arbiter2 <"$work/log" >"$work/got"
+    if [ $? -eq 0 ] && cmp -s "$work/got" "$work/expected"; then
+        passed=$((passed + 1))
+    else
+        failed=$((failed + 1))
+        echo "FAILED: $1"
+        diff "$work/expected" "$work/got" | head -20
+    fi
+}
+
+cp sample.log "$work/log"
+cp sample.out "$work/expected"
+check "sample.log"
+
+# A case has document 01's two columns: a line with text at its start is a frame and its
+# first output; an indented one is more output; # is a remark.
+for case in cases/*.txt; do
+    awk '/^[^# ]/ { print $1 }' "$case" >"$work/log"
+    awk '/^[^# ]/ { print $2 } /^ / { print $1 }' "$case" >"$work/expected"
+    check "$case"
+done
+
+# Malformed lines: each is answered 7, and the next line is read as usual.
+bad=A007000000FF
+zeros=$(awk 'BEGIN { for (i = 0; i < 510; i++) printf "0" }')
+
+# malformed NAME FORMAT: the line is written by printf, between two good ones.
+malformed() {
+    { echo F000000000000000; printf "$2\n"; echo F000000000000000; } >"$work/log"
+    printf 'A000000001FF\n%s\nA000000002FF\n' $bad >"$work/expected"
+    check "malformed: $1"
+}
+malformed "empty" ''
+malformed "one digit" 'F'
+malformed "odd" 'F00000000000000'
+malformed "odd, one too many" 'F0000000000000000'
+malformed "seven bytes" 'F0000000000000'
+malformed "lower case" 'f000000000000000'
+malformed "bad character" 'G000000000000000'
+malformed "colon" ':000000000000000'
+malformed "at sign" '@000000000000000'
+malformed "slash" 'F00000000000000/'
+malformed "CR" 'F000000000000000\r'
+malformed "space before" ' F000000000000000'
+malformed "space between" 'F000 000000000000'
+malformed "NUL" 'F0\00000000000000000'
+malformed "NUL at the end" 'F000000000000000\000'
+malformed "high byte" '\3600000000000000000'
+malformed "one combination missing" 'F00000000000000201'
+malformed "one combination too many" 'F00000000000000000'
+malformed "527 characters" "F0000000000000FF${zeros}0"
+malformed "528 characters" "F0000000000000FF${zeros}00"
+
+# The longest good line: 255 combinations are well formed, and -4.
+echo "F0000000000000FF$zeros" >"$work/log"
+echo A0FC000000FF >"$work/expected"
+check "526 characters"
+
+: >"$work/log"
+: >"$work/expected"
+check "a log of no bytes has no line"
+
+printf 'F000000000000000\nF000000000000000' >"$work/log"
+printf 'A000000001FF\nA000000002FF\n' >"$work/expected"
+check "the last LF may be absent"
+
+printf 'F000000000000000\nF0000000000' >"$work/log"
+printf 'A000000001FF\n%s\n' $bad >"$work/expected"
+check "the log ends in the middle of a line"
+
+printf '\n\n' >"$work/log"
+printf '%s\n%s\n' $bad $bad >"$work/expected"
+check "two empty lines"
+
+# Eight megabytes without an LF are one malformed line.
+{ dd if=/dev/zero bs=1048576 count=8 2>/dev/null; printf '\nF000000000000000\n'; } >"$work/log"
+printf '%s\nA000000001FF\n' $bad >"$work/expected"
+check "a line of megabytes"
+
+# 65,535 opens, each with a new key; then -1. After a CLOSE the keys come round. Channel 0
+# has key 1, taken by its number, so 2 is the next one.
+awk 'BEGIN {
+    for (i = 1; i <= 65535; i++) print "F000000000000000"
+    print "F000000000000000"; print "200001000000010101"
+    print "F100000000000000"; print "F000000000000000"; print "F000000000000900"
+}' >"$work/log"
+awk 'BEGIN {
+    for (i = 1; i <= 65535; i++) printf "A00000%04XFF\n", i
+    print "A0FF000000FF"; print "A000010001FF"
+    print "A000000000FF"; print "A000000002FF"; print "A0FF000009FF"
+}' >"$work/expected"
+check "the open count's end and the keys' round"
+
+# The generator: same seed, same log; another seed, another log.
+./generate 7 500 >"$work/one"
+./generate 7 500 >"$work/two"
+./generate 8 500 >"$work/three"
+if cmp -s "$work/one" "$work/two" && ! cmp -s "$work/one" "$work/three"; then
+    passed=$((passed + 1))
+else
+    failed=$((failed + 1))
+    echo "FAILED: generate is not a function of its seed"
+fi
+
+echo "test.sh: $passed passed, $failed failed"
+[ $failed -eq 0 ]
