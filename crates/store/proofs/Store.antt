@@ -9,6 +9,7 @@ use lib.Dec.{T, T-not, not-T, eqb, leb, ltb, eqb→eq, eqb-refl, leb→le, ltb�
 use lib.ListN.{length, getD, take, drop, replicate, length-append, length-map, length-replicate}
 use lib.Seq.{take-at}
 use Rattle.memory.specs.Splice.{splice, block}
+use Rattle.queue.specs.declared.Queue.{Queue}
 use Rattle.queue.specs.Queue.{queueOf, listOf}
 use Rattle.queue.proofs.Laws.{listOf-queueOf}
 use Rattle.channel.specs.Channel.{channelOf, channelIn}
@@ -18,10 +19,10 @@ use Rattle.machine.specs.Lists.{if_then_else_, any, all, among, distinct}
 use Rattle.machine.specs.State.{Channel as ChannelM, Lock, Request, State as StateM}
 use Rattle.machine.specs.Sound.{sound, soundRequest, writesOf, ids}
 use Rattle.machine.proofs.Tests.{if-elim, and-left, and-right, nor-left, nor-right, nor-both, test-false, eqb-flip}
-use Rattle.machine.proofs.Lists.{among-append}
+use Rattle.machine.proofs.Lists.{pigeon}
 use Rattle.machine.proofs.Sound.{Parts, parts, unparts}
 use Rattle.store.specs.declared.State.{State}
-use Rattle.store.specs.Store.{structOf, Item, writeItem, lockItem, waitItem, writeItems, items, lookup, entries, tableOf, lockIn, requestIn, stateIn, Held}
+use Rattle.store.specs.Store.{structOf, Item, writeItem, lockItem, waitItem, writeItems, items, lookup, entries, tableOf, lockIn, requestIn, stateIn, Held, Each, Small}
 use Rattle.store.proofs.Table.{keys, Long, lookup-there, lookup-here, length-entries, block-entries}
 
 -- ---- items
@@ -168,10 +169,6 @@ lookup-split x (y ∷ pre) post t =
     rw (test-false (eqb (x .id) (y .id)) (nor-left (eqb (x .id) (y .id)) (among (x .id) (keys pre)) t))
     (lookup-split x pre post (nor-right (eqb (x .id) (y .id)) (among (x .id) (keys pre)) t))
 
-abbrev pub Each {ℓ} : {A : Type ℓ} → (A → Type 0) → List A → Type 0
-Each P [] = Unit {0}
-Each P (x ∷ xs) = P x × Each P xs
-
 module _ {ℓ} {A : Type ℓ} (f : A → Item) where
   pub lookup-each : (pre : List Item) (bs : List A) (post : List Item) → T (distinct (keys (pre ++ map f bs ++ post)))
       → Each (λ (a : A). lookup (f a .id) (pre ++ map f bs ++ post) ≡ f a .entry) bs
@@ -271,3 +268,49 @@ held-four {st} {tb} h = length-map (st .channels) channelIn ∙ h .four
 -- after a step: the struct and the table of another sound state
 pub held-next : (s : StateM) (st : State) (tb : List ℕ) → Parts s → length (s .channels) ≡ 4 → st ≡ structOf s → tb ≡ tableOf s → Held st tb × (stateIn st tb ≡ s)
 held-next s st tb p f a b = (rw (a, b) (held-of s p f), rw (a, b) (stateIn-of s p))
+
+-- ---- what a state that is held gives the code
+
+map-ids : (tb is : List ℕ) → map (λ (r : Request). r .id) (map (requestIn tb) is) ≡ is
+map-ids tb [] = refl
+map-ids tb (i ∷ is) = ap (λ (l : List ℕ). i ∷ l) (map-ids tb is)
+
+map-lock-ids : (tb is : List ℕ) → map (λ (l : Lock). l .id) (map (lockIn tb) is) ≡ is
+map-lock-ids tb [] = refl
+map-lock-ids tb (i ∷ is) = ap (λ (l : List ℕ). i ∷ l) (map-lock-ids tb is)
+
+pub ids-few : (s : StateM) → Parts s → length (writesOf (s .channels)) + length (s .locks) + length (s .waiting) ≤ 64
+unfolding ids
+ids-few s p =
+    let h = pigeon 64 (ids s) (p .apart) (p .small) in
+    simp (length-append, length-map) at h
+
+module _ {st : State} {tb : List ℕ} (h : Held st tb) where
+  pub held-length : length tb ≡ 1472
+  held-length = ap length (h .table) ∙ length-tableOf (stateIn st tb) (parts-long (stateIn st tb) (held-parts h))
+
+  pub held-waiting : st .waiting ≡ queueOf (listOf (st .waiting))
+  held-waiting = ap (λ (x : State). x .waiting) (h .struct) ∙ ap queueOf (map-ids tb (listOf (st .waiting)))
+
+  pub held-locks : st .locks ≡ queueOf (listOf (st .locks))
+  held-locks = ap (λ (x : State). x .locks) (h .struct) ∙ ap queueOf (map-lock-ids tb (listOf (st .locks)))
+
+  pub waiting-small : Small (listOf (st .waiting))
+  waiting-small = rw (map-ids tb (listOf (st .waiting))) at (wait-ids (stateIn st tb) (held-parts h))
+
+  pub locks-small : Small (listOf (st .locks))
+  locks-small = rw (map-lock-ids tb (listOf (st .locks))) at (lock-ids (stateIn st tb) (held-parts h))
+
+  pub waiting-count : (st .waiting .n ≡ length (listOf (st .waiting))) × (st .waiting .n ≤ 64)
+  waiting-count =
+      let e = ap (λ (x : Queue). x .n) held-waiting in
+      let f = ids-few (stateIn st tb) (held-parts h) in
+      let g : length (stateIn st tb .waiting) ≡ length (listOf (st .waiting)) = length-map (listOf (st .waiting)) (requestIn tb) in
+      (e, omega arith)
+
+  pub locks-count : (st .locks .n ≡ length (listOf (st .locks))) × (st .locks .n ≤ 64)
+  locks-count =
+      let e = ap (λ (x : Queue). x .n) held-locks in
+      let f = ids-few (stateIn st tb) (held-parts h) in
+      let g : length (stateIn st tb .locks) ≡ length (listOf (st .locks)) = length-map (listOf (st .locks)) (lockIn tb) in
+      (e, omega arith)

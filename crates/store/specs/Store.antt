@@ -8,8 +8,9 @@
 --   tableOf s         the table of a state: 64 entries
 --   lockIn, requestIn the lock and the waiting request that an entry of a table holds
 --   stateIn st tb     the state that a struct and a table hold
+--   Each P xs, Small is   each element has the property; each id is one of the table's
 --   Held st tb        they hold a sound state with four channels, and are the ones that stand for it
-use Prim.Native.Nat.{ℕ, zero, suc}
+use Prim.Native.Nat.{ℕ, zero, suc, _<_}
 use mathlib.Core.Path.{_≡_}
 use mathlib.Core.Bool.{Bool, true, false}
 use mathlib.Core.List.{List, [], _∷_, _++_, map}
@@ -87,6 +88,13 @@ stateIn st tb =
       opens = st .opens;
       last = st .last;
     }
+
+abbrev pub Each {ℓ} : {A : Type ℓ} → (A → Type 0) → List A → Type 0
+Each P [] = Unit {0}
+Each P (x ∷ xs) = P x × Each P xs
+
+abbrev pub Small : List ℕ → Type 0
+Small is = Each (λ i. i < 64) is
 
 pub record Held (st : State) (tb : List ℕ) : Type 0 where
   pub four : length (st .channels) ≡ 4
