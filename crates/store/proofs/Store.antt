@@ -22,8 +22,8 @@ use Rattle.machine.proofs.Tests.{if-elim, and-left, and-right, nor-left, nor-ri
 use Rattle.machine.proofs.Lists.{pigeon}
 use Rattle.machine.proofs.Sound.{Parts, parts, unparts}
 use Rattle.store.specs.declared.State.{State}
-use Rattle.store.specs.Store.{structOf, Item, writeItem, lockItem, waitItem, writeItems, items, lookup, entries, tableOf, lockIn, requestIn, stateIn, Held, Each, Small}
-use Rattle.store.proofs.Table.{keys, Long, lookup-there, lookup-here, length-entries, block-entries}
+use Rattle.store.specs.Store.{structOf, Item, writeItem, lockItem, waitItem, writeItems, items, lookup, entries, tableOf, lockIn, requestIn, stateIn, Held, Each, Small, keys, Long, Good}
+use Rattle.store.proofs.Table.{lookup-there, lookup-here, length-entries, block-entries}
 
 -- ---- items
 
@@ -209,10 +209,10 @@ waits-in s g [] h m = refl
 waits-in s g (r ∷ rs) h m = ap₂ _∷_ (request-in (tableOf s) r (block-tableOf s (r .id) g (m .0) ∙ h .0)) (waits-in s g rs (h .1) (m .1))
 
 module _ (s : StateM) (p : Parts s) where
-  apart-items : T (distinct (keys (items s)))
+  pub apart-items : T (distinct (keys (items s)))
   apart-items = rw (keys-items s) (p .apart)
 
-  small-ids : Each (λ (i : ℕ). i < 64) (ids s)
+  pub small-ids : Each (λ (i : ℕ). i < 64) (ids s)
   small-ids = small-each (ids s) (p .small)
 
   pub lock-entries : Each (λ (l : Lock). lookup (l .id) (items s) ≡ lockEntry l) (s .locks)
@@ -314,3 +314,8 @@ module _ {st : State} {tb : List ℕ} (h : Held st tb) where
       let f = ids-few (stateIn st tb) (held-parts h) in
       let g : length (stateIn st tb .locks) ≡ length (listOf (st .locks)) = length-map (listOf (st .locks)) (lockIn tb) in
       (e, omega arith)
+
+-- ---- Good
+
+pub good-of : (s : StateM) → Parts s → Good (items s)
+good-of s p = record { apart = apart-items s p; small = rw (keys-items s) (small-ids s p); long = parts-long s p }

@@ -13,17 +13,9 @@ use Rattle.memory.specs.Splice.{splice, block}
 use Rattle.table.specs.Entry.{idle}
 use Rattle.machine.specs.Lists.{if_then_else_, any, among}
 use Rattle.machine.proofs.Tests.{if-elim, by-test, test-true, test-false, eqb-false, eqb-flip, nor-left, nor-right}
-use Rattle.store.specs.Store.{Item, lookup, entries}
-
-abbrev pub keys : List Item → List ℕ
-keys xs = map (λ x. x .id) xs
+use Rattle.store.specs.Store.{Item, lookup, entries, keys, Long}
 
 -- ---- lookup
-
--- every entry is 23 bytes long
-abbrev pub Long : List Item → Type 0
-Long [] = Unit {0}
-Long (x ∷ xs) = (length (x .entry) ≡ 23) × Long xs
 
 pub lookup-long : (i : ℕ) (xs : List Item) → Long xs → length (lookup i xs) ≡ 23
 unfolding lookup

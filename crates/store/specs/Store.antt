@@ -3,6 +3,7 @@
 --
 --   structOf s        the struct of a state: its channels, the ids of its locks and waiting requests, its two numbers
 --   Item, items s     the outstanding ids, each with the bytes of its entry: writes by channel, locks, waiting requests
+--   keys xs, Long xs, Good xs   the ids of items; each entry is 23 bytes; no id stands twice, and all fit the table
 --   lookup i xs       the entry of id i: that of its item, and all 0 where it has none
 --   entries n i xs    the entries of the n ids from i on
 --   tableOf s         the table of a state: 64 entries
@@ -20,7 +21,7 @@ use Rattle.queue.specs.Queue.{queueOf, listOf}
 use Rattle.channel.specs.Channel.{channelOf, channelIn}
 use Rattle.memory.specs.Splice.{block}
 use Rattle.table.specs.Entry.{idle, writeEntry, lockEntry, waitEntry, keyIn, listIn}
-use Rattle.machine.specs.Lists.{if_then_else_}
+use Rattle.machine.specs.Lists.{if_then_else_, distinct}
 use Rattle.machine.specs.State.{Channel as ChannelM, Lock, Request, State as StateM}
 use Rattle.machine.specs.Sound.{sound}
 use Rattle.store.specs.declared.State.{State}
@@ -55,6 +56,24 @@ writeItems (c ∷ cs) = map (writeItem (c .key)) (c .writes) ++ writeItems cs
 unfoldable pub items : StateM → List Item
 items s = writeItems (s .channels) ++ map lockItem (s .locks) ++ map waitItem (s .waiting)
 
+abbrev pub Each {ℓ} : {A : Type ℓ} → (A → Type 0) → List A → Type 0
+Each P [] = Unit {0}
+Each P (x ∷ xs) = P x × Each P xs
+
+abbrev pub Small : List ℕ → Type 0
+Small is = Each (λ i. i < 64) is
+
+abbrev pub keys : List Item → List ℕ
+keys xs = map (λ x. x .id) xs
+
+abbrev pub Long : List Item → Type 0
+Long xs = Each (λ x. length (x .entry) ≡ 23) xs
+
+pub record Good (xs : List Item) : Type 0 where
+  pub apart : T (distinct (keys xs))
+  pub small : Small (keys xs)
+  pub long : Long xs
+
 unfoldable pub lookup : ℕ → List Item → List ℕ
 lookup i [] = idle
 lookup i (x ∷ xs) = if eqb i (x .id) then x .entry else lookup i xs
@@ -88,13 +107,6 @@ stateIn st tb =
       opens = st .opens;
       last = st .last;
     }
-
-abbrev pub Each {ℓ} : {A : Type ℓ} → (A → Type 0) → List A → Type 0
-Each P [] = Unit {0}
-Each P (x ∷ xs) = P x × Each P xs
-
-abbrev pub Small : List ℕ → Type 0
-Small is = Each (λ i. i < 64) is
 
 pub record Held (st : State) (tb : List ℕ) : Type 0 where
   pub four : length (st .channels) ≡ 4
