@@ -11,9 +11,10 @@ use lib.ListN.{length, take, drop, length-append, length-replicate}
 use lib.Seq.{take-at, drop-at, take-append-add, drop-append-add, drop-drop}
 use Rattle.memory.specs.Splice.{splice, block}
 use Rattle.table.specs.Entry.{idle}
-use Rattle.machine.specs.Lists.{if_then_else_, any, among}
-use Rattle.machine.proofs.Tests.{if-elim, by-test, test-true, test-false, eqb-false, eqb-flip, nor-left, nor-right}
-use Rattle.store.specs.Store.{Item, lookup, entries, keys, Long}
+use Rattle.machine.specs.Lists.{if_then_else_, any, among, distinct}
+use Rattle.machine.proofs.Tests.{if-elim, by-test, test-true, test-false, eqb-false, eqb-flip, nor-left, nor-right, nor-both, and-left, and-right}
+use Rattle.machine.proofs.Lists.{Sub, end, skip, take as both, sub-refl, sub-map, sub-distinct}
+use Rattle.store.specs.Store.{Item, lookup, entries, keys, Long, Each, Small, Good}
 
 -- ---- lookup
 
@@ -142,3 +143,50 @@ module _ {x : Item} {xs ys : List Item} (ins : Ins x xs ys) (small : x .id < 64)
       entries-splice 64 (x .id) 0 ys zs (z .entry) small long l
       (rw (zero-add, ← e) (lookup-same other (rw e new)))
       (λ k h. lookup-other other k (rw e (rw zero-add at h)) ∙ sym (lookup-other ins k (rw zero-add at h)))
+
+-- ---- good items
+
+sub-each {ℓ} : {A : Type ℓ} (P : A → Type 0) {xs ys : List A} → Sub xs ys → Each P ys → Each P xs
+sub-each P end e = tt
+sub-each P (skip h) e = sub-each P h (e .1)
+sub-each P (both h) e = (e .0, sub-each P h (e .1))
+
+pub good-sub : {xs ys : List Item} → Sub xs ys → Good ys → Good xs
+good-sub h g =
+    record {
+      apart = sub-distinct (sub-map (λ x. x .id) h) (g .apart);
+      small = sub-each (λ i. i < 64) (sub-map (λ x. x .id) h) (g .small);
+      long = sub-each (λ x. length (x .entry) ≡ 23) h (g .long);
+    }
+
+pub ins-sub : {x : Item} {xs ys : List Item} → Ins x xs ys → Sub xs ys
+ins-sub (here {xs = xs}) = skip (sub-refl xs)
+ins-sub (there h) = both (ins-sub h)
+
+ins-among : {x : Item} {xs ys : List Item} → Ins x xs ys → (k : ℕ) → T (not (among k (keys ys))) → (x .id ≡ k → ⊥)
+unfolding among any
+ins-among {x} (here {xs = xs}) k t e = T-not (eqb k (x .id)) (nor-left (eqb k (x .id)) (among k (keys xs)) t) (rw e (eqb-refl k))
+ins-among (there {y = y} {ys = ys} h) k t e = ins-among h k (nor-right (eqb k (y .id)) (among k (keys ys)) t) e
+
+pub ins-new : {x : Item} {xs ys : List Item} → Ins x xs ys → T (distinct (keys ys)) → T (not (among (x .id) (keys xs)))
+unfolding among any distinct
+ins-new {x} (here {xs = xs}) d = and-left (not (among (x .id) (keys xs))) (distinct (keys xs)) d
+ins-new {x} (there {y = y} {xs = xs} {ys = ys} h) d =
+    nor-both (eqb (x .id) (y .id)) (among (x .id) (keys xs))
+    (not-T (eqb (x .id) (y .id)) (λ t. ins-among h (y .id) (and-left (not (among (y .id) (keys ys))) (distinct (keys ys)) d) (eqb→eq (x .id) (y .id) t)))
+    (ins-new h (and-right (not (among (y .id) (keys ys))) (distinct (keys ys)) d))
+
+pub ins-small : {x : Item} {xs ys : List Item} → Ins x xs ys → Small (keys ys) → x .id < 64
+ins-small here s = s .0
+ins-small (there h) s = ins-small h (s .1)
+
+module _ {x : Item} {xs ys : List Item} (ins : Ins x xs ys) (g : Good ys) where
+  pub entry-added : splice (entries 64 0 xs) (x .id * 23) (x .entry) ≡ entries 64 0 ys
+  entry-added = table-add ins (ins-small ins (g .small)) (ins-new ins (g .apart)) (g .long)
+
+  pub entry-removed : splice (entries 64 0 ys) (x .id * 23) idle ≡ entries 64 0 xs
+  entry-removed = table-remove ins (ins-small ins (g .small)) (ins-new ins (g .apart)) (g .long)
+
+  pub entry-replaced : {z : Item} {zs : List Item} → Ins z xs zs → z .id ≡ x .id → length (z .entry) ≡ 23
+      → splice (entries 64 0 ys) (x .id * 23) (z .entry) ≡ entries 64 0 zs
+  entry-replaced = table-replace ins (ins-small ins (g .small)) (ins-new ins (g .apart)) (g .long)
