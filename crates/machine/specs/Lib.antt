@@ -14,4 +14,7 @@ pub mod Call
 pub mod Log
 pub mod Machine
 pub mod Text
+pub mod Marked
+pub mod Drawn
+pub mod Told
 pub mod Sample
