@@ -1,10 +1,15 @@
--- Tests.
+-- What a test says: each law turns a test that passes, or does not, into the facts that other proofs use. The tables of
+-- examples are named here so that they are computed before any law is proved: a wrong definition is told by an example.
 -- Assumes nothing.
 use Prim.Native.Nat.{ℕ}
 use mathlib.Core.Path.{_≡_, refl, subst}
 use mathlib.Core.Bool.{Bool, true, false, not, _&&_, _||_}
 use lib.Dec.{T, eqb, eqb→eq, not-T, eqb-refl}
 use Rattle.machine.specs.Lists.{if_then_else_}
+use Rattle.machine.specs.Marked.{marked}
+use Rattle.machine.specs.Drawn.{drawn}
+use Rattle.machine.specs.Told.{commands-told}
+use Rattle.machine.specs.Sample.{sample-says}
 
 -- tests
 pub if-elim {ℓ κ} : {A : Type ℓ} (P : A → Type κ) (b : Bool) {x y : A} → (T b → P x) → (T (not b) → P y) → P (if b then x else y)
