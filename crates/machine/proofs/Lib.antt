@@ -5,6 +5,7 @@ pub mod Choosing
 pub mod Granting
 pub mod Settling
 pub mod Refusals
+pub mod Allocating
 pub mod Sound
 pub mod Keeping
 pub mod KeepingSettle

@@ -1,16 +1,19 @@
 -- Maps.
 -- Assumes nothing.
-use Prim.Native.Nat.{ℕ, zero, suc, _<_, _+_, _*_, _%_, _^_}
-use mathlib.Core.Path.{_≡_, refl, ap, ap₂, _∙_}
+use Prim.Native.Nat.{ℕ, zero, suc, _<_, _+_, _*_, _/_, _%_, _^_}
+use mathlib.Core.Path.{_≡_, refl, ap, ap₂, sym, _∙_}
+use mathlib.Core.Logic.{_↔_}
 use mathlib.Core.Bool.{Bool, true, false, not, _&&_, _||_}
 use mathlib.Core.List.{List, [], _∷_, map}
+use native.Mathlib.Nat.{div-div-eq-div-mul, pow-succ'}
 use native.Mathlib.Omega.{arith}
 use lib.Dec.{T, eqb, eqb→eq, T-not}
 use lib.ListN.{length}
 use Rattle.machine.specs.Lists.{if_then_else_, all}
 use Rattle.machine.specs.State.{Channel}
 use Rattle.machine.specs.Maps.{odd, half, named, bit, lowest, minus, meets, change, at}
-use Rattle.machine.proofs.Tests.{if-elim, and-left, and-right, and-both, or-mono, by-test, test-true, test-false, nor-left, nor-right}
+use Rattle.machine.specs.Rule.{channel, Names}
+use Rattle.machine.proofs.Tests.{if-elim, and-left, and-right, and-both, or-named, or-from, or-mono, by-test, test-true, test-false, nor-left, nor-right}
 
 -- a test that implies another does so of all channels named
 pub named-mono : (p q : Channel → Bool) (m : ℕ) (cs : List Channel) → ((c : Channel) → T (p c) → T (q c)) → T (named p m cs) → T (named q m cs)
@@ -116,3 +119,44 @@ apart-meets q m o (c ∷ cs) t u =
     go true false d h k = refl
     go true true true h k = absurd h
     go true true false h k = absurd k
+
+-- ---- named and change, by the bits of the map
+
+pub names-head : (m : ℕ) → Names m 0 ↔ T (odd m)
+unfolding odd
+names-head m = (λ n. let e : m % 2 ≡ 1 = omega arith in rw e tt, λ t. let e : m % 2 ≡ 1 = eqb→eq (m % 2) 1 t in omega arith)
+
+pub names-tail : (m i : ℕ) → m / 2 ^ suc i % 2 ≡ half m / 2 ^ i % 2
+unfolding half
+names-tail m i = rw (pow-succ' 2 i, div-div-eq-div-mul m 2 (2 ^ i)) refl
+
+pub named-says : (p : Channel → Bool) (m : ℕ) (cs : List Channel) → T (named p m cs)
+    → (i : ℕ) → i < length cs → Names m i → T (p (channel cs i))
+unfolding named
+named-says p m [] t i h n = absurd (omega arith)
+named-says p m (c ∷ cs) t zero h n = or-named (odd m) (p c) (and-left (not (odd m) || p c) (named p (half m) cs) t) (names-head m .0 n)
+named-says p m (c ∷ cs) t (suc i) h n =
+    named-says p (half m) cs (and-right (not (odd m) || p c) (named p (half m) cs) t) i (omega arith) (sym (names-tail m i) ∙ n)
+
+pub named-makes : (p : Channel → Bool) (m : ℕ) (cs : List Channel)
+    → ((i : ℕ) → i < length cs → Names m i → T (p (channel cs i))) → T (named p m cs)
+unfolding named
+named-makes p m [] h = tt
+named-makes p m (c ∷ cs) h =
+    and-both (not (odd m) || p c) (named p (half m) cs)
+    (or-from (odd m) (p c) (λ o. h 0 (omega arith) (names-head m .1 o)))
+    (named-makes p (half m) cs (λ i l n. h (suc i) (omega arith) (names-tail m i ∙ n)))
+
+pub change-named : (f : Channel → Channel) (m : ℕ) (cs : List Channel) (i : ℕ) → i < length cs → Names m i
+    → channel (change f m cs) i ≡ f (channel cs i)
+unfolding change
+change-named f m [] i h n = absurd (omega arith)
+change-named f m (c ∷ cs) zero h n = rw (test-true (odd m) (names-head m .0 n)) refl
+change-named f m (c ∷ cs) (suc i) h n = change-named f (half m) cs i (omega arith) (sym (names-tail m i) ∙ n)
+
+pub change-unnamed : (f : Channel → Channel) (m : ℕ) (cs : List Channel) (i : ℕ) → (Names m i → ⊥)
+    → channel (change f m cs) i ≡ channel cs i
+unfolding change
+change-unnamed f m [] i n = refl
+change-unnamed f m (c ∷ cs) zero n = if-elim (λ (d : Channel). d ≡ c) (odd m) (λ o. absurd (n (names-head m .1 o))) (λ _. refl)
+change-unnamed f m (c ∷ cs) (suc i) n = change-unnamed f (half m) cs i (λ k. n (names-tail m i ∙ k))

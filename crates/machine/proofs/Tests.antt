@@ -33,6 +33,10 @@ pub or-named : (a b : Bool) → T (not a || b) → T a → T b
 or-named true b t s = t
 or-named false b t s = absurd s
 
+pub or-from : (a b : Bool) → (T a → T b) → T (not a || b)
+or-from true b f = f tt
+or-from false b f = tt
+
 pub or-mono : (a b d : Bool) → (T b → T d) → T (not a || b) → T (not a || d)
 or-mono true b d f t = f t
 or-mono false b d f t = tt

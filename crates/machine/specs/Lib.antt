@@ -3,6 +3,7 @@ pub mod Lists
 pub mod State
 pub mod Maps
 pub mod Choosing
+pub mod Rule
 pub mod Granting
 pub mod Commands
 pub mod Allocating
