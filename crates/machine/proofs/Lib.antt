@@ -2,11 +2,11 @@ pub mod Tests
 pub mod Lists
 pub mod Maps
 pub mod Choosing
+pub mod Sound
 pub mod Granting
 pub mod Settling
 pub mod Refusals
 pub mod Allocating
-pub mod Sound
 pub mod Keeping
 pub mod KeepingSettle
 pub mod KeepingCalls

@@ -3,8 +3,8 @@ pub mod Lists
 pub mod State
 pub mod Maps
 pub mod Choosing
-pub mod Rule
 pub mod Granting
+pub mod Rule
 pub mod Commands
 pub mod Allocating
 pub mod Settling
