@@ -1,4 +1,5 @@
--- Lists.
+-- Why lists of ids stay sound: a sublist, or one id more that was not there, of distinct numbers is distinct; and distinct
+-- numbers below n are at most n.
 -- Assumes nothing.
 use Prim.Native.Nat.{ℕ, zero, suc, _+_, _≤_}
 use mathlib.Core.Path.{_≡_, refl, ap}
@@ -66,6 +67,15 @@ among-append i (x ∷ xs) ys = go (eqb i x) (among-append i xs ys)
     go : (b : Bool) → among i (xs ++ ys) ≡ (among i xs || among i ys) → (b || among i (xs ++ ys)) ≡ ((b || among i xs) || among i ys)
     go true e = refl
     go false e = e
+
+-- what passes a test that each element of a list passes
+pub among-all : (p : ℕ → Bool) (x : ℕ) (ys : List ℕ) → T (all p ys) → T (among x ys) → T (p x)
+unfolding among any all
+among-all p x [] t u = absurd u
+among-all p x (y ∷ ys) t u =
+    by-test (eqb x y)
+    (λ e. rw (eqb→eq x y e) (and-left (p y) (all p ys) t))
+    (λ n. among-all p x ys (and-right (p y) (all p ys) t) (rw (test-false (eqb x y) n) at u))
 
 pub sub-trans {ℓ} : {A : Type ℓ} {xs ys zs : List A} → Sub xs ys → Sub ys zs → Sub xs zs
 sub-trans h end = h
