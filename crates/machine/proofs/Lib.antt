@@ -7,6 +7,7 @@ pub mod Granting
 pub mod Settling
 pub mod Refusals
 pub mod Allocating
+pub mod Resting
 pub mod Keeping
 pub mod KeepingSettle
 pub mod KeepingCalls

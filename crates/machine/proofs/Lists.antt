@@ -214,3 +214,22 @@ keep-twice q (x ∷ xs) =
     by-test (q x)
     (λ t. rw (test-true (q x) t, test-true (q x) t) (ap (λ ys. x ∷ ys) (keep-twice q xs)))
     (λ t. rw (test-false (q x) t) (keep-twice q xs))
+
+pub keep-none {ℓ} : {A : Type ℓ} (q : A → Bool) (xs : List A) → T (all (λ x. not (q x)) xs) → keep q xs ≡ []
+unfolding keep all
+keep-none q [] t = refl
+keep-none q (x ∷ xs) t =
+    rw (test-false (q x) (and-left (not (q x)) (all (λ y. not (q y)) xs) t)) (keep-none q xs (and-right (not (q x)) (all (λ y. not (q y)) xs) t))
+
+pub keep-each {ℓ} : {A : Type ℓ} (q : A → Bool) (xs : List A) → T (all q xs) → keep q xs ≡ xs
+unfolding keep all
+keep-each q [] t = refl
+keep-each q (x ∷ xs) t = rw (test-true (q x) (and-left (q x) (all q xs) t)) (ap (λ ys. x ∷ ys) (keep-each q xs (and-right (q x) (all q xs) t)))
+
+pub keep-all {ℓ} : {A : Type ℓ} (q : A → Bool) (xs : List A) → T (all q (keep q xs))
+unfolding keep all
+keep-all q [] = tt
+keep-all q (x ∷ xs) =
+    by-test (q x)
+    (λ t. rw (test-true (q x) t) (and-both (q x) (all q (keep q xs)) t (keep-all q xs)))
+    (λ t. rw (test-false (q x) t) (keep-all q xs))
