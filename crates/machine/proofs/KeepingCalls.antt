@@ -58,7 +58,7 @@ matching-named k m (c ∷ cs) =
     go false true = tt
     go false false = tt
 
-match-alloc : (k : ℕ) (c : Channel) → T (matches k c) → T (not (isFree c))
+pub match-alloc : (k : ℕ) (c : Channel) → T (matches k c) → T (not (isFree c))
 unfolding matches
 match-alloc k c t = rw (eqb→eq (c .key) k (and-right (not (eqb k 0)) (eqb (c .key) k) t)) (and-left (not (eqb k 0)) (eqb (c .key) k) t)
 
@@ -141,13 +141,13 @@ sub-back [] = end
 sub-back (i ∷ is) = skip (sub-refl is)
 
 -- a channel with writes is allocated
-at-sound : (m : ℕ) (cs : List Channel) → T (all soundChannel cs) → T (soundChannel (at m cs))
+pub at-sound : (m : ℕ) (cs : List Channel) → T (all soundChannel cs) → T (soundChannel (at m cs))
 unfolding at all
 at-sound m [] t = unfold soundChannel in tt
 at-sound m (c ∷ cs) t =
     if-elim (λ (d : Channel). T (soundChannel d)) (odd m) (λ _. and-left (soundChannel c) (all soundChannel cs) t) (λ _. at-sound (half m) cs (and-right (soundChannel c) (all soundChannel cs) t))
 
-playing-alloc : (c : Channel) → T (soundChannel c) → T (playing c) → T (not (isFree c))
+pub playing-alloc : (c : Channel) → T (soundChannel c) → T (playing c) → T (not (isFree c))
 unfolding soundChannel playing
 playing-alloc c t v =
     not-T (isFree c)
@@ -232,12 +232,12 @@ lock-named k m (c ∷ cs) t =
     go true u = and-right (not (eqb k 0)) (eqb (c .key) k) (unfold matches in u)
     go false u = tt
 
-lock-writes : (m : ℕ) (cs : List Channel) → writesOf (change setLock m cs) ≡ writesOf cs
+pub lock-writes : (m : ℕ) (cs : List Channel) → writesOf (change setLock m cs) ≡ writesOf cs
 unfolding writesOf change
 lock-writes m [] = refl
 lock-writes m (c ∷ cs) = ap₂ _++_ (if-elim (λ (d : Channel). d .writes ≡ c .writes) (odd m) (λ _. refl) (λ _. refl)) (lock-writes (half m) cs)
 
-lock-ids : (l : Lock) (ls : List Lock) → Ins (l .id) (map (λ (k : Lock). k .id) ls) (map (λ (k : Lock). k .id) (ls ++ l ∷ []))
+pub lock-ids : (l : Lock) (ls : List Lock) → Ins (l .id) (map (λ (k : Lock). k .id) ls) (map (λ (k : Lock). k .id) (ls ++ l ∷ []))
 lock-ids l [] = here
 lock-ids l (k ∷ ks) = there (lock-ids l ks)
 
@@ -269,7 +269,7 @@ enqueue-order r (w ∷ ws) t =
     and-both (all (λ q. leb (q .prec) (w .prec)) (enqueue r ws)) (inOrder (enqueue r ws))
     (enqueue-all (λ q. leb (q .prec) (w .prec)) r ws (le→leb (r .prec) (w .prec) ge) below) (enqueue-order r ws rest))
 
-enqueue-ids : (r : Request) (ws : List Request) → Ins (r .id) (map (λ (q : Request). q .id) ws) (map (λ (q : Request). q .id) (enqueue r ws))
+pub enqueue-ids : (r : Request) (ws : List Request) → Ins (r .id) (map (λ (q : Request). q .id) ws) (map (λ (q : Request). q .id) (enqueue r ws))
 unfolding enqueue
 enqueue-ids r [] = here
 enqueue-ids r (w ∷ ws) =

@@ -11,3 +11,4 @@ pub mod Resting
 pub mod Keeping
 pub mod KeepingSettle
 pub mod KeepingCalls
+pub mod Replies

@@ -119,7 +119,7 @@ refuse-error : (o : Op) (e : ℕ) (c : Call) (s : State) → refuse o e c s .ans
 unfolding done
 refuse-error o e c s = ap (λ (a : Answer). a .error) (refuse-answer o e c s)
 
-refuse-mute : (o : Op) (e : ℕ) (c : Call) (s : State) → T (leb e NOROOM) → refuse o e c s .replies ≡ []
+pub refuse-mute : (o : Op) (e : ℕ) (c : Call) (s : State) → T (leb e NOROOM) → refuse o e c s .replies ≡ []
 unfolding refuse silent
 refuse-mute OPEN e c s t = refl
 refuse-mute CLOSE e c s t = refl
@@ -136,7 +136,7 @@ ownReply EVENT c e = []
 ownReply (COMMAND n) c e =
     if quick (c .flags) then [] else record { id = c .id; command = n; error = e; map = 0; key = c .key } ∷ []
 
-refuse-heard : (o : Op) (e : ℕ) (c : Call) (s : State) → T (not (leb e NOROOM)) → refuse o e c s .replies ≡ ownReply o c e
+pub refuse-heard : (o : Op) (e : ℕ) (c : Call) (s : State) → T (not (leb e NOROOM)) → refuse o e c s .replies ≡ ownReply o c e
 unfolding refuse silent finished done
 refuse-heard OPEN e c s t = refl
 refuse-heard CLOSE e c s t = refl

@@ -1,0 +1,529 @@
+-- Why a call makes at most 64 replies, and never two to one id: nobody is replied to who does not go. For every id, the times
+-- that it is replied to and the times that it stands outstanding afterwards are no more than the times that it stood before,
+-- and one more if it is the command's own. So each id is replied to once at most, and ids are below 64.
+-- Assumes nothing.
+use Prim.Native.Nat.{ℕ, zero, suc, _+_, _≤_, _<_}
+use mathlib.Core.Path.{_≡_, refl, ap, subst, sym, _∙_}
+use mathlib.Core.Bool.{Bool, true, false, not, _&&_, _||_}
+use mathlib.Core.List.{List, [], _∷_, _++_, map}
+use native.Mathlib.Omega.{arith}
+use lib.Dec.{T, T-not, not-T, eqb, leb, ltb, eqb→eq, eqb-refl, ltb→lt, lt→ltb, leb→le, nleb→lt, nltb→le}
+use lib.ListN.{length, length-map}
+use Rattle.machine.specs.Numbers.{quick, nowait, ABORTED, ALLOCFAILED, ADCMD·ALLOCATE, CHANNELSTOLEN, NONE}
+use Rattle.machine.specs.Lists.{if_then_else_, any, all, keep, among, distinct}
+use Rattle.machine.specs.State.{Channel, Lock, Request, State, Reply, Answer, Outcome, Call, Op, OPEN, CLOSE, ABORT, EVENT, COMMAND, isFree, free}
+use Rattle.machine.specs.Maps.{odd, half, bit, lowest, meets, change, at}
+use Rattle.machine.specs.Choosing.{Look, fails, held, grants, look}
+use Rattle.machine.specs.Granting.{keyFor, aborted, abortedIn, taken, granted}
+use Rattle.machine.specs.Commands.{matches, matching, mismatch, done, pending, finished, silent, reset, freed, setPrec, flushed, setStop, setLock, same, setWrites, cleared, isEmpty, ended, freeing, freeingReplies, each, eachChange, doFree, doLock, front, back, playing, doRead, doWrite, doEvent, owned, doClose, abortedWrites, abortedWaits, without, doAbort}
+use Rattle.machine.specs.Allocating.{enqueue, waits, allocating, doAllocate, opening, doOpen}
+use Rattle.machine.specs.Settling.{Found, nobody, somebody, Walk, Settled, replied, staying, saying, onLook, walk, walked, goOn, rounds, settle}
+use Rattle.machine.specs.Sound.{sound, soundChannel, ids, writesOf}
+use Rattle.machine.specs.Kinds.{Kind, RESET, READ, WRITE, UPDATE, CLEAR, STOP, START, FLUSH, FREE, SETPREC, LOCK, ALLOCATE, UNKNOWN, kind}
+use Rattle.machine.specs.Refusals.{Refusal, accepted, refused, refusal, refuse}
+use Rattle.machine.specs.Call.{perform, settling, openSettling, accept, answering, call}
+use Rattle.machine.proofs.Tests.{if-elim, and-left, and-right, and-both, nor-left, nor-right, nor-both, by-test, test-true, test-false, eqb-false}
+use Rattle.machine.proofs.Lists.{Ins, here, there, pigeon}
+use Rattle.machine.proofs.Maps.{odd-bit, half-bit}
+use Rattle.machine.proofs.Refusals.{first-none, refuse-mute, refuse-heard, ownReply}
+use Rattle.machine.proofs.Sound.{Parts, parts}
+use Rattle.machine.proofs.KeepingCalls.{match-alloc, playing-alloc, at-sound, change-zero, lock-writes, lock-ids, enqueue-ids}
+
+-- ---- count
+
+-- how often a number stands in a list
+unfoldable pub count : ℕ → List ℕ → ℕ
+count i [] = 0
+count i (x ∷ xs) = (if eqb i x then 1 else 0) + count i xs
+
+count-nil : (i : ℕ) → count i [] ≡ 0
+unfolding count
+count-nil i = refl
+
+count-cons : (i x : ℕ) (xs : List ℕ) → count i (x ∷ xs) ≡ count i (x ∷ []) + count i xs
+unfolding count
+count-cons i x xs = omega arith
+
+count-append : (i : ℕ) (xs ys : List ℕ) → count i (xs ++ ys) ≡ count i xs + count i ys
+unfolding count
+count-append i [] ys = omega arith
+count-append i (x ∷ xs) ys = let ih = count-append i xs ys in omega arith
+
+count-map-append {ℓ} : {A : Type ℓ} (i : ℕ) (f : A → ℕ) (xs ys : List A) → count i (map f (xs ++ ys)) ≡ count i (map f xs) + count i (map f ys)
+unfolding count
+count-map-append i f [] ys = omega arith
+count-map-append i f (x ∷ xs) ys = let ih = count-map-append i f xs ys in omega arith
+
+-- what passes a test and what does not are all
+count-keep {ℓ} : {A : Type ℓ} (i : ℕ) (f : A → ℕ) (q : A → Bool) (xs : List A)
+    → count i (map f (keep q xs)) + count i (map f (keep (λ x. not (q x)) xs)) ≡ count i (map f xs)
+unfolding count keep
+count-keep i f q [] = refl
+count-keep i f q (x ∷ xs) =
+    let ih = count-keep i f q xs in
+    by-test (q x)
+    (λ t. rw (test-true (q x) t) (omega arith))
+    (λ t. rw (test-false (q x) t) (omega arith))
+
+count-ins : (i : ℕ) {j : ℕ} {xs ys : List ℕ} → Ins j xs ys → count i ys ≡ count i xs + count i (j ∷ [])
+count-ins i {j} (here {xs = xs}) = let e = count-cons i j xs in omega arith
+count-ins i (there {x = x} {xs = xs} {ys = ys} h) =
+    let e = count-cons i x xs in
+    let f = count-cons i x ys in
+    let ih = count-ins i h in
+    omega arith
+
+count-one : (i x : ℕ) → count i (x ∷ []) ≤ 1
+unfolding count
+count-one i x = if-elim (λ (n : ℕ). n + 0 ≤ 1) (eqb i x) (λ _. omega arith) (λ _. omega arith)
+
+count-other : (i x : ℕ) → (i ≡ x → ⊥) → count i (x ∷ []) ≡ 0
+unfolding count
+count-other i x h = rw (eqb-false i x h) refl
+
+count-absent : (i : ℕ) (xs : List ℕ) → T (not (among i xs)) → count i xs ≡ 0
+unfolding count among any
+count-absent i [] t = refl
+count-absent i (x ∷ xs) t =
+    let ih = count-absent i xs (nor-right (eqb i x) (among i xs) t) in
+    rw (test-false (eqb i x) (nor-left (eqb i x) (among i xs) t)) (omega arith)
+
+absent-count : (i : ℕ) (xs : List ℕ) → count i xs ≡ 0 → T (not (among i xs))
+unfolding count among any
+absent-count i [] e = tt
+absent-count i (x ∷ xs) e =
+    by-test (eqb i x)
+    (λ t. absurd (let z : 1 + count i xs ≡ 0 = rw (test-true (eqb i x) t) at e in omega arith))
+    (λ t. let z : 0 + count i xs ≡ 0 = rw (test-false (eqb i x) t) at e in nor-both (eqb i x) (among i xs) t (absent-count i xs (omega arith)))
+
+-- a list is distinct exactly if no number stands in it more than once
+distinct-count : (i : ℕ) (xs : List ℕ) → T (distinct xs) → count i xs ≤ 1
+unfolding count distinct
+distinct-count i [] t = omega arith
+distinct-count i (x ∷ xs) t =
+    let ih = distinct-count i xs (and-right (not (among x xs)) (distinct xs) t) in
+    by-test (eqb i x)
+    (λ e. let z : count i xs ≡ 0 = count-absent i xs (rw (eqb→eq i x e) (and-left (not (among x xs)) (distinct xs) t)) in
+    rw (test-true (eqb i x) e) (omega arith))
+    (λ e. rw (test-false (eqb i x) e) (omega arith))
+
+count-distinct : (xs : List ℕ) → ((i : ℕ) → count i xs ≤ 1) → T (distinct xs)
+unfolding distinct
+count-distinct [] h = tt
+count-distinct (x ∷ xs) h =
+    and-both (not (among x xs)) (distinct xs) (absent-count x xs (once (h x)))
+    (count-distinct xs (λ i. let e = count-cons i x xs in let l = h i in omega arith))
+  where
+    self : count x (x ∷ []) ≡ 1
+    self = unfold count in rw (test-true (eqb x x) (eqb-refl x)) refl
+
+    once : count x (x ∷ xs) ≤ 1 → count x xs ≡ 0
+    once l = let e = count-cons x x xs in let s = self in omega arith
+
+small-count : (n i : ℕ) (xs : List ℕ) → T (all (λ x. ltb x n) xs) → n ≤ i → count i xs ≡ 0
+unfolding count all
+small-count n i [] t h = refl
+small-count n i (x ∷ xs) t h =
+    let l : x < n = ltb→lt x n (and-left (ltb x n) (all (λ y. ltb y n) xs) t) in
+    let ih = small-count n i xs (and-right (ltb x n) (all (λ y. ltb y n) xs) t) h in
+    rw (eqb-false i x (λ e. omega arith)) (omega arith)
+
+count-small : (n : ℕ) (xs : List ℕ) → ((i : ℕ) → n ≤ i → count i xs ≡ 0) → T (all (λ x. ltb x n) xs)
+unfolding all
+count-small n [] h = tt
+count-small n (x ∷ xs) h =
+    and-both (ltb x n) (all (λ y. ltb y n) xs)
+    (by-test (ltb x n) (λ t. t)
+    (λ t. absurd (let z = h x (nltb→le x n t) in let e = count-cons x x xs in let s = self in omega arith)))
+    (count-small n xs (λ i l. let z = h i l in let e = count-cons i x xs in omega arith))
+  where
+    self : count x (x ∷ []) ≡ 1
+    self = unfold count in rw (test-true (eqb x x) (eqb-refl x)) refl
+
+-- ---- the ids of replies, locks and waiting requests
+
+abbrev pub heard : List Reply → List ℕ
+heard rs = map (λ r. r .id) rs
+
+abbrev lockIds : List Lock → List ℕ
+lockIds ls = map (λ l. l .id) ls
+
+abbrev waitIds : List Request → List ℕ
+waitIds rs = map (λ r. r .id) rs
+
+-- how often i is outstanding
+out : ℕ → State → ℕ
+out i s = count i (writesOf (s .channels)) + count i (lockIds (s .locks)) + count i (waitIds (s .waiting))
+
+ids-count : (i : ℕ) (s : State) → count i (ids s) ≡ out i s
+unfolding ids out
+ids-count i s =
+    let e = count-append i (writesOf (s .channels) ++ lockIds (s .locks)) (waitIds (s .waiting)) in
+    let f = count-append i (writesOf (s .channels)) (lockIds (s .locks)) in
+    omega arith
+
+heard-append : (i : ℕ) (xs ys : List Reply) → count i (heard (xs ++ ys)) ≡ count i (heard xs) + count i (heard ys)
+heard-append i xs ys = count-map-append i (λ (r : Reply). r .id) xs ys
+
+heard-aborted : (i k : ℕ) (ws : List ℕ) → count i (heard (aborted k ws)) ≡ count i ws
+unfolding aborted count
+heard-aborted i k [] = refl
+heard-aborted i k (w ∷ ws) = let ih = heard-aborted i k ws in omega arith
+
+heard-ended : (i e : ℕ) (ls : List Lock) → count i (heard (map (ended e) ls)) ≡ count i (lockIds ls)
+unfolding ended count
+heard-ended i e [] = refl
+heard-ended i e (l ∷ ls) = let ih = heard-ended i e ls in omega arith
+
+-- ---- what is done to channels: each write that leaves its queue is replied to
+
+-- the queues of the channels named are emptied, and their writes aborted
+abortedIn-count : (i m : ℕ) (f : Channel → Channel) (cs : List Channel) → ((c : Channel) → f c .writes ≡ [])
+    → count i (heard (abortedIn m cs)) + count i (writesOf (change f m cs)) ≡ count i (writesOf cs)
+unfolding abortedIn change writesOf
+abortedIn-count i m f [] g = unfold count in refl
+abortedIn-count i m f (c ∷ cs) g =
+    let ih = abortedIn-count i (half m) f cs g in
+    let w = count-append i (c .writes) (writesOf cs) in
+    by-test (odd m)
+    (λ t. rw (test-true (odd m) t)
+    (let a = heard-append i (aborted (c .key) (c .writes)) (abortedIn (half m) cs) in
+    let b = heard-aborted i (c .key) (c .writes) in
+    rw (g c) (omega arith)))
+    (λ t. rw (test-false (odd m) t)
+    (let a = count-append i (c .writes) (writesOf (change f (half m) cs)) in omega arith))
+
+same-writes : (i m : ℕ) (f : Channel → Channel) (cs : List Channel) → ((c : Channel) → f c .writes ≡ c .writes)
+    → count i (writesOf (change f m cs)) ≡ count i (writesOf cs)
+unfolding change writesOf
+same-writes i m f [] g = refl
+same-writes i m f (c ∷ cs) g =
+    let ih = same-writes i (half m) f cs g in
+    let w = count-append i (c .writes) (writesOf cs) in
+    let a = count-append i (c .writes) (writesOf (change f (half m) cs)) in
+    if-elim (λ (d : Channel). count i (d .writes ++ writesOf (change f (half m) cs)) ≡ count i (c .writes ++ writesOf cs)) (odd m)
+    (λ _. rw (g c) (omega arith))
+    (λ _. omega arith)
+
+-- another queue at the channel of the lowest bit
+put-count : (i : ℕ) (ws : List ℕ) (m : ℕ) (cs : List Channel) → T (not (isFree (at (lowest (length cs) m) cs)))
+    → count i (writesOf (change (setWrites ws) (lowest (length cs) m) cs)) + count i (at (lowest (length cs) m) cs .writes)
+    ≡ count i (writesOf cs) + count i ws
+unfolding lowest change writesOf
+put-count i ws m [] h = absurd (unfold at in h)
+put-count i ws m (c ∷ cs) h = go (odd m) h (put-count i ws (half m) cs)
+  where
+    x : ℕ
+    x = lowest (length cs) (half m)
+
+    go : (b : Bool) → T (not (isFree (at (if b then 1 else bit false x) (c ∷ cs))))
+        → (T (not (isFree (at x cs))) → count i (writesOf (change (setWrites ws) x cs)) + count i (at x cs .writes) ≡ count i (writesOf cs) + count i ws)
+        → count i (writesOf (change (setWrites ws) (if b then 1 else bit false x) (c ∷ cs))) + count i (at (if b then 1 else bit false x) (c ∷ cs) .writes)
+        ≡ count i (c .writes ++ writesOf cs) + count i ws
+    go true u ih =
+        unfold at odd half in
+        (rw (change-zero (setWrites ws) cs)
+        (let a = count-append i ws (writesOf cs) in let b = count-append i (c .writes) (writesOf cs) in omega arith))
+    go false u ih =
+        unfold at in
+        (rw (odd-bit false x, half-bit false x)
+        (let e = ih (rw (odd-bit false x, half-bit false x) at u) in
+        let a = count-append i (c .writes) (writesOf (change (setWrites ws) x cs)) in
+        let b = count-append i (c .writes) (writesOf cs) in
+        omega arith))
+
+abortedWrites-count : (i j : ℕ) (cs : List Channel)
+    → count i (heard (abortedWrites j cs)) + count i (writesOf (map (without j) cs)) ≡ count i (writesOf cs)
+unfolding abortedWrites without writesOf
+abortedWrites-count i j [] = unfold count in refl
+abortedWrites-count i j (c ∷ cs) =
+    let ih = abortedWrites-count i j cs in
+    let w = count-append i (c .writes) (writesOf cs) in
+    let a = heard-append i (aborted (c .key) (keep (eqb j) (c .writes))) (abortedWrites j cs) in
+    let b = heard-aborted i (c .key) (keep (eqb j) (c .writes)) in
+    let d = count-append i (keep (λ k. not (eqb j k)) (c .writes)) (writesOf (map (without j) cs)) in
+    let k = keep-plain (c .writes) in
+    omega arith
+  where
+    map-same : (ws : List ℕ) → map (λ w. w) ws ≡ ws
+    map-same [] = refl
+    map-same (w ∷ ws) = ap (λ vs. w ∷ vs) (map-same ws)
+
+    keep-plain : (ws : List ℕ) → count i (keep (eqb j) ws) + count i (keep (λ k. not (eqb j k)) ws) ≡ count i ws
+    keep-plain ws = simp map-same at (count-keep i (λ (w : ℕ). w) (eqb j) ws)
+
+heard-waits : (i : ℕ) (qs : List Request)
+    → count i (heard (map (λ r. record { id = r .id; command = ADCMD·ALLOCATE; error = ABORTED; map = 0; key = r .key }) qs)) ≡ count i (waitIds qs)
+unfolding count
+heard-waits i [] = refl
+heard-waits i (q ∷ qs) = let ih = heard-waits i qs in omega arith
+
+abortedWaits-count : (i j : ℕ) (rs : List Request)
+    → count i (heard (abortedWaits j rs)) + count i (waitIds (keep (λ r. not (eqb j (r .id))) rs)) ≡ count i (waitIds rs)
+unfolding abortedWaits
+abortedWaits-count i j rs =
+    let e = heard-waits i (keep (λ r. eqb j (r .id)) rs) in
+    let f = count-keep i (λ (r : Request). r .id) (λ (r : Request). eqb j (r .id)) rs in
+    omega arith
+
+-- ---- what an outcome does
+
+-- replied to, or outstanding afterwards, at most n times
+abbrev Fits : ℕ → ℕ → List Reply → State → Type 0
+Fits i n rs t = count i (heard rs) + out i t ≤ n
+
+abbrev FitsOut : ℕ → ℕ → Outcome → Type 0
+FitsOut i n o = Fits i n (o .replies) (o .next)
+
+-- ---- freeing
+
+cleared-ids : (n f : ℕ) (ls : List Lock) → lockIds (cleared n f ls) ≡ lockIds ls
+unfolding cleared
+cleared-ids n f [] = refl
+cleared-ids n f (l ∷ ls) = ap (λ is. l .id ∷ is) (cleared-ids n f ls)
+
+freeing-fits : (i m : ℕ) (s : State) → Fits i (out i s) (freeingReplies m s) (freeing m s)
+unfolding freeing freeingReplies out
+freeing-fits i m s =
+    let ls = cleared (length (s .channels)) m (s .locks) in
+    let a = heard-append i (abortedIn m (s .channels)) (map (ended 0) (keep isEmpty ls)) in
+    let b = abortedIn-count i m freed (s .channels) (λ c. refl) in
+    let d = heard-ended i 0 (keep isEmpty ls) in
+    let e = count-keep i (λ (l : Lock). l .id) isEmpty ls in
+    let f : count i (lockIds ls) ≡ count i (lockIds (s .locks)) = ap (count i) (cleared-ids (length (s .channels)) m (s .locks)) in
+    omega arith
+
+-- ---- a grant
+
+granted-fits : (i m k prec : ℕ) (s : State) → Fits i (out i s) (abortedIn m (s .channels)) (granted m k prec s)
+unfolding granted out
+granted-fits i m k prec s =
+    let b = abortedIn-count i m (taken (keyFor k s) prec) (s .channels) (λ c. unfold taken in refl) in omega arith
+
+-- ---- settling
+
+found-count : ℕ → Found → ℕ
+found-count i nobody = 0
+found-count i (somebody r m) = count i (r .id ∷ [])
+
+abbrev walk-count : ℕ → Walk → ℕ
+walk-count i w = count i (heard (w .replies)) + count i (lockIds (w .locks)) + count i (waitIds (w .waiting)) + found-count i (w .found)
+
+onLook-fits : (i n : ℕ) (l : Look) (r : Request) (rs : List Request) (ls : List Lock) (rest : List Lock → Walk)
+    → ((k : List Lock) → walk-count i (rest k) ≡ count i (lockIds k) + count i (waitIds rs))
+    → walk-count i (onLook n l r rs ls rest) ≡ count i (lockIds ls) + count i (waitIds (r ∷ rs))
+unfolding onLook saying staying replied found-count
+onLook-fits i n fails r rs ls rest ih =
+    let h = ih ls in
+    let e = count-cons i (r .id) (waitIds rs) in
+    if-elim (λ (w : Walk). walk-count i w ≡ count i (lockIds ls) + count i (waitIds (r ∷ rs))) (r .impatient)
+    (λ _. let f = count-cons i (r .id) (heard (rest ls .replies)) in omega arith)
+    (λ _. let f = count-cons i (r .id) (waitIds (rest ls .waiting)) in omega arith)
+onLook-fits i n (held m) r rs ls rest ih =
+    let q : Lock → Bool = λ l. meets n m (l .map) in
+    let k = keep (λ l. not (q l)) ls in
+    let h = ih k in
+    let e = count-cons i (r .id) (waitIds rs) in
+    let f = count-cons i (r .id) (waitIds (rest k .waiting)) in
+    let a = heard-append i (map (ended CHANNELSTOLEN) (keep q ls)) (rest k .replies) in
+    let b = heard-ended i CHANNELSTOLEN (keep q ls) in
+    let d = count-keep i (λ (l : Lock). l .id) q ls in
+    omega arith
+onLook-fits i n (grants m) r rs ls rest ih =
+    let e = count-cons i (r .id) (waitIds rs) in unfold count in omega arith
+
+walk-fits : (i : ℕ) (cs : List Channel) (rs : List Request) (ls : List Lock) → walk-count i (walk cs rs ls) ≡ count i (lockIds ls) + count i (waitIds rs)
+unfolding walk found-count
+walk-fits i cs [] ls = unfold count in omega arith
+walk-fits i cs (r ∷ rs) ls = onLook-fits i (length cs) (look (r .prec) (r .combos) cs) r rs ls (walk cs rs) (walk-fits i cs rs)
+
+goOn-fits : (i : ℕ) (f : Found) (w : Walk) (s : State) (again : State → Settled)
+    → count i (heard (w .replies)) + count i (lockIds (w .locks)) + count i (waitIds (w .waiting)) + found-count i f
+    ≡ count i (lockIds (s .locks)) + count i (waitIds (s .waiting))
+    → ((u : State) → Fits i (out i u) (again u .replies) (again u .state))
+    → Fits i (out i s) (goOn f w s again .replies) (goOn f w s again .state)
+unfolding goOn found-count walked
+goOn-fits i nobody w s again e ih = unfold out in omega arith
+goOn-fits i (somebody r m) w s again e ih =
+    let s′ = walked w s in
+    let g = granted m (r .key) (r .prec) s′ in
+    let own = replied 0 m (keyFor (r .key) s′) r in
+    let a = heard-append i (w .replies ++ abortedIn m (s .channels)) (own ∷ again g .replies) in
+    let b = heard-append i (w .replies) (abortedIn m (s .channels)) in
+    let d = heard-own m (keyFor (r .key) s′) (again g .replies) in
+    let h : count i (heard (abortedIn m (s .channels))) + out i g ≤ out i s′ = granted-fits i m (r .key) (r .prec) s′ in
+    let k : out i s′ ≡ count i (writesOf (s .channels)) + count i (lockIds (w .locks)) + count i (waitIds (w .waiting)) = unfold out in refl in
+    let o : out i s ≡ count i (writesOf (s .channels)) + count i (lockIds (s .locks)) + count i (waitIds (s .waiting)) = unfold out in refl in
+    let l = ih g in
+    omega arith
+  where
+    heard-own : (m k : ℕ) (rs : List Reply) → count i (heard (replied 0 m k r ∷ rs)) ≡ count i (r .id ∷ []) + count i (heard rs)
+    heard-own m k rs = unfold replied in count-cons i (r .id) (heard rs)
+
+rounds-fits : (i n : ℕ) (s : State) → Fits i (out i s) (rounds n s .replies) (rounds n s .state)
+unfolding rounds
+rounds-fits i zero s = unfold count in omega arith
+rounds-fits i (suc n) s =
+    let w = walk (s .channels) (s .waiting) (s .locks) in
+    goOn-fits i (w .found) w s (rounds n) (walk-fits i (s .channels) (s .waiting) (s .locks)) (rounds-fits i n)
+
+settling-fits : (i n : ℕ) (o : Outcome) → FitsOut i n o → FitsOut i n (settling o)
+unfolding settling settle
+settling-fits i n o h =
+    let t = rounds-fits i (suc (length (o .next .waiting))) (o .next) in
+    let a = heard-append i (o .replies) (rounds (suc (length (o .next .waiting))) (o .next) .replies) in
+    omega arith
+
+-- ---- the commands
+
+-- a command finished at once: its own reply, if any, is one more
+finished-fits : (i n k : ℕ) (c : Call) (a : Answer) (rs : List Reply) (t : State)
+    → Fits i n rs t → FitsOut i (n + count i (c .id ∷ [])) (finished k c a rs t)
+unfolding finished
+finished-fits i n k c a rs t h =
+    if-elim (λ (own : List Reply). Fits i (n + count i (c .id ∷ [])) (rs ++ own) t) (quick (c .flags))
+    (λ _. let e = heard-append i rs [] in let z = count-nil i in omega arith)
+    (λ _. let e = heard-append i rs (record { id = c .id; command = k; error = a .error; map = a .map; key = a .key } ∷ []) in omega arith)
+
+-- nothing but its own reply
+idle-fits : (i k : ℕ) (c : Call) (a : Answer) (s : State) → FitsOut i (out i s + count i (c .id ∷ [])) (finished k c a [] s)
+idle-fits i k c a s = finished-fits i (out i s) k c a [] s (unfold count in omega arith)
+
+drops-fits : (i k : ℕ) (f : Channel → Channel) (c : Call) (s : State) → ((d : Channel) → f d .writes ≡ [])
+    → FitsOut i (out i s + count i (c .id ∷ [])) (eachChange k f true c s)
+unfolding eachChange each
+drops-fits i k f c s g =
+    finished-fits i (out i s) k c _ (abortedIn (matching (c .key) (c .map) (s .channels)) (s .channels)) _
+    (let e = abortedIn-count i (matching (c .key) (c .map) (s .channels)) f (s .channels) g in unfold out in omega arith)
+
+keeps-fits : (i k : ℕ) (f : Channel → Channel) (c : Call) (s : State) → ((d : Channel) → f d .writes ≡ d .writes)
+    → FitsOut i (out i s + count i (c .id ∷ [])) (eachChange k f false c s)
+unfolding eachChange each
+keeps-fits i k f c s g =
+    finished-fits i (out i s) k c _ [] _
+    (let e = same-writes i (matching (c .key) (c .map) (s .channels)) f (s .channels) g in unfold out count in omega arith)
+
+lock-fits : (i : ℕ) (c : Call) (s : State) → FitsOut i (out i s + count i (c .id ∷ [])) (doLock c s)
+unfolding doLock silent out
+lock-fits i c s =
+    if-elim (FitsOut i (out i s + count i (c .id ∷ []))) (mismatch (c .key) (c .map) (s .channels)) (λ _. idle-fits i _ c _ s)
+    (λ _. if-elim (FitsOut i (out i s + count i (c .id ∷ []))) (eqb (c .map) 0) (λ _. idle-fits i _ c _ s) (λ _. locks))
+  where
+    l : Lock
+    l = record { id = c .id; key = c .key; map = c .map }
+
+    locks : Fits i (out i s + count i (c .id ∷ [])) [] (record { channels = change setLock (c .map) (s .channels); locks = s .locks ++ l ∷ []; waiting = s .waiting; opens = s .opens; last = s .last })
+    locks =
+        let a : count i (lockIds (s .locks ++ l ∷ [])) ≡ count i (lockIds (s .locks)) + count i (c .id ∷ []) = count-ins i (lock-ids l (s .locks)) in
+        let w = same-writes i (c .map) setLock (s .channels) (λ d. refl) in
+        let z = count-nil i in
+        omega arith
+
+read-fits : (i : ℕ) (c : Call) (s : State) → FitsOut i (out i s + count i (c .id ∷ [])) (doRead c s)
+unfolding doRead
+read-fits i c s =
+    if-elim (FitsOut i (out i s + count i (c .id ∷ []))) (matches (c .key) (at (lowest (length (s .channels)) (c .map)) (s .channels)))
+    (λ _. idle-fits i _ c _ s) (λ _. idle-fits i _ c _ s)
+
+write-fits : (i : ℕ) (c : Call) (s : State) → FitsOut i (out i s + count i (c .id ∷ [])) (doWrite c s)
+unfolding doWrite silent out
+write-fits i c s =
+    if-elim (FitsOut i (out i s + count i (c .id ∷ []))) (matches (c .key) h)
+    (λ v. let p = put-count i (h .writes ++ c .id ∷ []) (c .map) (s .channels) (match-alloc (c .key) h v) in
+    let a = count-append i (h .writes) (c .id ∷ []) in
+    let z = count-nil i in
+    omega arith)
+    (λ _. idle-fits i _ c _ s)
+  where
+    h : Channel
+    h = at (lowest (length (s .channels)) (c .map)) (s .channels)
+
+waits-fits : (i : ℕ) (c : Call) (s : State) → FitsOut i (out i s + count i (c .id ∷ [])) (waits c s)
+unfolding waits silent out count
+waits-fits i c s =
+    let r : Request = record { id = c .id; key = c .key; prec = c .prec; impatient = nowait (c .flags); combos = c .combos } in
+    let a : count i (waitIds (enqueue r (s .waiting))) ≡ count i (waitIds (s .waiting)) + count i (c .id ∷ []) = count-ins i (enqueue-ids r (s .waiting)) in
+    omega arith
+
+allocating-fits : (i : ℕ) (l : Look) (c : Call) (s : State) → FitsOut i (out i s + count i (c .id ∷ [])) (allocating l c s)
+unfolding allocating
+allocating-fits i fails c s =
+    if-elim (FitsOut i (out i s + count i (c .id ∷ []))) (nowait (c .flags)) (λ _. idle-fits i _ c _ s) (λ _. waits-fits i c s)
+allocating-fits i (held m) c s = waits-fits i c s
+allocating-fits i (grants m) c s =
+    finished-fits i (out i s) _ c _ (abortedIn m (s .channels)) _ (granted-fits i m (c .key) (c .prec) s)
+
+perform-fits : (i : ℕ) (k : Kind) (c : Call) (s : State) → FitsOut i (out i s + count i (c .id ∷ [])) (perform k c s)
+unfolding perform doFree each doAllocate
+perform-fits i RESET c s = drops-fits i _ reset c s (λ d. refl)
+perform-fits i READ c s = read-fits i c s
+perform-fits i WRITE c s = write-fits i c s
+perform-fits i UPDATE c s = keeps-fits i _ same c s (λ d. refl)
+perform-fits i CLEAR c s = keeps-fits i _ same c s (λ d. refl)
+perform-fits i STOP c s = keeps-fits i _ (setStop true) c s (λ d. refl)
+perform-fits i START c s = keeps-fits i _ (setStop false) c s (λ d. refl)
+perform-fits i FLUSH c s = drops-fits i _ flushed c s (λ d. refl)
+perform-fits i FREE c s =
+    let m = matching (c .key) (c .map) (s .channels) in finished-fits i (out i s) _ c _ (freeingReplies m s) (freeing m s) (freeing-fits i m s)
+perform-fits i SETPREC c s = keeps-fits i _ (setPrec (c .prec)) c s (λ d. refl)
+perform-fits i LOCK c s = lock-fits i c s
+perform-fits i ALLOCATE c s = allocating-fits i (look (c .prec) (c .combos) (s .channels)) c s
+perform-fits i UNKNOWN c s = unfold silent count in omega arith
+
+-- ---- OPEN, CLOSE, ABORT and the event have no reply of their own
+
+opening-fits : (i : ℕ) (l : Look) (c : Call) (s : State) → FitsOut i (out i s) (openSettling (opening l c s))
+unfolding opening openSettling silent done
+opening-fits i fails c s = unfold count in omega arith
+opening-fits i (held m) c s = unfold count in omega arith
+opening-fits i (grants m) c s =
+    settling-fits i (out i s) (opening (grants m) c s) (let g = granted-fits i m (c .key) (c .prec) s in unfold out in g)
+
+close-fits : (i : ℕ) (c : Call) (s : State) → FitsOut i (out i s) (doClose c s)
+unfolding doClose silent
+close-fits i c s = let f = freeing-fits i (owned (c .key) (s .channels)) s in unfold out in f
+
+abort-fits : (i : ℕ) (c : Call) (s : State) → FitsOut i (out i s) (doAbort c s)
+unfolding doAbort silent out
+abort-fits i c s =
+    let a = heard-append i (abortedWrites (c .id) (s .channels)) (abortedWaits (c .id) (s .waiting)) in
+    let w = abortedWrites-count i (c .id) (s .channels) in
+    let r = abortedWaits-count i (c .id) (s .waiting) in
+    omega arith
+
+event-fits : (i : ℕ) (c : Call) (s : State) → Parts s → FitsOut i (out i s) (doEvent c s)
+unfolding doEvent silent out
+event-fits i c s p =
+    if-elim (FitsOut i (out i s)) (playing h)
+    (λ v. let e = put-count i (back (h .writes)) (c .map) (s .channels) (playing-alloc h (at-sound m (s .channels) (p .channelsOK)) v) in
+    let f = ends (h .writes) (and-right (not (h .stopped)) (not (eqb (length (h .writes)) 0)) (unfold playing in v)) in
+    omega arith)
+    (λ _. let z = count-nil i in omega arith)
+  where
+    m : ℕ
+    m = lowest (length (s .channels)) (c .map)
+
+    h : Channel
+    h = at m (s .channels)
+
+    ends : (ws : List ℕ) → T (not (eqb (length ws) 0)) → count i ws ≡ count i (front ws ∷ []) + count i (back ws)
+    ends [] t = absurd t
+    ends (w ∷ ws) t = unfold front back in count-cons i w ws
+
+-- ---- call
+
+-- an id that the call itself brings: a command's
+own : Op → Call → List ℕ
+own OPEN c = []
+own CLOSE c = []
+own ABORT c = []
+own EVENT c = []
+own (COMMAND n) c = c .id ∷ []
+
+accept-fits : (i : ℕ) (o : Op) (c : Call) (s : State) → Parts s → FitsOut i (out i s + count i (own o c)) (accept o c s)
+unfolding accept own doOpen
+accept-fits i OPEN c s p = let f = opening-fits i (look (c .prec) (c .combos) (s .channels)) c s in omega arith
+accept-fits i CLOSE c s p = let f = settling-fits i (out i s) (doClose c s) (close-fits i c s) in omega arith
+accept-fits i ABORT c s p = let f = settling-fits i (out i s) (doAbort c s) (abort-fits i c s) in omega arith
+accept-fits i EVENT c s p = let f = settling-fits i (out i s) (doEvent c s) (event-fits i c s p) in omega arith
+accept-fits i (COMMAND n) c s p = settling-fits i (out i s + count i (c .id ∷ [])) (perform (kind n) c s) (perform-fits i (kind n) c s)
