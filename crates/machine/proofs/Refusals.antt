@@ -84,6 +84,15 @@ first-none (t ∷ ts) e = go (t .0) (first-none ts) e
     go true ih q = absurd (let z : _≡_ {A = ℕ} 0 1 = cc in omega arith)
     go false ih q = (tt, ih q)
 
+-- a refusal with another number than the first test's: that test is not met
+pub first-past : (t : Bool × ℕ) (ts : List (Bool × ℕ)) (e : ℕ) → first (t ∷ ts) ≡ refused e → (t .1 ≡ e → ⊥) → T (not (t .0)) × (first ts ≡ refused e)
+unfolding first
+first-past t ts e q n = go (t .0) q
+  where
+    go : (b : Bool) → (if b then refused (t .1) else first ts) ≡ refused e → T (not b) × (first ts ≡ refused e)
+    go true f = absurd (n (cc))
+    go false f = (tt, f)
+
 known : (n : ℕ) (c : Call) (s : State) → refusal (COMMAND n) c s ≡ accepted → T (not (unknown (kind n)))
 unfolding refusal
 known n c s e = first-none _ e .1 .1 .1 .1 .1 .0

@@ -25,7 +25,7 @@ use Rattle.machine.specs.Call.{perform, settling, openSettling, accept, 
 use Rattle.machine.proofs.Tests.{if-elim, and-left, and-right, and-both, nor-left, nor-right, nor-both, by-test, test-true, test-false, eqb-false}
 use Rattle.machine.proofs.Lists.{Ins, here, there, pigeon}
 use Rattle.machine.proofs.Maps.{odd-bit, half-bit}
-use Rattle.machine.proofs.Refusals.{first-none, refuse-mute, refuse-heard, ownReply}
+use Rattle.machine.proofs.Refusals.{first-none, first-past, refuse-same, refuse-mute, refuse-heard, ownReply}
 use Rattle.machine.proofs.Sound.{Parts, parts}
 use Rattle.machine.proofs.KeepingCalls.{match-alloc, playing-alloc, at-sound, change-zero, lock-writes, lock-ids, enqueue-ids}
 
@@ -527,3 +527,118 @@ accept-fits i CLOSE c s p = let f = settling-fits i (out i s) (doClose c s) (clo
 accept-fits i ABORT c s p = let f = settling-fits i (out i s) (doAbort c s) (abort-fits i c s) in omega arith
 accept-fits i EVENT c s p = let f = settling-fits i (out i s) (doEvent c s) (event-fits i c s p) in omega arith
 accept-fits i (COMMAND n) c s p = settling-fits i (out i s + count i (c .id ∷ [])) (perform (kind n) c s) (perform-fits i (kind n) c s)
+
+own-reply : (i : ℕ) (o : Op) (c : Call) (e : ℕ) → count i (heard (ownReply o c e)) ≤ count i (own o c)
+unfolding own
+own-reply i OPEN c e = omega arith
+own-reply i CLOSE c e = omega arith
+own-reply i ABORT c e = omega arith
+own-reply i EVENT c e = omega arith
+own-reply i (COMMAND n) c e =
+    if-elim (λ (rs : List Reply). count i (heard rs) ≤ count i (c .id ∷ [])) (quick (c .flags)) (λ _. let z = count-nil i in omega arith) (λ _. omega arith)
+
+refuse-fits : (i : ℕ) (o : Op) (e : ℕ) (c : Call) (s : State) → FitsOut i (out i s + count i (own o c)) (refuse o e c s)
+refuse-fits i o e c s =
+    rw (refuse-same o e c s)
+    (by-test (leb e 5)
+    (λ t. rw (refuse-mute o e c s t) (let z = count-nil i in omega arith))
+    (λ t. rw (refuse-heard o e c s t) (let z = own-reply i o c e in omega arith)))
+
+-- a command that gets as far as a reply has an id that is idle and below 64
+record Idle (o : Op) (c : Call) (s : State) : Type 0 where
+  once : (i : ℕ) → count i (ids s) + count i (own o c) ≤ 1
+  small : (i : ℕ) → 64 ≤ i → count i (own o c) ≡ 0
+
+nothing-idle : (o : Op) (c : Call) (s : State) → Parts s → own o c ≡ [] → Idle o c s
+nothing-idle o c s p e =
+    record {
+      once = λ i. rw e (let h = distinct-count i (ids s) (p .apart) in let z = count-nil i in omega arith);
+      small = λ i h. rw e (count-nil i);
+    }
+
+command-idle : (n : ℕ) (c : Call) (s : State) → Parts s → T (not (ltb 63 (c .id))) → T (not (among (c .id) (ids s))) → Idle (COMMAND n) c s
+unfolding own
+command-idle n c s p l a =
+    record {
+      once =
+          λ i. let h = distinct-count i (ids s) (p .apart) in
+          let k = count-one i (c .id) in
+          by-test (eqb i (c .id))
+          (λ t. let z : count i (ids s) ≡ 0 = rw (eqb→eq i (c .id) t) (count-absent (c .id) (ids s) a) in omega arith)
+          (λ t. let z = count-other i (c .id) (λ e. T-not (eqb i (c .id)) t (rw e (eqb-refl (c .id)))) in omega arith);
+      small = λ i h. let b = nltb→le 63 (c .id) l in count-other i (c .id) (λ e. omega arith);
+    }
+
+accepted-idle : (o : Op) (c : Call) (s : State) → Parts s → refusal o c s ≡ accepted → Idle o c s
+unfolding refusal
+accepted-idle OPEN c s p e = nothing-idle OPEN c s p (unfold own in refl)
+accepted-idle CLOSE c s p e = nothing-idle CLOSE c s p (unfold own in refl)
+accepted-idle ABORT c s p e = nothing-idle ABORT c s p (unfold own in refl)
+accepted-idle EVENT c s p e = nothing-idle EVENT c s p (unfold own in refl)
+accepted-idle (COMMAND n) c s p e = let f = first-none _ e in command-idle n c s p (f .1 .1 .0) (f .1 .1 .1 .0)
+
+refused-idle : (o : Op) (e : ℕ) (c : Call) (s : State) → Parts s → T (not (leb e 5)) → refusal o c s ≡ refused e → Idle o c s
+unfolding refusal
+refused-idle OPEN e c s p l r = nothing-idle OPEN c s p (unfold own in refl)
+refused-idle CLOSE e c s p l r = nothing-idle CLOSE c s p (unfold own in refl)
+refused-idle ABORT e c s p l r = nothing-idle ABORT c s p (unfold own in refl)
+refused-idle EVENT e c s p l r = nothing-idle EVENT c s p (unfold own in refl)
+refused-idle (COMMAND n) e c s p l r =
+    let b : 5 < e = nleb→lt e 5 l in
+    let f = first-past _ _ e r (λ x. omega arith) in
+    let g = first-past _ _ e (f .1) (λ x. omega arith) in
+    let h = first-past _ _ e (g .1) (λ x. omega arith) in
+    let k = first-past _ _ e (h .1) (λ x. omega arith) in
+    command-idle n c s p (h .0) (k .0)
+
+-- replied to or outstanding afterwards, each id is so once at most; and no reply goes to an id of 64 or more
+record Once (o : Outcome) : Type 0 where
+  most : (i : ℕ) → count i (heard (o .replies)) + count i (ids (o .next)) ≤ 1
+  small : (i : ℕ) → 64 ≤ i → count i (heard (o .replies)) ≡ 0
+
+once-from : (o : Op) (c : Call) (s : State) (x : Outcome) → Parts s → Idle o c s → ((i : ℕ) → FitsOut i (out i s + count i (own o c)) x) → Once x
+once-from o c s x p d f =
+    record {
+      most = λ i. let h = f i in let a = ids-count i (x .next) in let b = ids-count i s in let k = d .once i in omega arith;
+      small =
+          λ i l. let h = f i in
+          let a = ids-count i (x .next) in
+          let b = ids-count i s in
+          let k = d .small i l in
+          let z = small-count 64 i (ids s) (p .small) l in
+          omega arith;
+    }
+
+mute-once : (o : Op) (e : ℕ) (c : Call) (s : State) → Parts s → T (leb e 5) → Once (refuse o e c s)
+mute-once o e c s p t =
+    record {
+      most =
+          λ i. rw (refuse-mute o e c s t, refuse-same o e c s) (let z = count-nil i in let h = distinct-count i (ids s) (p .apart) in omega arith);
+      small = λ i l. rw (refuse-mute o e c s t) (count-nil i);
+    }
+
+call-once : (s : State) (c : Call) → Parts s → Once (call s c)
+unfolding call answering
+call-once s c p = go (refusal (c .op) c s) refl
+  where
+    go : (r : Refusal) → refusal (c .op) c s ≡ r → Once (answering r c s)
+    go accepted e = once-from (c .op) c s (accept (c .op) c s) p (accepted-idle (c .op) c s p e) (λ i. accept-fits i (c .op) c s p)
+    go (refused n) e =
+        by-test (leb n 5)
+        (λ t. mute-once (c .op) n c s p t)
+        (λ t. once-from (c .op) c s (refuse (c .op) n c s) p (refused-idle (c .op) n c s p t e) (λ i. refuse-fits i (c .op) n c s))
+
+-- no id is replied to twice in one call, and none that is outstanding afterwards
+pub replies-apart : (s : State) (c : Call) → T (sound s) → T (distinct (heard (call s c .replies) ++ ids (call s c .next)))
+replies-apart s c t =
+    count-distinct (heard (call s c .replies) ++ ids (call s c .next))
+    (λ i. let h = call-once s c (parts s t) .most i in let a = count-append i (heard (call s c .replies)) (ids (call s c .next)) in omega arith)
+
+-- a call makes at most 64 replies, no two to one id
+pub call-replies : (s : State) (c : Call) → T (sound s) → T (distinct (heard (call s c .replies))) × (length (call s c .replies) ≤ 64)
+call-replies s c t =
+    let o = call-once s c (parts s t) in
+    let d = count-distinct (heard (call s c .replies)) (λ i. let h = o .most i in omega arith) in
+    let b = count-small 64 (heard (call s c .replies)) (o .small) in
+    let l = pigeon 64 (heard (call s c .replies)) d b in
+    (d, simp length-map at l)
