@@ -1,21 +1,20 @@
 -- Why ALLOCATE is right: its answer is that of the look, before settling, and the look is the rule of specs/Rule.antt.
 -- Assumes nothing.
 use Prim.Native.Nat.{ℕ, _<_}
-use mathlib.Core.Path.{_≡_, refl, ap, subst, sym, _∙_}
+use mathlib.Core.Path.{_≡_, refl, ap, subst, _∙_}
 use mathlib.Core.Logic.{_↔_}
-use mathlib.Core.Bool.{true, false, true≢false}
-use mathlib.Core.List.{List, [], _∷_}
+use mathlib.Core.Bool.{false, true≢false}
+use mathlib.Core.List.{[]}
 use native.Mathlib.Omega.{arith}
 use lib.ListN.{length, getD}
 use Rattle.machine.specs.Numbers.{nowait, ADCMD·ALLOCATE, NONE}
-use Rattle.machine.specs.Lists.{if_then_else_}
-use Rattle.machine.specs.State.{Channel, State, Answer, Outcome, Call, Op, COMMAND}
+use Rattle.machine.specs.State.{State, Answer, Outcome, Call, Op, COMMAND}
 use Rattle.machine.specs.Choosing.{Look, fails, held, grants, look}
 use Rattle.machine.specs.Granting.{keyFor, abortedIn, granted}
 use Rattle.machine.specs.Commands.{done, pending, finished, silent}
 use Rattle.machine.specs.Allocating.{waits, allocating, doAllocate}
 use Rattle.machine.specs.Kinds.{kind}
-use Rattle.machine.specs.Refusals.{Refusal, accepted, refused, refusal}
+use Rattle.machine.specs.Refusals.{Refusal, accepted, refusal}
 use Rattle.machine.specs.Call.{perform, settling, accept, answering, call}
 use Rattle.machine.specs.Rule.{Unlocked, SomeEligible, Wins}
 use Rattle.machine.proofs.Tests.{if-elim}

@@ -7,9 +7,8 @@ use mathlib.Core.Logic.{_⊎_, inl, inr, _↔_}
 use mathlib.Core.Bool.{Bool, true, false, not, _&&_, _||_}
 use mathlib.Core.List.{List, [], _∷_}
 use native.Mathlib.Omega.{arith}
-use lib.Dec.{T, T-not, not-T, eqb, leb, ltb, eqb→eq, eqb-refl, ltb→lt, lt→ltb, leb→le, nleb→lt, nltb→le}
+use lib.Dec.{T, T-not, not-T, leb, ltb, eqb→eq, ltb→lt, lt→ltb, leb→le, nleb→lt, nltb→le}
 use lib.ListN.{length, getD}
-use Rattle.machine.specs.Lists.{if_then_else_}
 use Rattle.machine.specs.State.{Channel, isFree}
 use Rattle.machine.specs.Maps.{odd, half, named}
 use Rattle.machine.specs.Choosing.{Choice, none, chosen, takeable, eligible, allFree, cost, firstFree, cheaper, cheapest, orElse, choose, Look, fails, held, grants, standing, look}

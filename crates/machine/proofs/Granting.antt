@@ -8,7 +8,7 @@ use mathlib.Core.List.{List, [], _∷_, _++_, map}
 use native.Mathlib.Omega.{arith}
 use lib.Dec.{T, T-not, eqb, leb, ltb, eqb→eq, leb→le, nleb→lt, ltb→lt, nltb→le}
 use lib.ListN.{length, length-append, length-map}
-use Rattle.machine.specs.Lists.{if_then_else_, any, keep, among}
+use Rattle.machine.specs.Lists.{any, keep, among}
 use Rattle.machine.specs.State.{Channel, State}
 use Rattle.machine.specs.Granting.{after, inUse, firstUnused, newKey, keyFor, taken, granted}
 use Rattle.machine.specs.Rule.{channel, Names, candidate, NewKey}

@@ -1,4 +1,6 @@
--- Keeping.
+-- Why a change of the state keeps it sound: what it leaves is a part of what was there, and what it alters is altered so that
+-- each lock still names locked channels of its own key. Here for freeing and granting; KeepingSettle.antt and
+-- KeepingCalls.antt have the rest.
 -- Assumes nothing.
 use Prim.Native.Nat.{ℕ, zero, suc, _^_, _≤_}
 use mathlib.Core.Path.{_≡_}
@@ -12,12 +14,14 @@ use Rattle.machine.specs.State.{Channel, Lock, Request, State}
 use Rattle.machine.specs.Maps.{odd, half, minus, named, change}
 use Rattle.machine.specs.Granting.{taken, keyFor, lastFor, newKey, granted}
 use Rattle.machine.specs.Commands.{freed, cleared, isEmpty, freeing}
-use Rattle.machine.specs.Sound.{sound, soundChannel, soundLock, soundRequest, inOrder, ids, writesOf}
+use Rattle.machine.specs.Sound.{soundChannel, soundLock, soundRequest, inOrder, ids, writesOf}
 use Rattle.machine.proofs.Tests.{if-elim, and-left, and-right, and-both, or-named, or-mono}
 use Rattle.machine.proofs.Lists.{Sub, end, skip, take, sub-refl, sub-nil, sub-append, sub-all, sub-distinct}
 use Rattle.machine.proofs.Maps.{odd-bit, half-bit, length-change, minus-lt}
 use Rattle.machine.proofs.Granting.{newKey-range}
-use Rattle.machine.proofs.Sound.{Parts, parts}
+use Rattle.machine.proofs.Sound.{Parts}
+
+-- ---- a state of parts of another
 
 pub requests-length : (cs ds : List Channel) → length ds ≡ length cs → (rs : List Request) → T (all (soundRequest cs) rs) → T (all (soundRequest ds) rs)
 unfolding all soundRequest
@@ -52,7 +56,8 @@ parts-sub s t q e c l w i o a =
       lastOK = a;
     }
 
--- changes of channels
+-- ---- change
+
 module _ (f : Channel → Channel) where
   pub channels-change : ((c : Channel) → T (soundChannel c) → T (soundChannel (f c))) → (m : ℕ) (cs : List Channel) → T (all soundChannel cs) → T (all soundChannel (change f m cs))
   unfolding all change
@@ -104,6 +109,8 @@ module _ (f : Channel → Channel) where
       go true false v = v
       go false b v = tt
 
+-- ---- soundLock
+
 -- a lock is sound for other channels, if what it names is as it should be there
 pub lock-parts : (cs : List Channel) (l : Lock) → T (soundLock cs l)
     → T (not (eqb (l .map) 0)) × T (ltb (l .map) (2 ^ length cs)) × T (not (eqb (l .key) 0)) × T (named (λ c. c .locked && eqb (c .key) (l .key)) (l .map) cs)
@@ -134,7 +141,8 @@ locks-to cs ds e g (l ∷ ls) t =
     (lock-from ds l (h .0) (rw e (h .1)) (h .2) (g l (h .3)))
     (locks-to cs ds e g ls (and-right (soundLock cs l) (all (soundLock cs) ls) t))
 
--- freeing
+-- ---- freeing
+
 cleared-sound : (f : ℕ) (cs : List Channel) (ls : List Lock) → T (all (soundLock cs) ls)
     → T (all (soundLock (change freed f cs)) (keep (λ l. not (isEmpty l)) (cleared (length cs) f ls)))
 unfolding all keep cleared isEmpty
@@ -167,7 +175,8 @@ freeing-sound f s q =
     (sub-append (sub-append (writes-change freed (λ c. sub-nil (c .writes)) f (s .channels)) (cleared-ids (length (s .channels)) f (s .locks))) (sub-refl (map (λ (r : Request). r .id) (s .waiting))))
     (q .opensOK) (q .lastOK)
 
--- a grant
+-- ---- granted
+
 pub keyFor-range : (k : ℕ) (s : State) → k ≤ 65535 → (1 ≤ keyFor k s) × (keyFor k s ≤ 65535)
 unfolding keyFor
 keyFor-range zero s h = newKey-range s

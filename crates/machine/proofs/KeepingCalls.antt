@@ -1,4 +1,5 @@
--- KeepingCalls.
+-- Why every call keeps a state sound: each command alters only channels that have its key, which are allocated; what becomes
+-- outstanding has an id that was idle and below 64; and settling keeps soundness.
 -- Assumes nothing.
 use Prim.Native.Nat.{ℕ, suc, _+_, _^_, _<_, pred}
 use mathlib.Core.Path.{_≡_, refl, ap, ap₂, subst, sym, _∙_}
@@ -27,13 +28,7 @@ use Rattle.machine.proofs.Sound.{Parts, parts, unparts}
 use Rattle.machine.proofs.Keeping.{parts-sub, requests-length, writes-change, named-keep, locks-to, lock-from, freeing-sound, grant-sound}
 use Rattle.machine.proofs.KeepingSettle.{settle-sound, Unlocked, look-unlocked}
 
-range-prec : (c : Call) → T (inRange c) → T (leb (c .prec) 255)
-unfolding inRange
-range-prec c r = and-left (leb (c .prec) 255) (leb (c .key) 65535) r
-
-range-key : (c : Call) → T (inRange c) → T (leb (c .key) 65535)
-unfolding inRange
-range-key c r = and-right (leb (c .prec) 255) (leb (c .key) 65535) r
+-- ---- matching: the channels that a command alters are allocated
 
 pub channels-at : (q : Channel → Bool) (f : Channel → Channel) → ((c : Channel) → T (q c) → T (soundChannel c) → T (soundChannel (f c)))
     → (m : ℕ) (cs : List Channel) → T (named q m cs) → T (all soundChannel cs) → T (all soundChannel (change f m cs))
@@ -73,6 +68,8 @@ alloc-prec : (c : Channel) → T (not (isFree c)) → T (soundChannel c) → T (
 unfolding soundChannel
 alloc-prec c n t = and-right (leb (c .key) 65535) (leb (c .prec) 255) (rw (test-false (isFree c) n) at t)
 
+-- ---- RESET, UPDATE, CLEAR, STOP, START, FLUSH, SETPREC
+
 -- a change of allocated channels that keeps key and lock mark and drops writes
 module _ (q : Channel → Bool) (alloc : (c : Channel) → T (q c) → T (not (isFree c))) (f : Channel → Channel) (key : (c : Channel) → f c .key ≡ c .key)
     (lck : (c : Channel) → f c .locked ≡ c .locked) (prec : (c : Channel) → T (leb (c .prec) 255) → T (leb (f c .prec) 255)) where
@@ -100,6 +97,8 @@ each-sound n f key lck prec w drops c s p =
     let m = matching (c .key) (c .map) (s .channels) in
     change-sound (matches (c .key)) (match-alloc (c .key)) f key lck prec m s (matching-named (c .key) (c .map) (s .channels)) (writes-change f w m (s .channels)) p
 
+-- ---- the event
+
 pub change-zero : (f : Channel → Channel) (cs : List Channel) → change f 0 cs ≡ cs
 unfolding change odd half
 change-zero f [] = refl
@@ -119,21 +118,6 @@ put-sub ws m (c ∷ cs) h = go (odd m) h (put-sub ws (half m) cs)
         → Sub (writesOf (change (setWrites ws) (if b then 1 else bit false x) (c ∷ cs))) (c .writes ++ writesOf cs)
     go true u ih = unfold at odd half in sub-append u (rw (change-zero (setWrites ws) cs) (sub-refl (writesOf cs)))
     go false u ih = unfold at in (rw (odd-bit false x, half-bit false x) (sub-append (sub-refl (c .writes)) (ih (rw (odd-bit false x, half-bit false x) at u))))
-
-put-ins : (i m : ℕ) (cs : List Channel) → T (not (isFree (at (lowest (length cs) m) cs)))
-    → Ins i (writesOf cs) (writesOf (change (setWrites (at (lowest (length cs) m) cs .writes ++ i ∷ [])) (lowest (length cs) m) cs))
-unfolding lowest change writesOf
-put-ins i m [] h = absurd (unfold at in h)
-put-ins i m (c ∷ cs) h = go (odd m) h (put-ins i (half m) cs)
-  where
-    x : ℕ
-    x = lowest (length cs) (half m)
-
-    go : (b : Bool) → T (not (isFree (at (if b then 1 else bit false x) (c ∷ cs))))
-        → (T (not (isFree (at x cs))) → Ins i (writesOf cs) (writesOf (change (setWrites (at x cs .writes ++ i ∷ [])) x cs)))
-        → Ins i (c .writes ++ writesOf cs) (writesOf (change (setWrites (at (if b then 1 else bit false x) (c ∷ cs) .writes ++ i ∷ [])) (if b then 1 else bit false x) (c ∷ cs)))
-    go true u ih = unfold at odd half in (rw (change-zero (setWrites (c .writes ++ i ∷ [])) cs) (ins-right (writesOf cs) (ins-end (c .writes))))
-    go false u ih = unfold at in (rw (odd-bit false x, half-bit false x) (ins-left (c .writes) (ih (rw (odd-bit false x, half-bit false x) at u))))
 
 sub-back : (ws : List ℕ) → Sub (back ws) ws
 unfolding back
@@ -169,7 +153,8 @@ event-sound c s p =
     h : Channel
     h = at m (s .channels)
 
--- one id more
+-- ---- LOCK, WRITE, ALLOCATE: one id more
+
 parts-ins : (i : ℕ) (s t : State) → Parts s → length (t .channels) ≡ length (s .channels) → T (all soundChannel (t .channels)) → T (all (soundLock (t .channels)) (t .locks))
     → T (all (soundRequest (t .channels)) (t .waiting)) → T (inOrder (t .waiting)) → Ins i (ids s) (ids t) → T (ltb i 64) → T (not (among i (ids s)))
     → t .opens ≡ s .opens → t .last ≡ s .last → Parts t
@@ -187,21 +172,6 @@ parts-ins i s t p e c l w o n b a x y =
       lastOK = rw y (p .lastOK);
     }
 
-opens-sound : (n : ℕ) (s : State) → Parts s → T (leb n 65535) → Parts (withOpens n s)
-unfolding ids
-opens-sound n s p t =
-    parts-sub s (withOpens n s) p refl (p .channelsOK) (p .locksOK) (sub-refl (s .waiting)) (sub-refl (ids s)) t (p .lastOK)
-
--- a look that waits, unless there is no waiting
-abbrev Waits : Look → Type 0
-Waits fails = Unit {0}
-Waits (held m) = Unit {0}
-Waits (grants m) = ⊥
-
-zero-look : (cs : List Channel) → (if named (λ c. not (c .locked)) 0 cs then grants 0 else held 0) ≡ grants 0
-zero-look cs = rw (test-true (named (λ c. not (c .locked)) 0 cs) (named-zero (λ c. not (c .locked)) cs))
-
--- a new lock
 named-none : (m : ℕ) (cs : List Channel) → T (named (λ c. false) m cs) → m < 2 ^ length cs → m ≡ 0
 unfolding named half bit
 named-none m [] t h = omega arith
@@ -241,7 +211,21 @@ pub lock-ids : (l : Lock) (ls : List Lock) → Ins (l .id) (map (λ (k : Lock). 
 lock-ids l [] = here
 lock-ids l (k ∷ ks) = there (lock-ids l ks)
 
--- a new waiting request
+put-ins : (i m : ℕ) (cs : List Channel) → T (not (isFree (at (lowest (length cs) m) cs)))
+    → Ins i (writesOf cs) (writesOf (change (setWrites (at (lowest (length cs) m) cs .writes ++ i ∷ [])) (lowest (length cs) m) cs))
+unfolding lowest change writesOf
+put-ins i m [] h = absurd (unfold at in h)
+put-ins i m (c ∷ cs) h = go (odd m) h (put-ins i (half m) cs)
+  where
+    x : ℕ
+    x = lowest (length cs) (half m)
+
+    go : (b : Bool) → T (not (isFree (at (if b then 1 else bit false x) (c ∷ cs))))
+        → (T (not (isFree (at x cs))) → Ins i (writesOf cs) (writesOf (change (setWrites (at x cs .writes ++ i ∷ [])) x cs)))
+        → Ins i (c .writes ++ writesOf cs) (writesOf (change (setWrites (at (if b then 1 else bit false x) (c ∷ cs) .writes ++ i ∷ [])) (if b then 1 else bit false x) (c ∷ cs)))
+    go true u ih = unfold at odd half in (rw (change-zero (setWrites (c .writes ++ i ∷ [])) cs) (ins-right (writesOf cs) (ins-end (c .writes))))
+    go false u ih = unfold at in (rw (odd-bit false x, half-bit false x) (ins-left (c .writes) (ih (rw (odd-bit false x, half-bit false x) at u))))
+
 enqueue-all : (q : Request → Bool) (r : Request) (ws : List Request) → T (q r) → T (all q ws) → T (all q (enqueue r ws))
 unfolding enqueue all
 enqueue-all q r [] t u = and-both (q r) true t tt
@@ -274,6 +258,12 @@ unfolding enqueue
 enqueue-ids r [] = here
 enqueue-ids r (w ∷ ws) =
     if-elim (λ (qs : List Request). Ins (r .id) (w .id ∷ map (λ (q : Request). q .id) ws) (map (λ (q : Request). q .id) qs)) (ltb (w .prec) (r .prec)) (λ _. here) (λ _. there (enqueue-ids r ws))
+
+-- a look that waits, unless there is no waiting
+abbrev Waits : Look → Type 0
+Waits fails = Unit {0}
+Waits (held m) = Unit {0}
+Waits (grants m) = ⊥
 
 module _ (c : Call) (s : State) (p : Parts s) (small : T (ltb (c .id) 64)) (idle : T (not (among (c .id) (ids s)))) where
   write-sound : Parts (doWrite c s .next)
@@ -359,11 +349,21 @@ module _ (c : Call) (s : State) (p : Parts s) (small : T (ltb (c .id) 64)) (idle
   allocate-sound (held m) u a b e f w = waits-sound a b (w tt) e f
   allocate-sound (grants m) u a b e f w = grant-sound m (c .key) (c .prec) s (leb→le (c .key) 65535 b) (leb→le (c .prec) 255 a) u p
 
+zero-look : (cs : List Channel) → (if named (λ c. not (c .locked)) 0 cs then grants 0 else held 0) ≡ grants 0
+zero-look cs = rw (test-true (named (λ c. not (c .locked)) 0 cs) (named-zero (λ c. not (c .locked)) cs))
+
 -- the empty list is granted
 empty-grants : (prec : ℕ) (ms : List ℕ) (cs : List Channel) → Waits (look prec ms cs) → T (leb 1 (length ms))
 unfolding look standing choose
 empty-grants prec [] cs w = absurd (subst Waits (zero-look cs) w)
 empty-grants prec (m ∷ ms) cs w = le→leb 1 (suc (length ms)) (omega arith)
+
+-- ---- OPEN, CLOSE
+
+opens-sound : (n : ℕ) (s : State) → Parts s → T (leb n 65535) → Parts (withOpens n s)
+unfolding ids
+opens-sound n s p t =
+    parts-sub s (withOpens n s) p refl (p .channelsOK) (p .locksOK) (sub-refl (s .waiting)) (sub-refl (ids s)) t (p .lastOK)
 
 open-sound : (l : Look) (c : Call) (s : State) → Parts s → Unlocked (s .channels) l → T (leb (c .prec) 255) → T (leb (c .key) 65535) → T (not (leb 65535 (s .opens))) → Parts (opening l c s .next)
 unfolding opening silent
@@ -380,7 +380,8 @@ close-sound c s p =
     opens-sound (pred (s .opens)) (freeing (owned (c .key) (s .channels)) s) (freeing-sound (owned (c .key) (s .channels)) s p)
     (let h = leb→le (s .opens) 65535 (p .opensOK) in le→leb (pred (s .opens)) 65535 (omega arith))
 
--- ABORT
+-- ---- ABORT
+
 keep-empty : (q : ℕ → Bool) (ws : List ℕ) → T (eqb (length ws) 0) → T (eqb (length (keep q ws)) 0)
 unfolding keep
 keep-empty q [] t = tt
@@ -424,6 +425,16 @@ abort-sound c s p =
     (sub-keep (λ (r : Request). not (eqb (c .id) (r .id))) (s .waiting))
     (sub-append (sub-append (without-writes (c .id) (s .channels)) (sub-refl (map (λ (l : Lock). l .id) (s .locks)))) (sub-map (λ (r : Request). r .id) (sub-keep (λ (r : Request). not (eqb (c .id) (r .id))) (s .waiting))))
     (p .opensOK) (p .lastOK)
+
+-- ---- call
+
+range-prec : (c : Call) → T (inRange c) → T (leb (c .prec) 255)
+unfolding inRange
+range-prec c r = and-left (leb (c .prec) 255) (leb (c .key) 65535) r
+
+range-key : (c : Call) → T (inRange c) → T (leb (c .key) 65535)
+unfolding inRange
+range-key c r = and-right (leb (c .prec) 255) (leb (c .key) 65535) r
 
 -- lists of maps in range
 maps-ok : (n : ℕ) (ms : List ℕ) → T (not (any (λ m. not (ltb m n)) ms)) → T (all (λ m. ltb m n) ms)

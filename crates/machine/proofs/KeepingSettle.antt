@@ -1,12 +1,13 @@
--- KeepingSettle.
+-- Why settling keeps a state sound: a walk only takes requests and locks away, and a grant names no locked channel, so no
+-- lock loses a channel.
 -- Assumes nothing.
 use Prim.Native.Nat.{ℕ, zero, suc, _≤_}
 use mathlib.Core.Path.{refl}
 use mathlib.Core.Bool.{not, _&&_}
-use mathlib.Core.List.{List, [], _∷_, map}
+use mathlib.Core.List.{List, [], _∷_}
 use lib.Dec.{T, leb, ltb, leb→le}
 use lib.ListN.{length}
-use Rattle.machine.specs.Lists.{if_then_else_, all, keep}
+use Rattle.machine.specs.Lists.{all, keep}
 use Rattle.machine.specs.State.{Channel, Lock, Request, State}
 use Rattle.machine.specs.Maps.{meets, named}
 use Rattle.machine.specs.Choosing.{Choice, none, chosen, choose, Look, fails, held, grants, standing, look}
@@ -17,6 +18,8 @@ use Rattle.machine.proofs.Tests.{if-elim, and-left, and-right}
 use Rattle.machine.proofs.Lists.{Sub, end, skip, take, sub-refl, sub-append, sub-keep, sub-map, sub-all, sub-trans}
 use Rattle.machine.proofs.Sound.{Parts}
 use Rattle.machine.proofs.Keeping.{parts-sub, grant-sound}
+
+-- ---- look: what is granted names no locked channel
 
 abbrev pub Unlocked : List Channel → Look → Type 0
 Unlocked cs fails = Unit {0}
@@ -31,6 +34,8 @@ standing-unlocked (chosen m) cs = if-elim (Unlocked cs) (named (λ c. not (c .lo
 pub look-unlocked : (prec : ℕ) (ms : List ℕ) (cs : List Channel) → Unlocked cs (look prec ms cs)
 unfolding look
 look-unlocked prec ms cs = standing-unlocked (choose prec ms cs) cs
+
+-- ---- walk
 
 abbrev FoundSound : List Channel → Found → Type 0
 FoundSound cs nobody = Unit {0}
@@ -61,6 +66,8 @@ walk-sound cs [] a ls = record { found = tt; waiting = end; locks = sub-refl ls 
 walk-sound cs (r ∷ rs) a ls =
     onLook-sound (length cs) cs (look (r .prec) (r .combos) cs) r rs ls (walk cs rs) (look-unlocked (r .prec) (r .combos) cs)
     (and-left (soundRequest cs r) (all (soundRequest cs) rs) a) (walk-sound cs rs (and-right (soundRequest cs r) (all (soundRequest cs) rs) a))
+
+-- ---- settle
 
 request-range : (cs : List Channel) (r : Request) → T (soundRequest cs r) → (r .key ≤ 65535) × (r .prec ≤ 255)
 unfolding soundRequest

@@ -1,5 +1,6 @@
 pub mod Tests
 pub mod Lists
+pub mod Counting
 pub mod Maps
 pub mod Choosing
 pub mod Sound

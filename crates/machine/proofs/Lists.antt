@@ -8,9 +8,87 @@ use mathlib.Core.List.{List, [], _∷_, _++_, map}
 use lib.Dec.{T, T-not, not-T, eqb, ltb, eqb→eq, eqb-refl, ltb→lt, lt→ltb}
 use native.Mathlib.Omega.{arith}
 use lib.ListN.{length}
-use Rattle.machine.specs.Lists.{if_then_else_, any, all, keep, among, distinct}
+use Rattle.machine.specs.Lists.{any, all, keep, among, distinct}
 use Rattle.machine.specs.Maps.{at}
 use Rattle.machine.proofs.Tests.{eqb-flip, if-elim, and-left, and-right, and-both, nor-left, nor-right, nor-both, by-test, test-true, test-false}
+
+-- ---- among
+
+pub among-append : (i : ℕ) (xs ys : List ℕ) → among i (xs ++ ys) ≡ (among i xs || among i ys)
+unfolding among any
+among-append i [] ys = refl
+among-append i (x ∷ xs) ys = go (eqb i x) (among-append i xs ys)
+  where
+    go : (b : Bool) → among i (xs ++ ys) ≡ (among i xs || among i ys) → (b || among i (xs ++ ys)) ≡ ((b || among i xs) || among i ys)
+    go true e = refl
+    go false e = e
+
+-- what passes a test that each element of a list passes
+pub among-all : (p : ℕ → Bool) (x : ℕ) (ys : List ℕ) → T (all p ys) → T (among x ys) → T (p x)
+unfolding among any all
+among-all p x [] t u = absurd u
+among-all p x (y ∷ ys) t u =
+    by-test (eqb x y)
+    (λ e. rw (eqb→eq x y e) (and-left (p y) (all p ys) t))
+    (λ n. among-all p x ys (and-right (p y) (all p ys) t) (rw (test-false (eqb x y) n) at u))
+
+-- ---- all, keep
+
+pub all-keep {ℓ} : {A : Type ℓ} (q r : A → Bool) (xs : List A) → T (all q xs) → T (all q (keep r xs))
+unfolding all keep
+all-keep q r [] t = tt
+all-keep q r (x ∷ xs) t =
+    let ih = all-keep q r xs (and-right (q x) (all q xs) t) in
+    if-elim (λ ys. T (all q ys)) (r x) (λ _. and-both (q x) (all q (keep r xs)) (and-left (q x) (all q xs) t) ih) (λ _. ih)
+
+pub all-append {ℓ} : {A : Type ℓ} (q : A → Bool) (xs ys : List A) → T (all q xs) → T (all q ys) → T (all q (xs ++ ys))
+unfolding all
+all-append q [] ys t u = u
+all-append q (x ∷ xs) ys t u = and-both (q x) (all q (xs ++ ys)) (and-left (q x) (all q xs) t) (all-append q xs ys (and-right (q x) (all q xs) t) u)
+
+pub keep-length {ℓ} : {A : Type ℓ} (q : A → Bool) (xs : List A) → length (keep q xs) ≤ length xs
+unfolding keep
+keep-length q [] = omega arith
+keep-length {A = A} q (x ∷ xs) =
+    let ih = keep-length q xs in
+    if-elim (λ (ys : List A). length ys ≤ suc (length xs)) (q x) (λ _. omega arith) (λ _. omega arith)
+
+pub keep-append {ℓ} : {A : Type ℓ} (q : A → Bool) (xs ys : List A) → keep q (xs ++ ys) ≡ keep q xs ++ keep q ys
+unfolding keep
+keep-append q [] ys = refl
+keep-append q (x ∷ xs) ys =
+    by-test (q x)
+    (λ t. rw (test-true (q x) t) (ap (λ zs. x ∷ zs) (keep-append q xs ys)))
+    (λ t. rw (test-false (q x) t) (keep-append q xs ys))
+
+pub keep-twice {ℓ} : {A : Type ℓ} (q : A → Bool) (xs : List A) → keep q (keep q xs) ≡ keep q xs
+unfolding keep
+keep-twice q [] = refl
+keep-twice q (x ∷ xs) =
+    by-test (q x)
+    (λ t. rw (test-true (q x) t, test-true (q x) t) (ap (λ ys. x ∷ ys) (keep-twice q xs)))
+    (λ t. rw (test-false (q x) t) (keep-twice q xs))
+
+pub keep-none {ℓ} : {A : Type ℓ} (q : A → Bool) (xs : List A) → T (all (λ x. not (q x)) xs) → keep q xs ≡ []
+unfolding keep all
+keep-none q [] t = refl
+keep-none q (x ∷ xs) t =
+    rw (test-false (q x) (and-left (not (q x)) (all (λ y. not (q y)) xs) t)) (keep-none q xs (and-right (not (q x)) (all (λ y. not (q y)) xs) t))
+
+pub keep-each {ℓ} : {A : Type ℓ} (q : A → Bool) (xs : List A) → T (all q xs) → keep q xs ≡ xs
+unfolding keep all
+keep-each q [] t = refl
+keep-each q (x ∷ xs) t = rw (test-true (q x) (and-left (q x) (all q xs) t)) (ap (λ ys. x ∷ ys) (keep-each q xs (and-right (q x) (all q xs) t)))
+
+pub keep-all {ℓ} : {A : Type ℓ} (q : A → Bool) (xs : List A) → T (all q (keep q xs))
+unfolding keep all
+keep-all q [] = tt
+keep-all q (x ∷ xs) =
+    by-test (q x)
+    (λ t. rw (test-true (q x) t) (and-both (q x) (all q (keep q xs)) t (keep-all q xs)))
+    (λ t. rw (test-false (q x) t) (keep-all q xs))
+
+-- ---- Sub: a list with some elements left out
 
 pub data Sub {ℓ} {A : Type ℓ} : List A → List A → Type ℓ where
   end : Sub [] []
@@ -29,6 +107,12 @@ pub sub-append {ℓ} : {A : Type ℓ} {ws xs ys zs : List A} → Sub ws xs → S
 sub-append end k = k
 sub-append (skip h) k = skip (sub-append h k)
 sub-append (take h) k = take (sub-append h k)
+
+pub sub-trans {ℓ} : {A : Type ℓ} {xs ys zs : List A} → Sub xs ys → Sub ys zs → Sub xs zs
+sub-trans h end = h
+sub-trans h (skip k) = skip (sub-trans h k)
+sub-trans (skip h) (take k) = skip (sub-trans h k)
+sub-trans (take h) (take k) = take (sub-trans h k)
 
 pub sub-keep {ℓ} : {A : Type ℓ} (q : A → Bool) (xs : List A) → Sub (keep q xs) xs
 unfolding keep
@@ -59,31 +143,8 @@ sub-distinct (skip {x = x} {ys = ys} h) t = sub-distinct h (and-right (not (amon
 sub-distinct (take {x = x} {xs = xs} {ys = ys} h) t =
     and-both (not (among x xs)) (distinct xs) (sub-among x h (and-left (not (among x ys)) (distinct ys) t)) (sub-distinct h (and-right (not (among x ys)) (distinct ys) t))
 
-pub among-append : (i : ℕ) (xs ys : List ℕ) → among i (xs ++ ys) ≡ (among i xs || among i ys)
-unfolding among any
-among-append i [] ys = refl
-among-append i (x ∷ xs) ys = go (eqb i x) (among-append i xs ys)
-  where
-    go : (b : Bool) → among i (xs ++ ys) ≡ (among i xs || among i ys) → (b || among i (xs ++ ys)) ≡ ((b || among i xs) || among i ys)
-    go true e = refl
-    go false e = e
+-- ---- Ins: a list with one number more
 
--- what passes a test that each element of a list passes
-pub among-all : (p : ℕ → Bool) (x : ℕ) (ys : List ℕ) → T (all p ys) → T (among x ys) → T (p x)
-unfolding among any all
-among-all p x [] t u = absurd u
-among-all p x (y ∷ ys) t u =
-    by-test (eqb x y)
-    (λ e. rw (eqb→eq x y e) (and-left (p y) (all p ys) t))
-    (λ n. among-all p x ys (and-right (p y) (all p ys) t) (rw (test-false (eqb x y) n) at u))
-
-pub sub-trans {ℓ} : {A : Type ℓ} {xs ys zs : List A} → Sub xs ys → Sub ys zs → Sub xs zs
-sub-trans h end = h
-sub-trans h (skip k) = skip (sub-trans h k)
-sub-trans (skip h) (take k) = skip (sub-trans h k)
-sub-trans (take h) (take k) = take (sub-trans h k)
-
--- one element more
 pub data Ins (i : ℕ) : List ℕ → List ℕ → Type 0 where
   here : {xs : List ℕ} → Ins i xs (i ∷ xs)
   there : {x : ℕ} {xs ys : List ℕ} → Ins i xs ys → Ins i (x ∷ xs) (x ∷ ys)
@@ -121,6 +182,8 @@ ins-distinct {i} (there {x = x} {xs = xs} {ys = ys} h) n t =
     and-both (not (among x ys)) (distinct ys)
     (ins-among x h (not-flip i x (nor-left (eqb i x) (among i xs) n)) (and-left (not (among x xs)) (distinct xs) t))
     (ins-distinct h (nor-right (eqb i x) (among i xs) n) (and-right (not (among x xs)) (distinct xs) t))
+
+-- ---- distinct numbers below n are at most n
 
 less : ℕ → List ℕ → List ℕ
 less k xs = keep (λ x. not (eqb k x)) xs
@@ -179,57 +242,3 @@ pigeon (suc n) xs d t =
     let ih = pigeon n (less n xs) (less-distinct n xs d) (less-below n xs t) in
     let g = less-ge n xs d in
     omega arith
-
-pub all-keep {ℓ} : {A : Type ℓ} (q r : A → Bool) (xs : List A) → T (all q xs) → T (all q (keep r xs))
-unfolding all keep
-all-keep q r [] t = tt
-all-keep q r (x ∷ xs) t =
-    let ih = all-keep q r xs (and-right (q x) (all q xs) t) in
-    if-elim (λ ys. T (all q ys)) (r x) (λ _. and-both (q x) (all q (keep r xs)) (and-left (q x) (all q xs) t) ih) (λ _. ih)
-
-pub all-append {ℓ} : {A : Type ℓ} (q : A → Bool) (xs ys : List A) → T (all q xs) → T (all q ys) → T (all q (xs ++ ys))
-unfolding all
-all-append q [] ys t u = u
-all-append q (x ∷ xs) ys t u = and-both (q x) (all q (xs ++ ys)) (and-left (q x) (all q xs) t) (all-append q xs ys (and-right (q x) (all q xs) t) u)
-
-pub keep-length {ℓ} : {A : Type ℓ} (q : A → Bool) (xs : List A) → length (keep q xs) ≤ length xs
-unfolding keep
-keep-length q [] = omega arith
-keep-length {A = A} q (x ∷ xs) =
-    let ih = keep-length q xs in
-    if-elim (λ (ys : List A). length ys ≤ suc (length xs)) (q x) (λ _. omega arith) (λ _. omega arith)
-
-pub keep-append {ℓ} : {A : Type ℓ} (q : A → Bool) (xs ys : List A) → keep q (xs ++ ys) ≡ keep q xs ++ keep q ys
-unfolding keep
-keep-append q [] ys = refl
-keep-append q (x ∷ xs) ys =
-    by-test (q x)
-    (λ t. rw (test-true (q x) t) (ap (λ zs. x ∷ zs) (keep-append q xs ys)))
-    (λ t. rw (test-false (q x) t) (keep-append q xs ys))
-
-pub keep-twice {ℓ} : {A : Type ℓ} (q : A → Bool) (xs : List A) → keep q (keep q xs) ≡ keep q xs
-unfolding keep
-keep-twice q [] = refl
-keep-twice q (x ∷ xs) =
-    by-test (q x)
-    (λ t. rw (test-true (q x) t, test-true (q x) t) (ap (λ ys. x ∷ ys) (keep-twice q xs)))
-    (λ t. rw (test-false (q x) t) (keep-twice q xs))
-
-pub keep-none {ℓ} : {A : Type ℓ} (q : A → Bool) (xs : List A) → T (all (λ x. not (q x)) xs) → keep q xs ≡ []
-unfolding keep all
-keep-none q [] t = refl
-keep-none q (x ∷ xs) t =
-    rw (test-false (q x) (and-left (not (q x)) (all (λ y. not (q y)) xs) t)) (keep-none q xs (and-right (not (q x)) (all (λ y. not (q y)) xs) t))
-
-pub keep-each {ℓ} : {A : Type ℓ} (q : A → Bool) (xs : List A) → T (all q xs) → keep q xs ≡ xs
-unfolding keep all
-keep-each q [] t = refl
-keep-each q (x ∷ xs) t = rw (test-true (q x) (and-left (q x) (all q xs) t)) (ap (λ ys. x ∷ ys) (keep-each q xs (and-right (q x) (all q xs) t)))
-
-pub keep-all {ℓ} : {A : Type ℓ} (q : A → Bool) (xs : List A) → T (all q (keep q xs))
-unfolding keep all
-keep-all q [] = tt
-keep-all q (x ∷ xs) =
-    by-test (q x)
-    (λ t. rw (test-true (q x) t) (and-both (q x) (all q (keep q xs)) t (keep-all q xs)))
-    (λ t. rw (test-false (q x) t) (keep-all q xs))

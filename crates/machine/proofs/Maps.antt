@@ -1,10 +1,11 @@
--- Maps.
+-- Why a map can be walked beside the channels: its lowest bit stands for the first channel and its half for the others, so
+-- each law goes by induction on the channels. Bit i of the map names channel i.
 -- Assumes nothing.
 use Prim.Native.Nat.{ℕ, zero, suc, _<_, _+_, _*_, _/_, _%_, _^_}
 use mathlib.Core.Path.{_≡_, refl, ap, ap₂, sym, _∙_}
 use mathlib.Core.Logic.{_↔_}
 use mathlib.Core.Bool.{Bool, true, false, not, _&&_, _||_}
-use mathlib.Core.List.{List, [], _∷_, map}
+use mathlib.Core.List.{List, [], _∷_}
 use native.Mathlib.Nat.{div-div-eq-div-mul, pow-succ'}
 use native.Mathlib.Omega.{arith}
 use lib.Dec.{T, eqb, eqb→eq, T-not}
@@ -15,20 +16,7 @@ use Rattle.machine.specs.Maps.{odd, half, named, bit, lowest, minus, mee
 use Rattle.machine.specs.Rule.{channel, Names}
 use Rattle.machine.proofs.Tests.{if-elim, and-left, and-right, and-both, or-named, or-from, or-mono, by-test, test-true, test-false, nor-left, nor-right}
 
--- a test that implies another does so of all channels named
-pub named-mono : (p q : Channel → Bool) (m : ℕ) (cs : List Channel) → ((c : Channel) → T (p c) → T (q c)) → T (named p m cs) → T (named q m cs)
-unfolding named
-named-mono p q m [] f t = tt
-named-mono p q m (c ∷ cs) f t =
-    and-both (not (odd m) || q c) (named q (half m) cs)
-    (or-mono (odd m) (p c) (q c) (f c) (and-left (not (odd m) || p c) (named p (half m) cs) t))
-    (named-mono p q (half m) cs f (and-right (not (odd m) || p c) (named p (half m) cs) t))
-
--- map 0 names nothing
-pub named-zero : (p : Channel → Bool) (cs : List Channel) → T (named p 0 cs)
-unfolding named odd half
-named-zero p [] = tt
-named-zero p (c ∷ cs) = named-zero p cs
+-- ---- bit, odd, half
 
 -- the lowest bit and the rest of a map
 pub odd-bit : (b : Bool) (m : ℕ) → odd (bit b m) ≡ b
@@ -54,6 +42,34 @@ bit-of m =
     (λ t. let e = eqb→eq (m % 2) 1 t in rw (test-true (eqb (m % 2) 1) t) (omega arith))
     (λ t. let h : m % 2 ≡ 1 → ⊥ = λ e. T-not (eqb (m % 2) 1) t (rw e tt) in rw (test-false (eqb (m % 2) 1) t) (omega arith))
 
+-- ---- named
+
+-- a test that implies another does so of all channels named
+pub named-mono : (p q : Channel → Bool) (m : ℕ) (cs : List Channel) → ((c : Channel) → T (p c) → T (q c)) → T (named p m cs) → T (named q m cs)
+unfolding named
+named-mono p q m [] f t = tt
+named-mono p q m (c ∷ cs) f t =
+    and-both (not (odd m) || q c) (named q (half m) cs)
+    (or-mono (odd m) (p c) (q c) (f c) (and-left (not (odd m) || p c) (named p (half m) cs) t))
+    (named-mono p q (half m) cs f (and-right (not (odd m) || p c) (named p (half m) cs) t))
+
+-- map 0 names nothing
+pub named-zero : (p : Channel → Bool) (cs : List Channel) → T (named p 0 cs)
+unfolding named odd half
+named-zero p [] = tt
+named-zero p (c ∷ cs) = named-zero p cs
+
+pub named-with : (q f r : Channel → Bool) (m : ℕ) (cs : List Channel) → ((c : Channel) → T (q c) → T (f c) → T (r c))
+    → T (named q m cs) → T (all f cs) → T (named r m cs)
+unfolding named all
+named-with q f r m [] h t u = tt
+named-with q f r m (c ∷ cs) h t u =
+    and-both (not (odd m) || r c) (named r (half m) cs)
+    (or-mono (odd m) (q c) (r c) (λ v. h c v (and-left (f c) (all f cs) u)) (and-left (not (odd m) || q c) (named q (half m) cs) t))
+    (named-with q f r (half m) cs h (and-right (not (odd m) || q c) (named q (half m) cs) t) (and-right (f c) (all f cs) u))
+
+-- ---- minus
+
 -- taking away what is not there
 pub minus-apart : (n m f : ℕ) → m < 2 ^ n → T (not (meets n f m)) → minus n m f ≡ m
 unfolding minus meets
@@ -69,25 +85,6 @@ minus-apart (suc n) m f l t =
     go false true u = refl
     go false false u = refl
 
-pub length-change : (f : Channel → Channel) (m : ℕ) (cs : List Channel) → length (change f m cs) ≡ length cs
-unfolding change
-length-change f m [] = refl
-length-change f m (c ∷ cs) = ap suc (length-change f (half m) cs)
-
--- the channel of the lowest bit
-pub low-named : (q : Channel → Bool) (m : ℕ) (cs : List Channel) → T (q (at (lowest (length cs) m) cs)) → T (named q (lowest (length cs) m) cs)
-unfolding named lowest
-low-named q m [] t = tt
-low-named q m (c ∷ cs) t = go (odd m) t (low-named q (half m) cs)
-  where
-    go : (b : Bool) → T (q (at (if b then 1 else bit false (lowest (length cs) (half m))) (c ∷ cs)))
-        → (T (q (at (lowest (length cs) (half m)) cs)) → T (named q (lowest (length cs) (half m)) cs))
-        → T (named q (if b then 1 else bit false (lowest (length cs) (half m))) (c ∷ cs))
-    go true u ih = unfold named at odd half in and-both (q c) (named q 0 cs) u (named-zero q cs)
-    go false u ih =
-        rw (odd-bit false (lowest (length cs) (half m)), half-bit false (lowest (length cs) (half m)))
-        (ih (unfold at in (rw (odd-bit false (lowest (length cs) (half m)), half-bit false (lowest (length cs) (half m))) at u)))
-
 pub minus-lt : (n m f : ℕ) → minus n m f < 2 ^ n
 unfolding minus bit
 minus-lt zero m f = omega arith
@@ -95,14 +92,7 @@ minus-lt (suc n) m f =
     let ih = minus-lt n (half m) (half f) in
     if-elim (λ (x : ℕ). x + 2 * minus n (half m) (half f) < 2 ^ suc n) (odd m && not (odd f)) (λ _. omega arith) (λ _. omega arith)
 
-pub named-with : (q f r : Channel → Bool) (m : ℕ) (cs : List Channel) → ((c : Channel) → T (q c) → T (f c) → T (r c))
-    → T (named q m cs) → T (all f cs) → T (named r m cs)
-unfolding named all
-named-with q f r m [] h t u = tt
-named-with q f r m (c ∷ cs) h t u =
-    and-both (not (odd m) || r c) (named r (half m) cs)
-    (or-mono (odd m) (q c) (r c) (λ v. h c v (and-left (f c) (all f cs) u)) (and-left (not (odd m) || q c) (named q (half m) cs) t))
-    (named-with q f r (half m) cs h (and-right (not (odd m) || q c) (named q (half m) cs) t) (and-right (f c) (all f cs) u))
+-- ---- meets
 
 -- maps that name apart share no channel
 pub apart-meets : (q : Channel → Bool) (m o : ℕ) (cs : List Channel) → T (named (λ c. not (q c)) m cs) → T (named q o cs) → meets (length cs) m o ≡ false
@@ -119,6 +109,29 @@ apart-meets q m o (c ∷ cs) t u =
     go true false d h k = refl
     go true true true h k = absurd h
     go true true false h k = absurd k
+
+-- ---- lowest
+
+-- the channel of the lowest bit
+pub low-named : (q : Channel → Bool) (m : ℕ) (cs : List Channel) → T (q (at (lowest (length cs) m) cs)) → T (named q (lowest (length cs) m) cs)
+unfolding named lowest
+low-named q m [] t = tt
+low-named q m (c ∷ cs) t = go (odd m) t (low-named q (half m) cs)
+  where
+    go : (b : Bool) → T (q (at (if b then 1 else bit false (lowest (length cs) (half m))) (c ∷ cs)))
+        → (T (q (at (lowest (length cs) (half m)) cs)) → T (named q (lowest (length cs) (half m)) cs))
+        → T (named q (if b then 1 else bit false (lowest (length cs) (half m))) (c ∷ cs))
+    go true u ih = unfold named at odd half in and-both (q c) (named q 0 cs) u (named-zero q cs)
+    go false u ih =
+        rw (odd-bit false (lowest (length cs) (half m)), half-bit false (lowest (length cs) (half m)))
+        (ih (unfold at in (rw (odd-bit false (lowest (length cs) (half m)), half-bit false (lowest (length cs) (half m))) at u)))
+
+-- ---- change
+
+pub length-change : (f : Channel → Channel) (m : ℕ) (cs : List Channel) → length (change f m cs) ≡ length cs
+unfolding change
+length-change f m [] = refl
+length-change f m (c ∷ cs) = ap suc (length-change f (half m) cs)
 
 -- ---- named and change, by the bits of the map
 

@@ -3,142 +3,32 @@
 -- and one more if it is the command's own. So each id is replied to once at most, and ids are below 64.
 -- Assumes nothing.
 use Prim.Native.Nat.{ℕ, zero, suc, _+_, _≤_, _<_}
-use mathlib.Core.Path.{_≡_, refl, ap, subst, sym, _∙_}
-use mathlib.Core.Bool.{Bool, true, false, not, _&&_, _||_}
+use mathlib.Core.Path.{_≡_, refl, ap}
+use mathlib.Core.Bool.{Bool, true, false, not}
 use mathlib.Core.List.{List, [], _∷_, _++_, map}
 use native.Mathlib.Omega.{arith}
-use lib.Dec.{T, T-not, not-T, eqb, leb, ltb, eqb→eq, eqb-refl, ltb→lt, lt→ltb, leb→le, nleb→lt, nltb→le}
+use lib.Dec.{T, T-not, eqb, leb, ltb, eqb→eq, eqb-refl, ltb→lt, nleb→lt, nltb→le}
 use lib.ListN.{length, length-map}
-use Rattle.machine.specs.Numbers.{quick, nowait, ABORTED, ALLOCFAILED, ADCMD·ALLOCATE, CHANNELSTOLEN, NONE}
+use Rattle.machine.specs.Numbers.{quick, nowait, ABORTED, ADCMD·ALLOCATE, CHANNELSTOLEN}
 use Rattle.machine.specs.Lists.{if_then_else_, any, all, keep, among, distinct}
-use Rattle.machine.specs.State.{Channel, Lock, Request, State, Reply, Answer, Outcome, Call, Op, OPEN, CLOSE, ABORT, EVENT, COMMAND, isFree, free}
+use Rattle.machine.specs.State.{Channel, Lock, Request, State, Reply, Answer, Outcome, Call, Op, OPEN, CLOSE, ABORT, EVENT, COMMAND, isFree}
 use Rattle.machine.specs.Maps.{odd, half, bit, lowest, meets, change, at}
 use Rattle.machine.specs.Choosing.{Look, fails, held, grants, look}
 use Rattle.machine.specs.Granting.{keyFor, aborted, abortedIn, taken, granted}
-use Rattle.machine.specs.Commands.{matches, matching, mismatch, done, pending, finished, silent, reset, freed, setPrec, flushed, setStop, setLock, same, setWrites, cleared, isEmpty, ended, freeing, freeingReplies, each, eachChange, doFree, doLock, front, back, playing, doRead, doWrite, doEvent, owned, doClose, abortedWrites, abortedWaits, without, doAbort}
+use Rattle.machine.specs.Commands.{matches, matching, mismatch, done, finished, silent, reset, freed, setPrec, flushed, setStop, setLock, same, setWrites, cleared, isEmpty, ended, freeing, freeingReplies, each, eachChange, doFree, doLock, front, back, playing, doRead, doWrite, doEvent, owned, doClose, abortedWrites, abortedWaits, without, doAbort}
 use Rattle.machine.specs.Allocating.{enqueue, waits, allocating, doAllocate, opening, doOpen}
 use Rattle.machine.specs.Settling.{Found, nobody, somebody, Walk, Settled, replied, staying, saying, onLook, walk, walked, goOn, rounds, settle}
-use Rattle.machine.specs.Sound.{sound, soundChannel, ids, writesOf}
+use Rattle.machine.specs.Sound.{sound, ids, writesOf}
 use Rattle.machine.specs.Kinds.{Kind, RESET, READ, WRITE, UPDATE, CLEAR, STOP, START, FLUSH, FREE, SETPREC, LOCK, ALLOCATE, UNKNOWN, kind}
 use Rattle.machine.specs.Refusals.{Refusal, accepted, refused, refusal, refuse}
 use Rattle.machine.specs.Call.{perform, settling, openSettling, accept, answering, call}
 use Rattle.machine.proofs.Tests.{if-elim, and-left, and-right, and-both, nor-left, nor-right, nor-both, by-test, test-true, test-false, eqb-false}
-use Rattle.machine.proofs.Lists.{Ins, here, there, pigeon}
+use Rattle.machine.proofs.Lists.{pigeon}
+use Rattle.machine.proofs.Counting.{count, count-nil, count-cons, count-append, count-map-append, count-keep, count-ins, count-one, count-other, count-absent, distinct-count, count-distinct, small-count, count-small}
 use Rattle.machine.proofs.Maps.{odd-bit, half-bit}
 use Rattle.machine.proofs.Refusals.{first-none, first-past, refuse-same, refuse-mute, refuse-heard, ownReply}
 use Rattle.machine.proofs.Sound.{Parts, parts}
-use Rattle.machine.proofs.KeepingCalls.{match-alloc, playing-alloc, at-sound, change-zero, lock-writes, lock-ids, enqueue-ids}
-
--- ---- count
-
--- how often a number stands in a list
-unfoldable pub count : ℕ → List ℕ → ℕ
-count i [] = 0
-count i (x ∷ xs) = (if eqb i x then 1 else 0) + count i xs
-
-count-nil : (i : ℕ) → count i [] ≡ 0
-unfolding count
-count-nil i = refl
-
-count-cons : (i x : ℕ) (xs : List ℕ) → count i (x ∷ xs) ≡ count i (x ∷ []) + count i xs
-unfolding count
-count-cons i x xs = omega arith
-
-count-append : (i : ℕ) (xs ys : List ℕ) → count i (xs ++ ys) ≡ count i xs + count i ys
-unfolding count
-count-append i [] ys = omega arith
-count-append i (x ∷ xs) ys = let ih = count-append i xs ys in omega arith
-
-count-map-append {ℓ} : {A : Type ℓ} (i : ℕ) (f : A → ℕ) (xs ys : List A) → count i (map f (xs ++ ys)) ≡ count i (map f xs) + count i (map f ys)
-unfolding count
-count-map-append i f [] ys = omega arith
-count-map-append i f (x ∷ xs) ys = let ih = count-map-append i f xs ys in omega arith
-
--- what passes a test and what does not are all
-count-keep {ℓ} : {A : Type ℓ} (i : ℕ) (f : A → ℕ) (q : A → Bool) (xs : List A)
-    → count i (map f (keep q xs)) + count i (map f (keep (λ x. not (q x)) xs)) ≡ count i (map f xs)
-unfolding count keep
-count-keep i f q [] = refl
-count-keep i f q (x ∷ xs) =
-    let ih = count-keep i f q xs in
-    by-test (q x)
-    (λ t. rw (test-true (q x) t) (omega arith))
-    (λ t. rw (test-false (q x) t) (omega arith))
-
-count-ins : (i : ℕ) {j : ℕ} {xs ys : List ℕ} → Ins j xs ys → count i ys ≡ count i xs + count i (j ∷ [])
-count-ins i {j} (here {xs = xs}) = let e = count-cons i j xs in omega arith
-count-ins i (there {x = x} {xs = xs} {ys = ys} h) =
-    let e = count-cons i x xs in
-    let f = count-cons i x ys in
-    let ih = count-ins i h in
-    omega arith
-
-count-one : (i x : ℕ) → count i (x ∷ []) ≤ 1
-unfolding count
-count-one i x = if-elim (λ (n : ℕ). n + 0 ≤ 1) (eqb i x) (λ _. omega arith) (λ _. omega arith)
-
-count-other : (i x : ℕ) → (i ≡ x → ⊥) → count i (x ∷ []) ≡ 0
-unfolding count
-count-other i x h = rw (eqb-false i x h) refl
-
-count-absent : (i : ℕ) (xs : List ℕ) → T (not (among i xs)) → count i xs ≡ 0
-unfolding count among any
-count-absent i [] t = refl
-count-absent i (x ∷ xs) t =
-    let ih = count-absent i xs (nor-right (eqb i x) (among i xs) t) in
-    rw (test-false (eqb i x) (nor-left (eqb i x) (among i xs) t)) (omega arith)
-
-absent-count : (i : ℕ) (xs : List ℕ) → count i xs ≡ 0 → T (not (among i xs))
-unfolding count among any
-absent-count i [] e = tt
-absent-count i (x ∷ xs) e =
-    by-test (eqb i x)
-    (λ t. absurd (let z : 1 + count i xs ≡ 0 = rw (test-true (eqb i x) t) at e in omega arith))
-    (λ t. let z : 0 + count i xs ≡ 0 = rw (test-false (eqb i x) t) at e in nor-both (eqb i x) (among i xs) t (absent-count i xs (omega arith)))
-
--- a list is distinct exactly if no number stands in it more than once
-distinct-count : (i : ℕ) (xs : List ℕ) → T (distinct xs) → count i xs ≤ 1
-unfolding count distinct
-distinct-count i [] t = omega arith
-distinct-count i (x ∷ xs) t =
-    let ih = distinct-count i xs (and-right (not (among x xs)) (distinct xs) t) in
-    by-test (eqb i x)
-    (λ e. let z : count i xs ≡ 0 = count-absent i xs (rw (eqb→eq i x e) (and-left (not (among x xs)) (distinct xs) t)) in
-    rw (test-true (eqb i x) e) (omega arith))
-    (λ e. rw (test-false (eqb i x) e) (omega arith))
-
-count-distinct : (xs : List ℕ) → ((i : ℕ) → count i xs ≤ 1) → T (distinct xs)
-unfolding distinct
-count-distinct [] h = tt
-count-distinct (x ∷ xs) h =
-    and-both (not (among x xs)) (distinct xs) (absent-count x xs (once (h x)))
-    (count-distinct xs (λ i. let e = count-cons i x xs in let l = h i in omega arith))
-  where
-    self : count x (x ∷ []) ≡ 1
-    self = unfold count in rw (test-true (eqb x x) (eqb-refl x)) refl
-
-    once : count x (x ∷ xs) ≤ 1 → count x xs ≡ 0
-    once l = let e = count-cons x x xs in let s = self in omega arith
-
-small-count : (n i : ℕ) (xs : List ℕ) → T (all (λ x. ltb x n) xs) → n ≤ i → count i xs ≡ 0
-unfolding count all
-small-count n i [] t h = refl
-small-count n i (x ∷ xs) t h =
-    let l : x < n = ltb→lt x n (and-left (ltb x n) (all (λ y. ltb y n) xs) t) in
-    let ih = small-count n i xs (and-right (ltb x n) (all (λ y. ltb y n) xs) t) h in
-    rw (eqb-false i x (λ e. omega arith)) (omega arith)
-
-count-small : (n : ℕ) (xs : List ℕ) → ((i : ℕ) → n ≤ i → count i xs ≡ 0) → T (all (λ x. ltb x n) xs)
-unfolding all
-count-small n [] h = tt
-count-small n (x ∷ xs) h =
-    and-both (ltb x n) (all (λ y. ltb y n) xs)
-    (by-test (ltb x n) (λ t. t)
-    (λ t. absurd (let z = h x (nltb→le x n t) in let e = count-cons x x xs in let s = self in omega arith)))
-    (count-small n xs (λ i l. let z = h i l in let e = count-cons i x xs in omega arith))
-  where
-    self : count x (x ∷ []) ≡ 1
-    self = unfold count in rw (test-true (eqb x x) (eqb-refl x)) refl
+use Rattle.machine.proofs.KeepingCalls.{match-alloc, playing-alloc, at-sound, change-zero, lock-ids, enqueue-ids}
 
 -- ---- the ids of replies, locks and waiting requests
 
@@ -513,7 +403,7 @@ event-fits i c s p =
 -- ---- call
 
 -- an id that the call itself brings: a command's
-own : Op → Call → List ℕ
+unfoldable pub own : Op → Call → List ℕ
 own OPEN c = []
 own CLOSE c = []
 own ABORT c = []
@@ -543,6 +433,20 @@ refuse-fits i o e c s =
     (by-test (leb e 5)
     (λ t. rw (refuse-mute o e c s t) (let z = count-nil i in omega arith))
     (λ t. rw (refuse-heard o e c s t) (let z = own-reply i o c e in omega arith)))
+
+-- for every id: replied to and still outstanding, no more often than outstanding before or brought by the call
+pub call-counts : (i : ℕ) (s : State) (c : Call) → T (sound s)
+    → count i (heard (call s c .replies)) + count i (ids (call s c .next)) ≤ count i (ids s) + count i (own (c .op) c)
+unfolding call answering
+call-counts i s c t =
+    let a = ids-count i (call s c .next) in
+    let b = ids-count i s in
+    let h = go (refusal (c .op) c s) in
+    omega arith
+  where
+    go : (r : Refusal) → FitsOut i (out i s + count i (own (c .op) c)) (answering r c s)
+    go accepted = accept-fits i (c .op) c s (parts s t)
+    go (refused n) = refuse-fits i (c .op) n c s
 
 -- a command that gets as far as a reply has an id that is idle and below 64
 record Idle (o : Op) (c : Call) (s : State) : Type 0 where

@@ -3,20 +3,19 @@
 -- Assumes nothing.
 use Prim.Native.Nat.{ℕ, zero, suc, _≤_, _<_}
 use mathlib.Core.Path.{_≡_, refl, ap, subst, sym, _∙_}
-use mathlib.Core.Bool.{Bool, true, false, not, _||_}
-use mathlib.Core.List.{List, [], _∷_, _++_, map}
+use mathlib.Core.Bool.{not, _||_}
+use mathlib.Core.List.{List, [], _∷_, _++_}
 use lib.Dec.{T, T-not}
 use lib.ListN.{length}
 use native.Mathlib.Omega.{arith}
 use Rattle.machine.specs.Lists.{if_then_else_, all, keep}
-use Rattle.machine.specs.State.{Channel, Lock, Request, State, Reply}
+use Rattle.machine.specs.State.{Channel, Lock, Request, State}
 use Rattle.machine.specs.Maps.{odd, half, meets, named, change}
 use Rattle.machine.specs.Choosing.{Look, fails, held, grants, look}
 use Rattle.machine.specs.Granting.{taken, keyFor, granted, abortedIn}
 use Rattle.machine.specs.Settling.{Found, nobody, somebody, Walk, Settled, staying, saying, onLook, walk, walked, goOn, rounds, settle, replied}
-use Rattle.machine.specs.Commands.{ended}
-use Rattle.machine.proofs.Tests.{if-elim, by-test, test-true, test-false, and-left, and-right, or-named}
-use Rattle.machine.proofs.Lists.{Sub, end, skip, take, sub-refl, sub-keep, sub-all, sub-trans, keep-none, keep-each, keep-all}
+use Rattle.machine.proofs.Tests.{if-elim, test-false, and-left, and-right, or-named}
+use Rattle.machine.proofs.Lists.{Sub, sub-refl, sub-keep, sub-all, sub-trans, keep-none, keep-each, keep-all}
 use Rattle.machine.proofs.Choosing.{strong, Spares, look-spares}
 
 -- ---- settle: channels of precedence P or more are kept, where nobody waits above P

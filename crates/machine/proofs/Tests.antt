@@ -11,10 +11,26 @@ use Rattle.machine.specs.Drawn.{drawn}
 use Rattle.machine.specs.Told.{commands-told}
 use Rattle.machine.specs.Sample.{sample-says}
 
--- tests
+-- ---- if_then_else_ and tests by cases
+
 pub if-elim {ℓ κ} : {A : Type ℓ} (P : A → Type κ) (b : Bool) {x y : A} → (T b → P x) → (T (not b) → P y) → P (if b then x else y)
 if-elim P true f g = f tt
 if-elim P false f g = g tt
+
+-- a test by its two outcomes, with what each says
+pub by-test {ℓ} : {A : Type ℓ} (b : Bool) → (T b → A) → (T (not b) → A) → A
+by-test true f g = f tt
+by-test false f g = g tt
+
+pub test-true : (b : Bool) → T b → b ≡ true
+test-true true t = refl
+test-true false t = absurd t
+
+pub test-false : (b : Bool) → T (not b) → b ≡ false
+test-false true t = absurd t
+test-false false t = refl
+
+-- ---- _&&_
 
 pub and-left : (a b : Bool) → T (a && b) → T a
 and-left true b t = tt
@@ -27,6 +43,8 @@ and-right false b t = absurd t
 pub and-both : (a b : Bool) → T a → T b → T (a && b)
 and-both true b s t = t
 and-both false b s t = s
+
+-- ---- _||_
 
 -- if the map names the head, the head passes
 pub or-named : (a b : Bool) → T (not a || b) → T a → T b
@@ -41,30 +59,11 @@ pub or-mono : (a b d : Bool) → (T b → T d) → T (not a || b) → T (not a |
 or-mono true b d f t = f t
 or-mono false b d f t = tt
 
--- a test by its two outcomes, with what each says
-pub by-test {ℓ} : {A : Type ℓ} (b : Bool) → (T b → A) → (T (not b) → A) → A
-by-test true f g = f tt
-by-test false f g = g tt
-
-pub test-false : (b : Bool) → T (not b) → b ≡ false
-test-false true t = absurd t
-test-false false t = refl
-
-pub test-true : (b : Bool) → T b → b ≡ true
-test-true true t = refl
-test-true false t = absurd t
-
-pub eqb-false : (m n : ℕ) → (m ≡ n → ⊥) → eqb m n ≡ false
-eqb-false m n h = test-false (eqb m n) (not-T (eqb m n) (λ t. h (eqb→eq m n t)))
-
 pub or-map : (a b x y : Bool) → (T a → T b) → (T x → T y) → T (a || x) → T (b || y)
 or-map true true x y g f u = tt
 or-map true false x y g f u = absurd (g u)
 or-map false true x y g f u = tt
 or-map false false x y g f u = f u
-
-pub eqb-flip : (m n : ℕ) → T (eqb m n) → T (eqb n m)
-eqb-flip m n t = subst (λ (x : ℕ). T (eqb x m)) (eqb→eq m n t) (eqb-refl m)
 
 pub nor-left : (a b : Bool) → T (not (a || b)) → T (not a)
 nor-left true b t = t
@@ -77,3 +76,11 @@ nor-right false b t = t
 pub nor-both : (a b : Bool) → T (not a) → T (not b) → T (not (a || b))
 nor-both true b t u = t
 nor-both false b t u = u
+
+-- ---- eqb
+
+pub eqb-false : (m n : ℕ) → (m ≡ n → ⊥) → eqb m n ≡ false
+eqb-false m n h = test-false (eqb m n) (not-T (eqb m n) (λ t. h (eqb→eq m n t)))
+
+pub eqb-flip : (m n : ℕ) → T (eqb m n) → T (eqb n m)
+eqb-flip m n t = subst (λ (x : ℕ). T (eqb x m)) (eqb→eq m n t) (eqb-refl m)
