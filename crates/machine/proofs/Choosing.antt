@@ -30,7 +30,8 @@ first-good prec (m ∷ ms) cs =
     (λ t. and-left (eligible prec m cs) (allFree m cs) t)
     (λ _. first-good prec ms cs)
 
-cheaper-good : (prec m : ℕ) (o : Choice) (cs : List Channel) → T (eligible prec m cs) → Good prec cs o → Good prec cs (cheaper m o cs)
+cheaper-good : (prec m : ℕ) (o : Choice) (cs : List Channel) → T (eligible prec m cs) → Good prec cs o
+    → Good prec cs (cheaper m o cs)
 unfolding cheaper
 cheaper-good prec m none cs e g = e
 cheaper-good prec m (chosen o) cs e g = if-elim (Good prec cs) (ltb (cost o cs) (cost m cs)) (λ _. g) (λ _. e)
@@ -52,7 +53,8 @@ pub choose-good : (prec : ℕ) (ms : List ℕ) (cs : List Channel) → Good prec
 unfolding choose eligible
 choose-good prec [] cs = named-zero (takeable prec) cs
 choose-good prec (m ∷ ms) cs =
-    orElse-good prec cs (firstFree prec (m ∷ ms) cs) (cheapest prec (m ∷ ms) cs) (first-good prec (m ∷ ms) cs) (cheapest-good prec (m ∷ ms) cs)
+    orElse-good prec cs (firstFree prec (m ∷ ms) cs) (cheapest prec (m ∷ ms) cs) (first-good prec (m ∷ ms) cs)
+    (cheapest-good prec (m ∷ ms) cs)
 
 -- ---- look: a request of precedence at most P takes nothing of precedence P or more
 
@@ -65,7 +67,9 @@ unfolding takeable strong
 takeable-weak P prec c h t = go (isFree c) t
   where
     weak : (b : Bool) → b ≡ leb P (c .prec) → T (ltb (c .prec) prec) → T (not b)
-    weak true e l = let q : P ≤ c .prec = leb→le P (c .prec) (subst T e tt) in let r : c .prec < prec = ltb→lt (c .prec) prec l in absurd (omega arith)
+    weak true e l =
+        let q : P ≤ c .prec = leb→le P (c .prec) (subst T e tt) in let r : c .prec < prec = ltb→lt (c .prec) prec l in absurd
+        (omega arith)
     weak false e l = tt
 
     go : (b : Bool) → T (b || ltb (c .prec) prec) → T (not (not b && leb P (c .prec)))
@@ -138,7 +142,8 @@ cost-free m (c ∷ cs) t =
     (or-named (odd m) (isFree c) (and-left (not (odd m) || isFree c) (named isFree (half m) cs) t) (and-left (odd m) (not (isFree c)) u))))
     (λ _. cost-free (half m) cs (and-right (not (odd m) || isFree c) (named isFree (half m) cs) t))
 
-cost-above : (m : ℕ) (cs : List Channel) (i : ℕ) → i < length cs → Names m i → (channel cs i .key ≡ 0 → ⊥) → channel cs i .prec ≤ cost m cs
+cost-above : (m : ℕ) (cs : List Channel) (i : ℕ) → i < length cs → Names m i → (channel cs i .key ≡ 0 → ⊥)
+    → channel cs i .prec ≤ cost m cs
 unfolding cost
 cost-above m [] i h n a = absurd (omega arith)
 cost-above m (c ∷ cs) zero h n a =
@@ -243,27 +248,32 @@ module _ (prec : ℕ) (cs : List Channel) where
   Cheap ms r = ((r ≡ none) × NoneEligible prec ms cs) ⊎ ((j : ℕ) × (r ≡ chosen (getD ms j 0)) × Least prec ms cs j)
 
   -- one in front that is not eligible, or costs more
-  cheap-later : (m : ℕ) (ms : List ℕ) (j : ℕ) → (Eligible prec m cs → cost (getD ms j 0) cs < cost m cs) → Least prec ms cs j → Least prec (m ∷ ms) cs (suc j)
+  cheap-later : (m : ℕ) (ms : List ℕ) (j : ℕ) → (Eligible prec m cs → cost (getD ms j 0) cs < cost m cs) → Least prec ms cs j
+      → Least prec (m ∷ ms) cs (suc j)
   cheap-later m ms j h w =
       record {
         inside = omega (arith, w .inside);
         eligible = w .eligible;
         least =
-            cons (λ (k : ℕ). Eligible prec (getD (m ∷ ms) k 0) cs → cost (getD ms j 0) cs ≤ cost (getD (m ∷ ms) k 0) cs) (length ms)
+            cons (λ (k : ℕ). Eligible prec (getD (m ∷ ms) k 0) cs → cost (getD ms j 0) cs ≤ cost (getD (m ∷ ms) k 0) cs)
+            (length ms)
             (λ e. omega (arith, h e)) (w .least);
         earliest =
-            cons (λ (k : ℕ). Eligible prec (getD (m ∷ ms) k 0) cs → cost (getD ms j 0) cs < cost (getD (m ∷ ms) k 0) cs) j h (w .earliest);
+            cons (λ (k : ℕ). Eligible prec (getD (m ∷ ms) k 0) cs → cost (getD ms j 0) cs < cost (getD (m ∷ ms) k 0) cs) j h
+            (w .earliest);
       }
 
   -- one in front that is eligible, and that no eligible one behind it undercuts
   cheap-here : (m : ℕ) (ms : List ℕ) → Eligible prec m cs
-      → ((k : ℕ) → k < length ms → Eligible prec (getD ms k 0) cs → cost m cs ≤ cost (getD ms k 0) cs) → Least prec (m ∷ ms) cs 0
+      → ((k : ℕ) → k < length ms → Eligible prec (getD ms k 0) cs → cost m cs ≤ cost (getD ms k 0) cs) → Least prec
+      (m ∷ ms) cs 0
   cheap-here m ms e h =
       record {
         inside = omega arith;
         eligible = e;
         least =
-            cons (λ (k : ℕ). Eligible prec (getD (m ∷ ms) k 0) cs → cost m cs ≤ cost (getD (m ∷ ms) k 0) cs) (length ms) (λ _. omega arith) h;
+            cons (λ (k : ℕ). Eligible prec (getD (m ∷ ms) k 0) cs → cost m cs ≤ cost (getD (m ∷ ms) k 0) cs) (length ms)
+            (λ _. omega arith) h;
         earliest = λ k l. absurd (omega arith);
       }
 
@@ -350,7 +360,8 @@ module _ (prec : ℕ) (cs : List Channel) where
   some-case ms r e (inl d) = absurd (d .1 (e .0) (e .1) (e .2))
   some-case ms r e (inr d) = (d .0, d .2)
 
-  pub chosen-iff : (ms : List ℕ) (m : ℕ) → 0 < length ms → (choose prec ms cs ≡ chosen m) ↔ ((j : ℕ) × (m ≡ getD ms j 0) × Wins prec ms cs j)
+  pub chosen-iff : (ms : List ℕ) (m : ℕ) → 0 < length ms
+      → (choose prec ms cs ≡ chosen m) ↔ ((j : ℕ) × (m ≡ getD ms j 0) × Wins prec ms cs j)
   chosen-iff ms m h = (
     λ e. chosen-case ms m (choose prec ms cs) e (choose-says ms h),
     λ w. wins-case ms (w .0) (choose prec ms cs) (w .2) (choose-says ms h) ∙ ap chosen (sym (w .1)),
@@ -394,7 +405,8 @@ module _ (prec : ℕ) (cs : List Channel) where
         (λ t. rw (test-false (named (λ c. not (c .locked)) n cs) t) (λ e. absurd (let z : _≡_ {A = ℕ} 0 1 = cc in omega arith))),
     λ g. let e = g .0 in
         let q : m ≡ n = cc in
-        rw (test-true (named (λ c. not (c .locked)) n cs) (unlocked-iff n .1 (subst (λ (x : ℕ). Unlocked x cs) q (g .1)))) (ap grants (sym q)),
+        rw (test-true (named (λ c. not (c .locked)) n cs) (unlocked-iff n .1 (subst (λ (x : ℕ). Unlocked x cs) q (g .1))))
+        (ap grants (sym q)),
   )
 
   pub grants-iff : (ms : List ℕ) (m : ℕ) → 0 < length ms

@@ -32,7 +32,8 @@ unfolding count
 count-append i [] ys = omega arith
 count-append i (x ∷ xs) ys = let ih = count-append i xs ys in omega arith
 
-pub count-map-append {ℓ} : {A : Type ℓ} (i : ℕ) (f : A → ℕ) (xs ys : List A) → count i (map f (xs ++ ys)) ≡ count i (map f xs) + count i (map f ys)
+pub count-map-append {ℓ} : {A : Type ℓ} (i : ℕ) (f : A → ℕ) (xs ys : List A)
+    → count i (map f (xs ++ ys)) ≡ count i (map f xs) + count i (map f ys)
 unfolding count
 count-map-append i f [] ys = omega arith
 count-map-append i f (x ∷ xs) ys = let ih = count-map-append i f xs ys in omega arith

@@ -24,11 +24,13 @@ far zero k = k
 far (suc i) k = far i (after k)
 
 -- k + i, or 65,535 less
-far-is : (i k : ℕ) → 1 ≤ k → k ≤ 65535 → i < 65535 → (k + i ≤ 65535 → far i k ≡ k + i) × (65535 < k + i → far i k + 65535 ≡ k + i)
+far-is : (i k : ℕ) → 1 ≤ k → k ≤ 65535 → i < 65535
+    → (k + i ≤ 65535 → far i k ≡ k + i) × (65535 < k + i → far i k + 65535 ≡ k + i)
 unfolding far after
 far-is zero k a b c = omega arith
 far-is (suc i) k a b c =
-    if-elim (λ (j : ℕ). (k + suc i ≤ 65535 → far i j ≡ k + suc i) × (65535 < k + suc i → far i j + 65535 ≡ k + suc i)) (ltb k 65535)
+    if-elim (λ (j : ℕ). (k + suc i ≤ 65535 → far i j ≡ k + suc i) × (65535 < k + suc i → far i j + 65535 ≡ k + suc i))
+    (ltb k 65535)
     (λ t. let h : k < 65535 = ltb→lt k 65535 t in
     let ih = far-is i (k + 1) (omega arith) (omega arith) (omega arith) in
     (λ q. let r : far i (k + 1) ≡ k + 1 + i = ih .0 (omega arith) in omega arith, λ q. let r : far i (k + 1) + 65535 ≡ k + 1 + i = ih .1 (omega arith) in omega arith))
@@ -38,7 +40,8 @@ far-is (suc i) k a b c =
 
 after-range : (k : ℕ) → (1 ≤ after k) × (after k ≤ 65535)
 unfolding after
-after-range k = if-elim (λ (j : ℕ). (1 ≤ j) × (j ≤ 65535)) (ltb k 65535) (λ t. let h = ltb→lt k 65535 t in omega arith) (λ t. omega arith)
+after-range k =
+    if-elim (λ (j : ℕ). (1 ≤ j) × (j ≤ 65535)) (ltb k 65535) (λ t. let h = ltb→lt k 65535 t in omega arith) (λ t. omega arith)
 
 far-candidate : (k i : ℕ) → k ≤ 65535 → i < 65535 → far i (after k) ≡ candidate k i
 unfolding after
@@ -110,7 +113,8 @@ first-others (suc n) j k used a =
       if-elim (λ (r : ℕ). r ≡ k → ⊥) (among j used) (λ _. ih .1) (λ _. jk),
     )
 
-first-unused : (n k : ℕ) (used : List ℕ) → length used ≤ n → n < 65535 → 1 ≤ k → k ≤ 65535 → T (not (among (firstUnused n k used) used))
+first-unused : (n k : ℕ) (used : List ℕ) → length used ≤ n → n < 65535 → 1 ≤ k → k ≤ 65535
+    → T (not (among (firstUnused n k used) used))
 unfolding firstUnused among any
 first-unused zero k [] l b p q = tt
 first-unused zero k (x ∷ xs) l b p q = absurd (omega arith)
@@ -140,7 +144,8 @@ first-place (suc n) k used =
     (λ t. let p = first-place n (after k) used in (suc (p .0), omega (arith, p .1), p .2, later t (p .0) (p .3)))
     (λ _. (0, omega arith, refl, λ j h. absurd (omega arith)))
   where
-    later : T (among k used) → (i : ℕ) → ((j : ℕ) → j < i → T (among (far j (after k)) used)) → (j : ℕ) → j < suc i → T (among (far j k) used)
+    later : T (among k used) → (i : ℕ) → ((j : ℕ) → j < i → T (among (far j (after k)) used)) → (j : ℕ) → j < suc i
+        → T (among (far j k) used)
     later t i f zero h = t
     later t i f (suc j) h = f j (omega arith)
 
@@ -148,21 +153,26 @@ first-place (suc n) k used =
 
 pub newKey-range : (s : State) → (1 ≤ newKey s) × (newKey s ≤ 65535)
 unfolding newKey
-newKey-range s = first-range (length (inUse s)) (after (s .last)) (inUse s) (after-range (s .last) .0) (after-range (s .last) .1)
+newKey-range s =
+    first-range (length (inUse s)) (after (s .last)) (inUse s) (after-range (s .last) .0) (after-range (s .last) .1)
 
 pub newKey-unused : (s : State) → length (inUse s) < 65535 → T (not (among (newKey s) (inUse s)))
 unfolding newKey
-newKey-unused s h = first-unused (length (inUse s)) (after (s .last)) (inUse s) (omega arith) h (after-range (s .last) .0) (after-range (s .last) .1)
+newKey-unused s h =
+    first-unused (length (inUse s)) (after (s .last)) (inUse s) (omega arith) h (after-range (s .last) .0)
+    (after-range (s .last) .1)
 
 -- so it is no channel's
-among-keys : (k : ℕ) (cs : List Channel) (more : List ℕ) → T (any (λ (c : Channel). eqb (c .key) k) cs) → T (among k (map (λ c. c .key) cs ++ more))
+among-keys : (k : ℕ) (cs : List Channel) (more : List ℕ) → T (any (λ (c : Channel). eqb (c .key) k) cs)
+    → T (among k (map (λ c. c .key) cs ++ more))
 unfolding among any
 among-keys k [] more t = absurd t
 among-keys k (c ∷ cs) more t =
     or-map (eqb (c .key) k) (eqb k (c .key)) (any (λ (d : Channel). eqb (d .key) k) cs) (among k (map (λ d. d .key) cs ++ more))
     (eqb-flip (c .key) k) (among-keys k cs more) t
 
-pub newKey-not : (s : State) (k : ℕ) → length (inUse s) < 65535 → T (any (λ (c : Channel). eqb (c .key) k) (s .channels)) → newKey s ≡ k → ⊥
+pub newKey-not : (s : State) (k : ℕ) → length (inUse s) < 65535 → T (any (λ (c : Channel). eqb (c .key) k) (s .channels))
+    → newKey s ≡ k → ⊥
 unfolding inUse
 newKey-not s k h t e =
     T-not (among k (inUse s)) (subst (λ (x : ℕ). T (not (among x (inUse s)))) e (newKey-unused s h))
@@ -193,7 +203,8 @@ newKey-is s q =
 
 newKey-first : (s : State) (j k : ℕ) (a : NewKey s j) (b : NewKey s k) → a .place < b .place → ⊥
 newKey-first s j k a b h =
-    T-not (among (candidate (s .last) (a .place)) (inUse s)) (subst (λ (x : ℕ). T (not (among x (inUse s)))) (a .is) (a .unused))
+    T-not (among (candidate (s .last) (a .place)) (inUse s))
+    (subst (λ (x : ℕ). T (not (among x (inUse s)))) (a .is) (a .unused))
     (b .earlier (a .place) h)
 
 -- no second number is a new key

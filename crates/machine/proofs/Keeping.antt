@@ -23,7 +23,8 @@ use Rattle.machine.proofs.Sound.{Parts}
 
 -- ---- a state of parts of another
 
-pub requests-length : (cs ds : List Channel) → length ds ≡ length cs → (rs : List Request) → T (all (soundRequest cs) rs) → T (all (soundRequest ds) rs)
+pub requests-length : (cs ds : List Channel) → length ds ≡ length cs → (rs : List Request) → T (all (soundRequest cs) rs)
+    → T (all (soundRequest ds) rs)
 unfolding all soundRequest
 requests-length cs ds e [] t = tt
 requests-length cs ds e (r ∷ rs) t =
@@ -40,7 +41,8 @@ sub-order (take {x = x} {xs = xs} {ys = ys} h) t =
     (sub-order h (and-right (all (λ q. leb (q .prec) (x .prec)) ys) (inOrder ys) t))
 
 -- a state of parts of another: fewer requests and fewer ids
-pub parts-sub : (s t : State) → Parts s → length (t .channels) ≡ length (s .channels) → T (all soundChannel (t .channels)) → T (all (soundLock (t .channels)) (t .locks))
+pub parts-sub : (s t : State) → Parts s → length (t .channels) ≡ length (s .channels) → T (all soundChannel (t .channels))
+    → T (all (soundLock (t .channels)) (t .locks))
     → Sub (t .waiting) (s .waiting) → Sub (ids t) (ids s) → T (leb (t .opens) 65535) → T (leb (t .last) 65535) → Parts t
 parts-sub s t q e c l w i o a =
     record {
@@ -48,7 +50,8 @@ parts-sub s t q e c l w i o a =
       most = rw e (q .most);
       channelsOK = c;
       locksOK = l;
-      waitingOK = requests-length (s .channels) (t .channels) e (t .waiting) (sub-all (soundRequest (s .channels)) w (q .waitingOK));
+      waitingOK = requests-length (s .channels) (t .channels) e (t .waiting)
+          (sub-all (soundRequest (s .channels)) w (q .waitingOK));
       order = sub-order w (q .order);
       small = sub-all (λ j. ltb j 64) i (q .small);
       apart = sub-distinct i (q .apart);
@@ -59,7 +62,8 @@ parts-sub s t q e c l w i o a =
 -- ---- change
 
 module _ (f : Channel → Channel) where
-  pub channels-change : ((c : Channel) → T (soundChannel c) → T (soundChannel (f c))) → (m : ℕ) (cs : List Channel) → T (all soundChannel cs) → T (all soundChannel (change f m cs))
+  pub channels-change : ((c : Channel) → T (soundChannel c) → T (soundChannel (f c))) → (m : ℕ) (cs : List Channel)
+      → T (all soundChannel cs) → T (all soundChannel (change f m cs))
   unfolding all change
   channels-change g m [] t = tt
   channels-change g m (c ∷ cs) t =
@@ -68,13 +72,16 @@ module _ (f : Channel → Channel) where
       (if-elim (λ (d : Channel). T (soundChannel d)) (odd m) (λ _. g c h) (λ _. h))
       (channels-change g (half m) cs (and-right (soundChannel c) (all soundChannel cs) t))
 
-  pub writes-change : ((c : Channel) → Sub (f c .writes) (c .writes)) → (m : ℕ) (cs : List Channel) → Sub (writesOf (change f m cs)) (writesOf cs)
+  pub writes-change : ((c : Channel) → Sub (f c .writes) (c .writes)) → (m : ℕ) (cs : List Channel)
+      → Sub (writesOf (change f m cs)) (writesOf cs)
   unfolding writesOf change
   writes-change g m [] = end
   writes-change g m (c ∷ cs) =
-      sub-append (if-elim (λ (d : Channel). Sub (d .writes) (c .writes)) (odd m) (λ _. g c) (λ _. sub-refl (c .writes))) (writes-change g (half m) cs)
+      sub-append (if-elim (λ (d : Channel). Sub (d .writes) (c .writes)) (odd m) (λ _. g c) (λ _. sub-refl (c .writes)))
+      (writes-change g (half m) cs)
 
-  pub named-keep : (q : Channel → Bool) → ((c : Channel) → T (q c) → T (q (f c))) → (x m : ℕ) (cs : List Channel) → T (named q x cs) → T (named q x (change f m cs))
+  pub named-keep : (q : Channel → Bool) → ((c : Channel) → T (q c) → T (q (f c))) → (x m : ℕ) (cs : List Channel)
+      → T (named q x cs) → T (named q x (change f m cs))
   unfolding named change
   named-keep q g x m [] t = tt
   named-keep q g x m (c ∷ cs) t =
@@ -83,7 +90,8 @@ module _ (f : Channel → Channel) where
       (named-keep q g (half x) (half m) cs (and-right (not (odd x) || q c) (named q (half x) cs) t))
 
   -- a change at channels that fail a test which the map's channels pass
-  pub named-apart : (q r : Channel → Bool) → ((c : Channel) → T (q c) → T (r c)) → (x m : ℕ) (cs : List Channel) → T (named (λ c. not (r c)) m cs) → T (named q x cs) → T (named q x (change f m cs))
+  pub named-apart : (q r : Channel → Bool) → ((c : Channel) → T (q c) → T (r c)) → (x m : ℕ) (cs : List Channel)
+      → T (named (λ c. not (r c)) m cs) → T (named q x cs) → T (named q x (change f m cs))
   unfolding named change
   named-apart q r g x m [] u t = tt
   named-apart q r g x m (c ∷ cs) u t =
@@ -95,7 +103,8 @@ module _ (f : Channel → Channel) where
       (named-apart q r g (half x) (half m) cs (and-right (not (odd m) || not (r c)) (named (λ d. not (r d)) (half m) cs) u) (and-right (not (odd x) || q c) (named q (half x) cs) t))
 
   -- what is left of a map without the channels changed
-  pub named-minus : (q : Channel → Bool) (x m : ℕ) (cs : List Channel) → T (named q x cs) → T (named q (minus (length cs) x m) (change f m cs))
+  pub named-minus : (q : Channel → Bool) (x m : ℕ) (cs : List Channel) → T (named q x cs)
+      → T (named q (minus (length cs) x m) (change f m cs))
   unfolding named change minus
   named-minus q x m [] t = tt
   named-minus q x m (c ∷ cs) t =
@@ -113,7 +122,8 @@ module _ (f : Channel → Channel) where
 
 -- a lock is sound for other channels, if what it names is as it should be there
 pub lock-parts : (cs : List Channel) (l : Lock) → T (soundLock cs l)
-    → T (not (eqb (l .map) 0)) × T (ltb (l .map) (2 ^ length cs)) × T (not (eqb (l .key) 0)) × T (named (λ c. c .locked && eqb (c .key) (l .key)) (l .map) cs)
+    → T (not (eqb (l .map) 0)) × T (ltb (l .map) (2 ^ length cs)) × T (not (eqb (l .key) 0)) × T
+    (named (λ c. c .locked && eqb (c .key) (l .key)) (l .map) cs)
 unfolding soundLock
 lock-parts cs l t =
     let a = not (eqb (l .map) 0) in
@@ -123,11 +133,13 @@ lock-parts cs l t =
     let u = and-left (a && b && d) q t in
     (and-left a b (and-left (a && b) d u), and-right a b (and-left (a && b) d u), and-right (a && b) d u, and-right (a && b && d) q t)
 
-pub lock-from : (cs : List Channel) (l : Lock) → T (not (eqb (l .map) 0)) → T (ltb (l .map) (2 ^ length cs)) → T (not (eqb (l .key) 0))
+pub lock-from : (cs : List Channel) (l : Lock) → T (not (eqb (l .map) 0)) → T (ltb (l .map) (2 ^ length cs))
+    → T (not (eqb (l .key) 0))
     → T (named (λ c. c .locked && eqb (c .key) (l .key)) (l .map) cs) → T (soundLock cs l)
 unfolding soundLock
 lock-from cs l a b d q =
-    and-both (not (eqb (l .map) 0) && ltb (l .map) (2 ^ length cs) && not (eqb (l .key) 0)) (named (λ c. c .locked && eqb (c .key) (l .key)) (l .map) cs)
+    and-both (not (eqb (l .map) 0) && ltb (l .map) (2 ^ length cs) && not (eqb (l .key) 0))
+    (named (λ c. c .locked && eqb (c .key) (l .key)) (l .map) cs)
     (and-both (not (eqb (l .map) 0) && ltb (l .map) (2 ^ length cs)) (not (eqb (l .key) 0)) (and-both (not (eqb (l .map) 0)) (ltb (l .map) (2 ^ length cs)) a b) d) q
 
 pub locks-to : (cs ds : List Channel) → length ds ≡ length cs
@@ -158,11 +170,13 @@ cleared-sound f cs (l ∷ ls) t =
     (named-minus freed (λ c. c .locked && eqb (c .key) (l .key)) (l .map) f cs (h .3))) ih)
     (λ _. ih)
 
-cleared-ids : (n f : ℕ) (ls : List Lock) → Sub (map (λ (l : Lock). l .id) (keep (λ l. not (isEmpty l)) (cleared n f ls))) (map (λ (l : Lock). l .id) ls)
+cleared-ids : (n f : ℕ) (ls : List Lock)
+    → Sub (map (λ (l : Lock). l .id) (keep (λ l. not (isEmpty l)) (cleared n f ls))) (map (λ (l : Lock). l .id) ls)
 unfolding keep cleared isEmpty
 cleared-ids n f [] = end
 cleared-ids n f (l ∷ ls) =
-    if-elim (λ (ks : List Lock). Sub (map (λ (k : Lock). k .id) ks) (l .id ∷ map (λ (k : Lock). k .id) ls)) (not (eqb (minus n (l .map) f) 0))
+    if-elim (λ (ks : List Lock). Sub (map (λ (k : Lock). k .id) ks) (l .id ∷ map (λ (k : Lock). k .id) ls))
+    (not (eqb (minus n (l .map) f) 0))
     (λ _. take (cleared-ids n f ls)) (λ _. skip (cleared-ids n f ls))
 
 pub freeing-sound : (f : ℕ) (s : State) → Parts s → Parts (freeing f s)
@@ -191,7 +205,8 @@ not-free : (k : ℕ) → 1 ≤ k → eqb k 0 ≡ false
 not-free zero h = absurd (omega arith)
 not-free (suc k) h = lib.Dec.eqb·suc-zero k
 
-pub grant-sound : (m k prec : ℕ) (s : State) → k ≤ 65535 → prec ≤ 255 → T (named (λ c. not (c .locked)) m (s .channels)) → Parts s → Parts (granted m k prec s)
+pub grant-sound : (m k prec : ℕ) (s : State) → k ≤ 65535 → prec ≤ 255 → T (named (λ c. not (c .locked)) m (s .channels))
+    → Parts s → Parts (granted m k prec s)
 unfolding granted ids taken
 grant-sound m k prec s a b u q =
     let r = keyFor-range k s a in

@@ -47,7 +47,8 @@ record WalkSound (cs : List Channel) (rs : List Request) (ls : List Lock) (w : W
   locks : Sub (w .locks) ls
 
 onLook-sound : (n : ℕ) (cs : List Channel) (l : Look) (r : Request) (rs : List Request) (ls : List Lock) (rest : List Lock → Walk)
-    → Unlocked cs l → T (soundRequest cs r) → ((k : List Lock) → WalkSound cs rs k (rest k)) → WalkSound cs (r ∷ rs) ls (onLook n l r rs ls rest)
+    → Unlocked cs l → T (soundRequest cs r) → ((k : List Lock) → WalkSound cs rs k (rest k)) → WalkSound cs (r ∷ rs) ls
+    (onLook n l r rs ls rest)
 unfolding onLook saying staying
 onLook-sound n cs fails r rs ls rest u t ih =
     let w = ih ls in
@@ -60,12 +61,14 @@ onLook-sound n cs (held m) r rs ls rest u t ih =
     record { found = w .found; waiting = take (w .waiting); locks = sub-trans (w .locks) (sub-keep (λ (l : Lock). not (meets n m (l .map))) ls) }
 onLook-sound n cs (grants m) r rs ls rest u t ih = record { found = (u, t); waiting = skip (sub-refl rs); locks = sub-refl ls }
 
-walk-sound : (cs : List Channel) (rs : List Request) → T (all (soundRequest cs) rs) → (ls : List Lock) → WalkSound cs rs ls (walk cs rs ls)
+walk-sound : (cs : List Channel) (rs : List Request) → T (all (soundRequest cs) rs) → (ls : List Lock)
+    → WalkSound cs rs ls (walk cs rs ls)
 unfolding walk all
 walk-sound cs [] a ls = record { found = tt; waiting = end; locks = sub-refl ls }
 walk-sound cs (r ∷ rs) a ls =
     onLook-sound (length cs) cs (look (r .prec) (r .combos) cs) r rs ls (walk cs rs) (look-unlocked (r .prec) (r .combos) cs)
-    (and-left (soundRequest cs r) (all (soundRequest cs) rs) a) (walk-sound cs rs (and-right (soundRequest cs r) (all (soundRequest cs) rs) a))
+    (and-left (soundRequest cs r) (all (soundRequest cs) rs) a)
+    (walk-sound cs rs (and-right (soundRequest cs r) (all (soundRequest cs) rs) a))
 
 -- ---- settle
 
@@ -84,13 +87,15 @@ walked-sound w s q h =
     (sub-append (sub-append (sub-refl (writesOf (s .channels))) (sub-map (λ (l : Lock). l .id) (h .locks))) (sub-map (λ (r : Request). r .id) (h .waiting)))
     (q .opensOK) (q .lastOK)
 
-goOn-sound : (f : Found) (w : Walk) (s : State) (again : State → Settled) → Parts s → FoundSound (s .channels) f → WalkSound (s .channels) (s .waiting) (s .locks) w
+goOn-sound : (f : Found) (w : Walk) (s : State) (again : State → Settled) → Parts s → FoundSound (s .channels) f
+    → WalkSound (s .channels) (s .waiting) (s .locks) w
     → ((u : State) → Parts u → Parts (again u .state)) → Parts (goOn f w s again .state)
 unfolding goOn walked
 goOn-sound nobody w s again q f h ih = walked-sound w s q h
 goOn-sound (somebody r m) w s again q f h ih =
     let g = request-range (s .channels) r (f .1) in
-    ih (granted m (r .key) (r .prec) (walked w s)) (grant-sound m (r .key) (r .prec) (walked w s) (g .0) (g .1) (f .0) (walked-sound w s q h))
+    ih (granted m (r .key) (r .prec) (walked w s))
+    (grant-sound m (r .key) (r .prec) (walked w s) (g .0) (g .1) (f .0) (walked-sound w s q h))
 
 rounds-sound : (n : ℕ) (s : State) → Parts s → Parts (rounds n s .state)
 unfolding rounds

@@ -19,7 +19,8 @@ unfolding among any
 among-append i [] ys = refl
 among-append i (x ∷ xs) ys = go (eqb i x) (among-append i xs ys)
   where
-    go : (b : Bool) → among i (xs ++ ys) ≡ (among i xs || among i ys) → (b || among i (xs ++ ys)) ≡ ((b || among i xs) || among i ys)
+    go : (b : Bool) → among i (xs ++ ys) ≡ (among i xs || among i ys)
+        → (b || among i (xs ++ ys)) ≡ ((b || among i xs) || among i ys)
     go true e = refl
     go false e = e
 
@@ -44,7 +45,8 @@ all-keep q r (x ∷ xs) t =
 pub all-append {ℓ} : {A : Type ℓ} (q : A → Bool) (xs ys : List A) → T (all q xs) → T (all q ys) → T (all q (xs ++ ys))
 unfolding all
 all-append q [] ys t u = u
-all-append q (x ∷ xs) ys t u = and-both (q x) (all q (xs ++ ys)) (and-left (q x) (all q xs) t) (all-append q xs ys (and-right (q x) (all q xs) t) u)
+all-append q (x ∷ xs) ys t u =
+    and-both (q x) (all q (xs ++ ys)) (and-left (q x) (all q xs) t) (all-append q xs ys (and-right (q x) (all q xs) t) u)
 
 pub keep-length {ℓ} : {A : Type ℓ} (q : A → Bool) (xs : List A) → length (keep q xs) ≤ length xs
 unfolding keep
@@ -73,12 +75,14 @@ pub keep-none {ℓ} : {A : Type ℓ} (q : A → Bool) (xs : List A) → T (all (
 unfolding keep all
 keep-none q [] t = refl
 keep-none q (x ∷ xs) t =
-    rw (test-false (q x) (and-left (not (q x)) (all (λ y. not (q y)) xs) t)) (keep-none q xs (and-right (not (q x)) (all (λ y. not (q y)) xs) t))
+    rw (test-false (q x) (and-left (not (q x)) (all (λ y. not (q y)) xs) t))
+    (keep-none q xs (and-right (not (q x)) (all (λ y. not (q y)) xs) t))
 
 pub keep-each {ℓ} : {A : Type ℓ} (q : A → Bool) (xs : List A) → T (all q xs) → keep q xs ≡ xs
 unfolding keep all
 keep-each q [] t = refl
-keep-each q (x ∷ xs) t = rw (test-true (q x) (and-left (q x) (all q xs) t)) (ap (λ ys. x ∷ ys) (keep-each q xs (and-right (q x) (all q xs) t)))
+keep-each q (x ∷ xs) t =
+    rw (test-true (q x) (and-left (q x) (all q xs) t)) (ap (λ ys. x ∷ ys) (keep-each q xs (and-right (q x) (all q xs) t)))
 
 pub keep-all {ℓ} : {A : Type ℓ} (q : A → Bool) (xs : List A) → T (all q (keep q xs))
 unfolding keep all
@@ -117,7 +121,8 @@ sub-trans (take h) (take k) = take (sub-trans h k)
 pub sub-keep {ℓ} : {A : Type ℓ} (q : A → Bool) (xs : List A) → Sub (keep q xs) xs
 unfolding keep
 sub-keep q [] = end
-sub-keep {A = A} q (x ∷ xs) = if-elim (λ (ys : List A). Sub ys (x ∷ xs)) (q x) (λ _. take (sub-keep q xs)) (λ _. skip (sub-keep q xs))
+sub-keep {A = A} q (x ∷ xs) =
+    if-elim (λ (ys : List A). Sub ys (x ∷ xs)) (q x) (λ _. take (sub-keep q xs)) (λ _. skip (sub-keep q xs))
 
 pub sub-map {ℓ κ} : {A : Type ℓ} {B : Type κ} (f : A → B) {xs ys : List A} → Sub xs ys → Sub (map f xs) (map f ys)
 sub-map f end = end
@@ -128,20 +133,23 @@ pub sub-all {ℓ} : {A : Type ℓ} (q : A → Bool) {xs ys : List A} → Sub xs 
 unfolding all
 sub-all q end t = tt
 sub-all q (skip {x = x} {ys = ys} h) t = sub-all q h (and-right (q x) (all q ys) t)
-sub-all q (take {x = x} {xs = xs} {ys = ys} h) t = and-both (q x) (all q xs) (and-left (q x) (all q ys) t) (sub-all q h (and-right (q x) (all q ys) t))
+sub-all q (take {x = x} {xs = xs} {ys = ys} h) t =
+    and-both (q x) (all q xs) (and-left (q x) (all q ys) t) (sub-all q h (and-right (q x) (all q ys) t))
 
 pub sub-among : (i : ℕ) {xs ys : List ℕ} → Sub xs ys → T (not (among i ys)) → T (not (among i xs))
 unfolding among any
 sub-among i end t = t
 sub-among i (skip {x = x} {ys = ys} h) t = sub-among i h (nor-right (eqb i x) (among i ys) t)
-sub-among i (take {x = x} {xs = xs} {ys = ys} h) t = nor-both (eqb i x) (among i xs) (nor-left (eqb i x) (among i ys) t) (sub-among i h (nor-right (eqb i x) (among i ys) t))
+sub-among i (take {x = x} {xs = xs} {ys = ys} h) t =
+    nor-both (eqb i x) (among i xs) (nor-left (eqb i x) (among i ys) t) (sub-among i h (nor-right (eqb i x) (among i ys) t))
 
 pub sub-distinct : {xs ys : List ℕ} → Sub xs ys → T (distinct ys) → T (distinct xs)
 unfolding distinct
 sub-distinct end t = tt
 sub-distinct (skip {x = x} {ys = ys} h) t = sub-distinct h (and-right (not (among x ys)) (distinct ys) t)
 sub-distinct (take {x = x} {xs = xs} {ys = ys} h) t =
-    and-both (not (among x xs)) (distinct xs) (sub-among x h (and-left (not (among x ys)) (distinct ys) t)) (sub-distinct h (and-right (not (among x ys)) (distinct ys) t))
+    and-both (not (among x xs)) (distinct xs) (sub-among x h (and-left (not (among x ys)) (distinct ys) t))
+    (sub-distinct h (and-right (not (among x ys)) (distinct ys) t))
 
 -- ---- Ins: a list with one number more
 
@@ -164,7 +172,8 @@ ins-end (x ∷ xs) = there (ins-end xs)
 pub ins-all : (q : ℕ → Bool) {i : ℕ} {xs ys : List ℕ} → Ins i xs ys → T (q i) → T (all q xs) → T (all q ys)
 unfolding all
 ins-all q {i} (here {xs = xs}) u t = and-both (q i) (all q xs) u t
-ins-all q (there {x = x} {xs = xs} {ys = ys} h) u t = and-both (q x) (all q ys) (and-left (q x) (all q xs) t) (ins-all q h u (and-right (q x) (all q xs) t))
+ins-all q (there {x = x} {xs = xs} {ys = ys} h) u t =
+    and-both (q x) (all q ys) (and-left (q x) (all q xs) t) (ins-all q h u (and-right (q x) (all q xs) t))
 
 ins-among : (j : ℕ) {i : ℕ} {xs ys : List ℕ} → Ins i xs ys → T (not (eqb j i)) → T (not (among j xs)) → T (not (among j ys))
 unfolding among any
@@ -237,7 +246,8 @@ less-below n (x ∷ xs) t =
 
 pub pigeon : (n : ℕ) (xs : List ℕ) → T (distinct xs) → T (all (λ i. ltb i n) xs) → length xs ≤ n
 pigeon zero [] d t = omega arith
-pigeon zero (x ∷ xs) d t = unfold all in absurd (let h = ltb→lt x 0 (and-left (ltb x 0) (all (λ i. ltb i 0) xs) t) in omega arith)
+pigeon zero (x ∷ xs) d t =
+    unfold all in absurd (let h = ltb→lt x 0 (and-left (ltb x 0) (all (λ i. ltb i 0) xs) t) in omega arith)
 pigeon (suc n) xs d t =
     let ih = pigeon n (less n xs) (less-distinct n xs d) (less-below n xs t) in
     let g = less-ge n xs d in

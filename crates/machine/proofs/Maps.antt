@@ -45,7 +45,8 @@ bit-of m =
 -- ---- named
 
 -- a test that implies another does so of all channels named
-pub named-mono : (p q : Channel → Bool) (m : ℕ) (cs : List Channel) → ((c : Channel) → T (p c) → T (q c)) → T (named p m cs) → T (named q m cs)
+pub named-mono : (p q : Channel → Bool) (m : ℕ) (cs : List Channel) → ((c : Channel) → T (p c) → T (q c)) → T (named p m cs)
+    → T (named q m cs)
 unfolding named
 named-mono p q m [] f t = tt
 named-mono p q m (c ∷ cs) f t =
@@ -90,12 +91,14 @@ unfolding minus bit
 minus-lt zero m f = omega arith
 minus-lt (suc n) m f =
     let ih = minus-lt n (half m) (half f) in
-    if-elim (λ (x : ℕ). x + 2 * minus n (half m) (half f) < 2 ^ suc n) (odd m && not (odd f)) (λ _. omega arith) (λ _. omega arith)
+    if-elim (λ (x : ℕ). x + 2 * minus n (half m) (half f) < 2 ^ suc n) (odd m && not (odd f)) (λ _. omega arith)
+    (λ _. omega arith)
 
 -- ---- meets
 
 -- maps that name apart share no channel
-pub apart-meets : (q : Channel → Bool) (m o : ℕ) (cs : List Channel) → T (named (λ c. not (q c)) m cs) → T (named q o cs) → meets (length cs) m o ≡ false
+pub apart-meets : (q : Channel → Bool) (m o : ℕ) (cs : List Channel) → T (named (λ c. not (q c)) m cs) → T (named q o cs)
+    → meets (length cs) m o ≡ false
 unfolding named meets
 apart-meets q m o [] t u = refl
 apart-meets q m o (c ∷ cs) t u =
@@ -113,7 +116,8 @@ apart-meets q m o (c ∷ cs) t u =
 -- ---- lowest
 
 -- the channel of the lowest bit
-pub low-named : (q : Channel → Bool) (m : ℕ) (cs : List Channel) → T (q (at (lowest (length cs) m) cs)) → T (named q (lowest (length cs) m) cs)
+pub low-named : (q : Channel → Bool) (m : ℕ) (cs : List Channel) → T (q (at (lowest (length cs) m) cs))
+    → T (named q (lowest (length cs) m) cs)
 unfolding named lowest
 low-named q m [] t = tt
 low-named q m (c ∷ cs) t = go (odd m) t (low-named q (half m) cs)
@@ -147,7 +151,8 @@ pub named-says : (p : Channel → Bool) (m : ℕ) (cs : List Channel) → T (nam
     → (i : ℕ) → i < length cs → Names m i → T (p (channel cs i))
 unfolding named
 named-says p m [] t i h n = absurd (omega arith)
-named-says p m (c ∷ cs) t zero h n = or-named (odd m) (p c) (and-left (not (odd m) || p c) (named p (half m) cs) t) (names-head m .0 n)
+named-says p m (c ∷ cs) t zero h n =
+    or-named (odd m) (p c) (and-left (not (odd m) || p c) (named p (half m) cs) t) (names-head m .0 n)
 named-says p m (c ∷ cs) t (suc i) h n =
     named-says p (half m) cs (and-right (not (odd m) || p c) (named p (half m) cs) t) i (omega arith) (sym (names-tail m i) ∙ n)
 

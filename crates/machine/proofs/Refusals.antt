@@ -50,14 +50,17 @@ opening-plain (grants m) c s = tt
 
 each-plain : (n : ℕ) (c : Call) (before : List Reply) (next s : State) → Plain (each n c before next s)
 unfolding each finished done among any
-each-plain n c before next s = if-elim (λ e. T (not (among e refusals))) (mismatch (c .key) (c .map) (s .channels)) (λ _. tt) (λ _. tt)
+each-plain n c before next s =
+    if-elim (λ e. T (not (among e refusals))) (mismatch (c .key) (c .map) (s .channels)) (λ _. tt) (λ _. tt)
 
 -- a command other than an unknown one
 perform-plain : (k : Kind) (c : Call) (s : State) → T (not (unknown k)) → Plain (perform k c s)
 unfolding perform unknown eachChange doFree doLock doRead doWrite doAllocate finished silent done pending among any
 perform-plain RESET c s u = each-plain _ c _ _ s
-perform-plain READ c s u = if-elim Plain (matches (c .key) (at (lowest (length (s .channels)) (c .map)) (s .channels))) (λ _. tt) (λ _. tt)
-perform-plain WRITE c s u = if-elim Plain (matches (c .key) (at (lowest (length (s .channels)) (c .map)) (s .channels))) (λ _. tt) (λ _. tt)
+perform-plain READ c s u =
+    if-elim Plain (matches (c .key) (at (lowest (length (s .channels)) (c .map)) (s .channels))) (λ _. tt) (λ _. tt)
+perform-plain WRITE c s u =
+    if-elim Plain (matches (c .key) (at (lowest (length (s .channels)) (c .map)) (s .channels))) (λ _. tt) (λ _. tt)
 perform-plain UPDATE c s u = each-plain _ c _ _ s
 perform-plain CLEAR c s u = each-plain _ c _ _ s
 perform-plain STOP c s u = each-plain _ c _ _ s
@@ -80,12 +83,14 @@ unfolding first
 first-none [] e = tt
 first-none (t ∷ ts) e = go (t .0) (first-none ts) e
   where
-    go : (b : Bool) → (first ts ≡ accepted → NoneOf ts) → (if b then refused (t .1) else first ts) ≡ accepted → T (not b) × NoneOf ts
+    go : (b : Bool) → (first ts ≡ accepted → NoneOf ts) → (if b then refused (t .1) else first ts) ≡ accepted
+        → T (not b) × NoneOf ts
     go true ih q = absurd (let z : _≡_ {A = ℕ} 0 1 = cc in omega arith)
     go false ih q = (tt, ih q)
 
 -- a refusal with another number than the first test's: that test is not met
-pub first-past : (t : Bool × ℕ) (ts : List (Bool × ℕ)) (e : ℕ) → first (t ∷ ts) ≡ refused e → (t .1 ≡ e → ⊥) → T (not (t .0)) × (first ts ≡ refused e)
+pub first-past : (t : Bool × ℕ) (ts : List (Bool × ℕ)) (e : ℕ) → first (t ∷ ts) ≡ refused e → (t .1 ≡ e → ⊥)
+    → T (not (t .0)) × (first ts ≡ refused e)
 unfolding first
 first-past t ts e q n = go (t .0) q
   where
@@ -103,7 +108,8 @@ unfolding accept settling doOpen doClose doAbort doEvent silent done among any
 accept-plain OPEN c s r = opening-plain (look (c .prec) (c .combos) (s .channels)) c s
 accept-plain CLOSE c s r = tt
 accept-plain ABORT c s r = tt
-accept-plain EVENT c s r = if-elim Plain (playing (at (lowest (length (s .channels)) (c .map)) (s .channels))) (λ _. tt) (λ _. tt)
+accept-plain EVENT c s r =
+    if-elim Plain (playing (at (lowest (length (s .channels)) (c .map)) (s .channels))) (λ _. tt) (λ _. tt)
 accept-plain (COMMAND n) c s r = perform-plain (kind n) c s (known n c s r)
 
 -- ---- refuse
@@ -122,7 +128,8 @@ refuse-answer OPEN e c s = refl
 refuse-answer CLOSE e c s = refl
 refuse-answer ABORT e c s = refl
 refuse-answer EVENT e c s = refl
-refuse-answer (COMMAND n) e c s = if-elim (λ (o : Outcome). o .answer ≡ done e 0 (c .key) NONE) (leb e 5) (λ _. refl) (λ _. refl)
+refuse-answer (COMMAND n) e c s =
+    if-elim (λ (o : Outcome). o .answer ≡ done e 0 (c .key) NONE) (leb e 5) (λ _. refl) (λ _. refl)
 
 refuse-error : (o : Op) (e : ℕ) (c : Call) (s : State) → refuse o e c s .answer .error ≡ e
 unfolding done
@@ -180,7 +187,8 @@ refused-mute s c =
     (λ e t. refuse-mute (c .op) e c s (among-all (λ x. leb x 5) e mute (unfold all in tt) t))
 
 -- "after -3, -4 and -5 it gains only the command's own reply, if due"; after -1, which only OPEN gets, none
-pub refused-heard : (s : State) (c : Call) → T (among (call s c .answer .error) heard) → call s c .replies ≡ ownReply (c .op) c (call s c .answer .error)
+pub refused-heard : (s : State) (c : Call) → T (among (call s c .answer .error) heard)
+    → call s c .replies ≡ ownReply (c .op) c (call s c .answer .error)
 refused-heard s c =
     refused-with (λ (o : Outcome). o .replies ≡ ownReply (c .op) c (o .answer .error)) heard (unfold all among any in tt) s c
     (λ e t. rw (refuse-error (c .op) e c s) (refuse-heard (c .op) e c s (among-all (λ x. not (leb x 5)) e heard (unfold all in tt) t)))

@@ -91,7 +91,8 @@ same-writes i m f (c ∷ cs) g =
     let ih = same-writes i (half m) f cs g in
     let w = count-append i (c .writes) (writesOf cs) in
     let a = count-append i (c .writes) (writesOf (change f (half m) cs)) in
-    if-elim (λ (d : Channel). count i (d .writes ++ writesOf (change f (half m) cs)) ≡ count i (c .writes ++ writesOf cs)) (odd m)
+    if-elim (λ (d : Channel). count i (d .writes ++ writesOf (change f (half m) cs)) ≡ count i (c .writes ++ writesOf cs))
+    (odd m)
     (λ _. rw (g c) (omega arith))
     (λ _. omega arith)
 
@@ -108,7 +109,8 @@ put-count i ws m (c ∷ cs) h = go (odd m) h (put-count i ws (half m) cs)
 
     go : (b : Bool) → T (not (isFree (at (if b then 1 else bit false x) (c ∷ cs))))
         → (T (not (isFree (at x cs))) → count i (writesOf (change (setWrites ws) x cs)) + count i (at x cs .writes) ≡ count i (writesOf cs) + count i ws)
-        → count i (writesOf (change (setWrites ws) (if b then 1 else bit false x) (c ∷ cs))) + count i (at (if b then 1 else bit false x) (c ∷ cs) .writes)
+        → count i (writesOf (change (setWrites ws) (if b then 1 else bit false x) (c ∷ cs))) + count i
+        (at (if b then 1 else bit false x) (c ∷ cs) .writes)
         ≡ count i (c .writes ++ writesOf cs) + count i ws
     go true u ih =
         unfold at odd half in
@@ -180,7 +182,8 @@ freeing-fits i m s =
     let b = abortedIn-count i m freed (s .channels) (λ c. refl) in
     let d = heard-ended i 0 (keep isEmpty ls) in
     let e = count-keep i (λ (l : Lock). l .id) isEmpty ls in
-    let f : count i (lockIds ls) ≡ count i (lockIds (s .locks)) = ap (count i) (cleared-ids (length (s .channels)) m (s .locks)) in
+    let f : count i (lockIds ls) ≡ count i (lockIds (s .locks)) = ap (count i)
+    (cleared-ids (length (s .channels)) m (s .locks)) in
     omega arith
 
 -- ---- a grant
@@ -197,7 +200,8 @@ found-count i nobody = 0
 found-count i (somebody r m) = count i (r .id ∷ [])
 
 abbrev walk-count : ℕ → Walk → ℕ
-walk-count i w = count i (heard (w .replies)) + count i (lockIds (w .locks)) + count i (waitIds (w .waiting)) + found-count i (w .found)
+walk-count i w =
+    count i (heard (w .replies)) + count i (lockIds (w .locks)) + count i (waitIds (w .waiting)) + found-count i (w .found)
 
 onLook-fits : (i n : ℕ) (l : Look) (r : Request) (rs : List Request) (ls : List Lock) (rest : List Lock → Walk)
     → ((k : List Lock) → walk-count i (rest k) ≡ count i (lockIds k) + count i (waitIds rs))
@@ -222,7 +226,8 @@ onLook-fits i n (held m) r rs ls rest ih =
 onLook-fits i n (grants m) r rs ls rest ih =
     let e = count-cons i (r .id) (waitIds rs) in unfold count in omega arith
 
-walk-fits : (i : ℕ) (cs : List Channel) (rs : List Request) (ls : List Lock) → walk-count i (walk cs rs ls) ≡ count i (lockIds ls) + count i (waitIds rs)
+walk-fits : (i : ℕ) (cs : List Channel) (rs : List Request) (ls : List Lock)
+    → walk-count i (walk cs rs ls) ≡ count i (lockIds ls) + count i (waitIds rs)
 unfolding walk found-count
 walk-fits i cs [] ls = unfold count in omega arith
 walk-fits i cs (r ∷ rs) ls = onLook-fits i (length cs) (look (r .prec) (r .combos) cs) r rs ls (walk cs rs) (walk-fits i cs rs)
@@ -304,7 +309,8 @@ lock-fits i c s =
 
     locks : Fits i (out i s + count i (c .id ∷ [])) [] (record { channels = change setLock (c .map) (s .channels); locks = s .locks ++ l ∷ []; waiting = s .waiting; opens = s .opens; last = s .last })
     locks =
-        let a : count i (lockIds (s .locks ++ l ∷ [])) ≡ count i (lockIds (s .locks)) + count i (c .id ∷ []) = count-ins i (lock-ids l (s .locks)) in
+        let a : count i (lockIds (s .locks ++ l ∷ [])) ≡ count i (lockIds (s .locks)) + count i (c .id ∷ []) = count-ins i
+        (lock-ids l (s .locks)) in
         let w = same-writes i (c .map) setLock (s .channels) (λ d. refl) in
         let z = count-nil i in
         omega arith
@@ -312,7 +318,8 @@ lock-fits i c s =
 read-fits : (i : ℕ) (c : Call) (s : State) → FitsOut i (out i s + count i (c .id ∷ [])) (doRead c s)
 unfolding doRead
 read-fits i c s =
-    if-elim (FitsOut i (out i s + count i (c .id ∷ []))) (matches (c .key) (at (lowest (length (s .channels)) (c .map)) (s .channels)))
+    if-elim (FitsOut i (out i s + count i (c .id ∷ [])))
+    (matches (c .key) (at (lowest (length (s .channels)) (c .map)) (s .channels)))
     (λ _. idle-fits i _ c _ s) (λ _. idle-fits i _ c _ s)
 
 write-fits : (i : ℕ) (c : Call) (s : State) → FitsOut i (out i s + count i (c .id ∷ [])) (doWrite c s)
@@ -332,7 +339,8 @@ waits-fits : (i : ℕ) (c : Call) (s : State) → FitsOut i (out i s + count i (
 unfolding waits silent out count
 waits-fits i c s =
     let r : Request = record { id = c .id; key = c .key; prec = c .prec; impatient = nowait (c .flags); combos = c .combos } in
-    let a : count i (waitIds (enqueue r (s .waiting))) ≡ count i (waitIds (s .waiting)) + count i (c .id ∷ []) = count-ins i (enqueue-ids r (s .waiting)) in
+    let a : count i (waitIds (enqueue r (s .waiting))) ≡ count i (waitIds (s .waiting)) + count i (c .id ∷ []) = count-ins i
+    (enqueue-ids r (s .waiting)) in
     omega arith
 
 allocating-fits : (i : ℕ) (l : Look) (c : Call) (s : State) → FitsOut i (out i s + count i (c .id ∷ [])) (allocating l c s)
@@ -416,7 +424,8 @@ accept-fits i OPEN c s p = let f = opening-fits i (look (c .prec) (c .combos) (s
 accept-fits i CLOSE c s p = let f = settling-fits i (out i s) (doClose c s) (close-fits i c s) in omega arith
 accept-fits i ABORT c s p = let f = settling-fits i (out i s) (doAbort c s) (abort-fits i c s) in omega arith
 accept-fits i EVENT c s p = let f = settling-fits i (out i s) (doEvent c s) (event-fits i c s p) in omega arith
-accept-fits i (COMMAND n) c s p = settling-fits i (out i s + count i (c .id ∷ [])) (perform (kind n) c s) (perform-fits i (kind n) c s)
+accept-fits i (COMMAND n) c s p =
+    settling-fits i (out i s + count i (c .id ∷ [])) (perform (kind n) c s) (perform-fits i (kind n) c s)
 
 own-reply : (i : ℕ) (o : Op) (c : Call) (e : ℕ) → count i (heard (ownReply o c e)) ≤ count i (own o c)
 unfolding own
@@ -460,7 +469,8 @@ nothing-idle o c s p e =
       small = λ i h. rw e (count-nil i);
     }
 
-command-idle : (n : ℕ) (c : Call) (s : State) → Parts s → T (not (ltb 63 (c .id))) → T (not (among (c .id) (ids s))) → Idle (COMMAND n) c s
+command-idle : (n : ℕ) (c : Call) (s : State) → Parts s → T (not (ltb 63 (c .id))) → T (not (among (c .id) (ids s)))
+    → Idle (COMMAND n) c s
 unfolding own
 command-idle n c s p l a =
     record {
@@ -500,7 +510,8 @@ record Once (o : Outcome) : Type 0 where
   most : (i : ℕ) → count i (heard (o .replies)) + count i (ids (o .next)) ≤ 1
   small : (i : ℕ) → 64 ≤ i → count i (heard (o .replies)) ≡ 0
 
-once-from : (o : Op) (c : Call) (s : State) (x : Outcome) → Parts s → Idle o c s → ((i : ℕ) → FitsOut i (out i s + count i (own o c)) x) → Once x
+once-from : (o : Op) (c : Call) (s : State) (x : Outcome) → Parts s → Idle o c s
+    → ((i : ℕ) → FitsOut i (out i s + count i (own o c)) x) → Once x
 once-from o c s x p d f =
     record {
       most = λ i. let h = f i in let a = ids-count i (x .next) in let b = ids-count i s in let k = d .once i in omega arith;
@@ -526,7 +537,8 @@ unfolding call answering
 call-once s c p = go (refusal (c .op) c s) refl
   where
     go : (r : Refusal) → refusal (c .op) c s ≡ r → Once (answering r c s)
-    go accepted e = once-from (c .op) c s (accept (c .op) c s) p (accepted-idle (c .op) c s p e) (λ i. accept-fits i (c .op) c s p)
+    go accepted e =
+        once-from (c .op) c s (accept (c .op) c s) p (accepted-idle (c .op) c s p e) (λ i. accept-fits i (c .op) c s p)
     go (refused n) e =
         by-test (leb n 5)
         (λ t. mute-once (c .op) n c s p t)
@@ -539,7 +551,8 @@ replies-apart s c t =
     (λ i. let h = call-once s c (parts s t) .most i in let a = count-append i (heard (call s c .replies)) (ids (call s c .next)) in omega arith)
 
 -- a call makes at most 64 replies, no two to one id
-pub call-replies : (s : State) (c : Call) → T (sound s) → T (distinct (heard (call s c .replies))) × (length (call s c .replies) ≤ 64)
+pub call-replies : (s : State) (c : Call) → T (sound s)
+    → T (distinct (heard (call s c .replies))) × (length (call s c .replies) ≤ 64)
 call-replies s c t =
     let o = call-once s c (parts s t) in
     let d = count-distinct (heard (call s c .replies)) (λ i. let h = o .most i in omega arith) in

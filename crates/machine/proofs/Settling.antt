@@ -41,14 +41,17 @@ kept-trans P (c ∷ cs) (d ∷ ds) (e ∷ es) h k =
     (λ t. k .0 (subst (λ (x : Channel). T (strong P x)) (sym (h .0 t)) t) ∙ h .0 t, kept-trans P cs ds es (h .1) (k .1))
 
 -- a change at channels none of which is strong
-pub change-kept : (P : ℕ) (f : Channel → Channel) (m : ℕ) (cs : List Channel) → T (named (λ c. not (strong P c)) m cs) → Kept P cs (change f m cs)
+pub change-kept : (P : ℕ) (f : Channel → Channel) (m : ℕ) (cs : List Channel) → T (named (λ c. not (strong P c)) m cs)
+    → Kept P cs (change f m cs)
 unfolding named change
 change-kept P f m [] t = tt
 change-kept P f m (c ∷ cs) t =
     (head, change-kept P f (half m) cs (and-right (not (odd m) || not (strong P c)) (named (λ d. not (strong P d)) (half m) cs) t))
   where
     weak : T (odd m) → T (not (strong P c))
-    weak = or-named (odd m) (not (strong P c)) (and-left (not (odd m) || not (strong P c)) (named (λ d. not (strong P d)) (half m) cs) t)
+    weak =
+        or-named (odd m) (not (strong P c))
+        (and-left (not (odd m) || not (strong P c)) (named (λ d. not (strong P d)) (half m) cs) t)
 
     head : T (strong P c) → (if odd m then f c else c) ≡ c
     head u = if-elim (λ d. d ≡ c) (odd m) (λ o. absurd (T-not (strong P c) (weak o) u)) (λ _. refl)
@@ -67,7 +70,8 @@ abbrev WalkOK : ℕ → List Channel → Walk → Type 0
 WalkOK P cs w = FoundOK P cs (w .found) × AllLe P (w .waiting)
 
 onLook-ok : (P n : ℕ) (cs : List Channel) (l : Look) (r : Request) (rs : List Request) (ls : List Lock) (rest : List Lock → Walk)
-    → Spares P cs l → r .prec ≤ P → AllLe P rs → ((k : List Lock) → WalkOK P cs (rest k)) → WalkOK P cs (onLook n l r rs ls rest)
+    → Spares P cs l → r .prec ≤ P → AllLe P rs → ((k : List Lock) → WalkOK P cs (rest k)) → WalkOK P cs
+    (onLook n l r rs ls rest)
 unfolding onLook staying saying
 onLook-ok P n cs fails r rs ls rest sp h a ih =
     if-elim (WalkOK P cs) (r .impatient) (λ _. ih ls) (λ _. (ih ls .0, (h, ih ls .1)))
@@ -130,7 +134,8 @@ both : (n k : ℕ) (f : Found) → Fewer n f k → Fewer (suc n) f (suc k)
 both n k nobody h = tt
 both n k (somebody r m) h = omega arith
 
-onLook-shorter : (c : ℕ) (l : Look) (r : Request) (rs : List Request) (ls : List Lock) (rest : List Lock → Walk) → ((k : List Lock) → Shorter (length rs) (rest k)) → Shorter (suc (length rs)) (onLook c l r rs ls rest)
+onLook-shorter : (c : ℕ) (l : Look) (r : Request) (rs : List Request) (ls : List Lock) (rest : List Lock → Walk)
+    → ((k : List Lock) → Shorter (length rs) (rest k)) → Shorter (suc (length rs)) (onLook c l r rs ls rest)
 unfolding onLook staying saying
 onLook-shorter c fails r rs ls rest ih =
     if-elim (Shorter (suc (length rs))) (r .impatient)
@@ -143,7 +148,8 @@ onLook-shorter c (grants m) r rs ls rest ih = omega arith
 walk-shorter : (cs : List Channel) (rs : List Request) (ls : List Lock) → Shorter (length rs) (walk cs rs ls)
 unfolding walk
 walk-shorter cs [] ls = tt
-walk-shorter cs (r ∷ rs) ls = onLook-shorter (length cs) (look (r .prec) (r .combos) cs) r rs ls (walk cs rs) (walk-shorter cs rs)
+walk-shorter cs (r ∷ rs) ls =
+    onLook-shorter (length cs) (look (r .prec) (r .combos) cs) r rs ls (walk cs rs) (walk-shorter cs rs)
 
 -- "A walk to the end without a grant finishes."
 pub walk-finishes : (n : ℕ) (s : State) (w : Walk) → walk (s .channels) (s .waiting) (s .locks) ≡ w → w .found ≡ nobody
@@ -165,7 +171,8 @@ rounds-enough zero k s h g = absurd (omega arith)
 rounds-enough (suc n) zero s h g = absurd (omega arith)
 rounds-enough (suc n) (suc k) s h g =
     let w = walk (s .channels) (s .waiting) (s .locks) in
-    goOn-enough (w .found) w s (rounds n) (rounds k) (walk-shorter (s .channels) (s .waiting) (s .locks)) (λ u l. rounds-enough n k u (omega arith) (omega arith))
+    goOn-enough (w .found) w s (rounds n) (rounds k) (walk-shorter (s .channels) (s .waiting) (s .locks))
+    (λ u l. rounds-enough n k u (omega arith) (omega arith))
 
 pub settle-enough : (n : ℕ) (s : State) → length (s .waiting) < n → settle s ≡ rounds n s
 unfolding settle
@@ -263,4 +270,6 @@ walk-quiet cs (r ∷ rs) ls a =
 
 pub settle-rested : (s : State) → AtRest s → settle s ≡ record { state = s; replies = [] }
 unfolding settle walked
-settle-rested s a = walk-finishes (length (s .waiting)) s (quietWalk (s .waiting) (s .locks)) (walk-quiet (s .channels) (s .waiting) (s .locks) a) refl
+settle-rested s a =
+    walk-finishes (length (s .waiting)) s (quietWalk (s .waiting) (s .locks))
+    (walk-quiet (s .channels) (s .waiting) (s .locks) a) refl

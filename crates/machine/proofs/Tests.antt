@@ -13,7 +13,8 @@ use Rattle.machine.specs.Sample.{sample-says}
 
 -- ---- if_then_else_ and tests by cases
 
-pub if-elim {ℓ κ} : {A : Type ℓ} (P : A → Type κ) (b : Bool) {x y : A} → (T b → P x) → (T (not b) → P y) → P (if b then x else y)
+pub if-elim {ℓ κ} : {A : Type ℓ} (P : A → Type κ) (b : Bool) {x y : A} → (T b → P x) → (T (not b) → P y)
+    → P (if b then x else y)
 if-elim P true f g = f tt
 if-elim P false f g = g tt
 
