@@ -1,13 +1,14 @@
 -- Why ALLOCATE is right: its answer is that of the look, before settling, and the look is the rule of specs/Rule.antt.
 -- Assumes nothing.
 use Prim.Native.Nat.{ℕ, _<_}
-use mathlib.Core.Path.{_≡_, refl, ap, subst, _∙_}
-use mathlib.Core.Logic.{_↔_}
-use mathlib.Core.Bool.{false, true≢false}
+use mathlib.Core.Path.{_≡_, refl, ap, subst, sym, _∙_}
+use mathlib.Core.Logic.{_⊎_, inl, inr, _↔_}
+use mathlib.Core.Bool.{true, false, not, true≢false}
 use mathlib.Core.List.{[]}
 use native.Mathlib.Omega.{arith}
+use lib.Dec.{T}
 use lib.ListN.{length, getD}
-use Rattle.machine.specs.Numbers.{nowait, ADCMD·ALLOCATE, NONE}
+use Rattle.machine.specs.Numbers.{nowait, ALLOCFAILED, ADCMD·ALLOCATE, NONE}
 use Rattle.machine.specs.State.{State, Answer, Outcome, Call, Op, COMMAND}
 use Rattle.machine.specs.Choosing.{Look, fails, held, grants, look}
 use Rattle.machine.specs.Granting.{keyFor, abortedIn, granted}
@@ -17,7 +18,7 @@ use Rattle.machine.specs.Kinds.{kind}
 use Rattle.machine.specs.Refusals.{Refusal, accepted, refusal}
 use Rattle.machine.specs.Call.{perform, settling, accept, answering, call}
 use Rattle.machine.specs.Rule.{Unlocked, SomeEligible, Wins}
-use Rattle.machine.proofs.Tests.{if-elim}
+use Rattle.machine.proofs.Tests.{if-elim, test-true, test-false}
 use Rattle.machine.proofs.Choosing.{wins-inside, wins-eligible, wins-unique, some-wins, grants-iff, look-empty}
 
 -- "ALLOCATE that is granted is done at once": the answer to one that was granted map m
@@ -43,6 +44,39 @@ allocating-answers (held n) c s m = (
 allocating-answers (grants n) c s m =
     (λ g. ap grants (g .map), λ e. record { done = refl; error = refl; map = cc })
 
+allocating-fails : (l : Look) (c : Call) (s : State) → (allocating l c s .answer .error ≡ ALLOCFAILED) ↔ ((l ≡ fails) × T (nowait (c .flags)))
+unfolding allocating waits finished silent done pending
+allocating-fails fails c s = (
+  if-elim (λ (o : Outcome). o .answer .error ≡ ALLOCFAILED → (fails ≡ fails) × T (nowait (c .flags))) (nowait (c .flags))
+      (λ t _. (refl, t))
+      (λ _ e. absurd (omega arith)),
+  λ g. rw (test-true (nowait (c .flags)) (g .1)) refl,
+)
+allocating-fails (held m) c s = (λ e. absurd (omega arith), λ g. absurd (let e = g .0 in let z : _≡_ {A = ℕ} 0 1 = cc in omega arith))
+allocating-fails (grants m) c s = (λ e. absurd (omega arith), λ g. absurd (let e = g .0 in let z : _≡_ {A = ℕ} 0 1 = cc in omega arith))
+
+abbrev Waiting : Look → Call → Type 0
+Waiting l c = ((m : ℕ) × (l ≡ held m)) ⊎ ((l ≡ fails) × T (not (nowait (c .flags))))
+
+allocating-waits : (l : Look) (c : Call) (s : State) → (allocating l c s .answer .outstanding ≡ true) ↔ Waiting l c
+unfolding allocating waits finished silent done pending
+allocating-waits fails c s = (
+  if-elim (λ (o : Outcome). o .answer .outstanding ≡ true → Waiting fails c) (nowait (c .flags))
+      (λ _ e. absurd (true≢false (sym e)))
+      (λ t _. inr (refl, t)),
+  λ w. rw (test-false (nowait (c .flags)) (patient w)) refl,
+)
+  where
+    patient : Waiting fails c → T (not (nowait (c .flags)))
+    patient (inl w) = absurd (let e = w .1 in let z : _≡_ {A = ℕ} 0 1 = cc in omega arith)
+    patient (inr w) = w .1
+allocating-waits (held m) c s = (λ e. inl (m, refl), λ w. refl)
+allocating-waits (grants m) c s = (λ e. absurd (true≢false (sym e)), λ w. absurd (never w))
+  where
+    never : Waiting (grants m) c → ⊥
+    never (inl w) = let e = w .1 in let z : _≡_ {A = ℕ} 0 1 = cc in omega arith
+    never (inr w) = let e = w .0 in let z : _≡_ {A = ℕ} 0 1 = cc in omega arith
+
 -- ---- call
 
 accepted-call : (o : Op) (r : Refusal) (c : Call) (s : State) → o ≡ COMMAND ADCMD·ALLOCATE → r ≡ accepted → c .op ≡ o
@@ -60,7 +94,19 @@ module _ (s : State) (c : Call) (op : c .op ≡ COMMAND ADCMD·ALLOCATE) (ok : r
   unfolding settling doAllocate
   granted-iff m = rw call-allocates (allocating-answers (look (c .prec) (c .combos) (s .channels)) c s m)
 
-  -- then this is done, and settling follows
+  -- "Failing with NOWAIT (flag 64) gives -11."
+  pub failed-iff : (call s c .answer .error ≡ ALLOCFAILED) ↔ ((look (c .prec) (c .combos) (s .channels) ≡ fails) × T (nowait (c .flags)))
+  unfolding settling doAllocate
+  failed-iff = rw call-allocates (allocating-fails (look (c .prec) (c .combos) (s .channels)) c s)
+
+  -- "A held one waits even with NOWAIT; so does a failing one without it."
+  pub outstanding-iff : (call s c .answer .outstanding ≡ true)
+      ↔ (((m : ℕ) × (look (c .prec) (c .combos) (s .channels) ≡ held m))
+      ⊎ ((look (c .prec) (c .combos) (s .channels) ≡ fails) × T (not (nowait (c .flags)))))
+  unfolding settling doAllocate
+  outstanding-iff = rw call-allocates (allocating-waits (look (c .prec) (c .combos) (s .channels)) c s)
+
+  -- where it is granted this is done, and settling follows
   pub granted-is : (m : ℕ) → look (c .prec) (c .combos) (s .channels) ≡ grants m
       → call s c
       ≡ settling

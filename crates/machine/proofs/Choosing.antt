@@ -419,6 +419,52 @@ module _ (prec : ℕ) (cs : List Channel) where
     λ w. standing-grants (choose prec ms cs) m .1 (chosen-iff ms m h .1 (w .0, w .1, w .2), w .3),
   )
 
+  standing-fails : (o : Choice) → (standing o cs ≡ fails) ↔ (o ≡ none)
+  unfolding standing
+  standing-fails none = (λ e. refl, λ e. refl)
+  standing-fails (chosen n) = (
+    if-elim (λ (l : Look). l ≡ fails → chosen n ≡ none) (named (λ c. not (c .locked)) n cs)
+        (λ _ e. absurd (let z : _≡_ {A = ℕ} 0 1 = cc in omega arith))
+        (λ _ e. absurd (let z : _≡_ {A = ℕ} 0 1 = cc in omega arith)),
+    λ e. absurd (let z : _≡_ {A = ℕ} 0 1 = cc in omega arith),
+  )
+
+  pub fails-iff : (ms : List ℕ) → 0 < length ms → (look prec ms cs ≡ fails) ↔ NoneEligible prec ms cs
+  unfolding look
+  fails-iff ms h = (
+    λ e. none-iff ms h .0 (standing-fails (choose prec ms cs) .0 e),
+    λ n. standing-fails (choose prec ms cs) .1 (none-iff ms h .1 n),
+  )
+
+  standing-held : (o : Choice) (m : ℕ) → (standing o cs ≡ held m) ↔ ((o ≡ chosen m) × (Unlocked m cs → ⊥))
+  unfolding standing
+  standing-held none m = (
+    λ e. absurd (let z : _≡_ {A = ℕ} 0 1 = cc in omega arith),
+    λ g. absurd (let q = g .0 in let z : _≡_ {A = ℕ} 0 1 = cc in omega arith),
+  )
+  standing-held (chosen n) m = (
+    by-test (named (λ c. not (c .locked)) n cs)
+        (λ t. rw (test-true (named (λ c. not (c .locked)) n cs) t) (λ e. absurd (let z : _≡_ {A = ℕ} 0 1 = cc in omega arith)))
+        (λ t. rw (test-false (named (λ c. not (c .locked)) n cs) t)
+        (λ e. let q : n ≡ m = cc in
+        (ap chosen q, subst (λ (x : ℕ). Unlocked x cs → ⊥) q (λ u. T-not (named (λ c. not (c .locked)) n cs) t (unlocked-iff n .1 u))))),
+    λ g. let e = g .0 in
+        let q : n ≡ m = cc in
+        rw (test-false (named (λ c. not (c .locked)) n cs)
+        (not-T (named (λ c. not (c .locked)) n cs) (λ t. g .1 (subst (λ (x : ℕ). Unlocked x cs) q (unlocked-iff n .0 t)))))
+        (ap held q),
+  )
+
+  pub held-iff : (ms : List ℕ) (m : ℕ) → 0 < length ms
+      → (look prec ms cs ≡ held m) ↔ ((j : ℕ) × (m ≡ getD ms j 0) × Wins prec ms cs j × (Unlocked m cs → ⊥))
+  unfolding look
+  held-iff ms m h = (
+    λ e. let g = standing-held (choose prec ms cs) m .0 e in
+        let w = chosen-iff ms m h .0 (g .0) in
+        (w .0, w .1, w .2, g .1),
+    λ w. standing-held (choose prec ms cs) m .1 (chosen-iff ms m h .1 (w .0, w .1, w .2), w .3),
+  )
+
   pub look-empty : look prec [] cs ≡ grants 0
   unfolding look
   look-empty = standing-grants (choose prec [] cs) 0 .1 (choose-empty, unlocked-iff 0 .0 (named-zero (λ c. not (c .locked)) cs))
