@@ -7,6 +7,7 @@ pub mod Sound
 pub mod Granting
 pub mod Settling
 pub mod Refusals
+pub mod Commands
 pub mod Allocating
 pub mod Resting
 pub mod Keeping

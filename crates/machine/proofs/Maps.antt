@@ -8,7 +8,7 @@ use mathlib.Core.Bool.{Bool, true, false, not, _&&_, _||_}
 use mathlib.Core.List.{List, [], _∷_}
 use native.Mathlib.Nat.{div-div-eq-div-mul, pow-succ'}
 use native.Mathlib.Omega.{arith}
-use lib.Dec.{T, eqb, eqb→eq, T-not}
+use lib.Dec.{T, T-not, not-T, eqb, eqb→eq}
 use lib.ListN.{length}
 use Rattle.machine.specs.Lists.{if_then_else_, all}
 use Rattle.machine.specs.State.{Channel}
@@ -178,3 +178,103 @@ unfolding change
 change-unnamed f m [] i n = refl
 change-unnamed f m (c ∷ cs) zero n = if-elim (λ (d : Channel). d ≡ c) (odd m) (λ o. absurd (n (names-head m .1 o))) (λ _. refl)
 change-unnamed f m (c ∷ cs) (suc i) n = change-unnamed f (half m) cs i (λ k. n (names-tail m i ∙ k))
+
+-- ---- bit, minus, meets, lowest, by the bits of the map
+
+pub names-bit-head : (b : Bool) (m : ℕ) → Names (bit b m) 0 ↔ T b
+names-bit-head b m = (λ n. rw (odd-bit b m) at (names-head (bit b m) .0 n), λ t. names-head (bit b m) .1 (rw (odd-bit b m) t))
+
+pub names-bit-tail : (b : Bool) (m i : ℕ) → Names (bit b m) (suc i) ↔ Names m i
+names-bit-tail b m i = (
+  λ n. ap (λ (x : ℕ). x / 2 ^ i % 2) (sym (half-bit b m)) ∙ sym (names-tail (bit b m) i) ∙ n,
+  λ n. names-tail (bit b m) i ∙ ap (λ (x : ℕ). x / 2 ^ i % 2) (half-bit b m) ∙ n,
+)
+
+pub names-half : (m i : ℕ) → Names m (suc i) ↔ Names (half m) i
+names-half m i = (λ n. sym (names-tail m i) ∙ n, λ n. names-tail m i ∙ n)
+
+-- m without f names what m names and f does not
+pub minus-names : (n m f i : ℕ) → i < n → Names (minus n m f) i ↔ (Names m i × (Names f i → ⊥))
+unfolding minus
+minus-names zero m f i h = absurd (omega arith)
+minus-names (suc n) m f zero h = (
+  λ x. let t = names-bit-head (odd m && not (odd f)) (minus n (half m) (half f)) .0 x in (
+    names-head m .1 (and-left (odd m) (not (odd f)) t),
+    λ y. T-not (odd f) (and-right (odd m) (not (odd f)) t) (names-head f .0 y),
+  ),
+  λ x. names-bit-head (odd m && not (odd f)) (minus n (half m) (half f)) .1
+      (and-both (odd m) (not (odd f)) (names-head m .0 (x .0)) (not-T (odd f) (λ t. x .1 (names-head f .1 t)))),
+)
+minus-names (suc n) m f (suc i) h =
+    let ih = minus-names n (half m) (half f) i (omega arith) in (
+      λ x. let y = ih .0 (names-bit-tail (odd m && not (odd f)) (minus n (half m) (half f)) i .0 x) in
+          (names-half m i .1 (y .0), λ z. y .1 (names-half f i .0 z)),
+      λ x. names-bit-tail (odd m && not (odd f)) (minus n (half m) (half f)) i .1
+          (ih .1 (names-half m i .0 (x .0), λ z. x .1 (names-half f i .1 z))),
+    )
+
+-- maps meet exactly if both name some channel
+pub meets-iff : (n m f : ℕ) → T (meets n m f) ↔ ((i : ℕ) × (i < n) × Names m i × Names f i)
+unfolding meets
+meets-iff zero m f = (λ t. absurd t, λ x. absurd (omega (arith, x .1)))
+meets-iff (suc n) m f =
+    let ih = meets-iff n (half m) (half f) in (
+      λ t. by-test (odd m && odd f)
+          (λ u. (0, omega arith, names-head m .1 (and-left (odd m) (odd f) u), names-head f .1 (and-right (odd m) (odd f) u)))
+          (λ u. let x = ih .0 (rw (test-false (odd m && odd f) u) at t) in
+          (suc (x .0), omega (arith, x .1), names-half m (x .0) .1 (x .2), names-half f (x .0) .1 (x .3))),
+      λ x. back (x .0) (x .1) (x .2) (x .3) (ih .1),
+    )
+  where
+    right : (a b : Bool) → T b → T (a || b)
+    right true b t = tt
+    right false b t = t
+
+    left : (a b : Bool) → T a → T (a || b)
+    left true b t = tt
+    left false b t = absurd t
+
+    back : (i : ℕ) → i < suc n → Names m i → Names f i → ((j : ℕ) × (j < n) × Names (half m) j × Names (half f) j → T (meets n (half m) (half f)))
+        → T (odd m && odd f || meets n (half m) (half f))
+    back zero h x y k = left (odd m && odd f) (meets n (half m) (half f)) (and-both (odd m) (odd f) (names-head m .0 x) (names-head f .0 y))
+    back (suc i) h x y k =
+        right (odd m && odd f) (meets n (half m) (half f)) (k (i, omega arith, names-half m i .0 x, names-half f i .0 y))
+
+zero-names : (i : ℕ) → Names 0 i → ⊥
+unfolding half
+zero-names zero n = omega arith
+zero-names (suc i) n = zero-names i (names-half 0 i .0 n)
+
+-- m names channel i, and none before it
+abbrev pub NamesFirst : ℕ → ℕ → Type 0
+NamesFirst m i = Names m i × ((j : ℕ) → j < i → Names m j → ⊥)
+
+odd-lowest : (m i : ℕ) → T (odd m) → Names 1 i ↔ NamesFirst m i
+unfolding half
+odd-lowest m zero t = (λ x. (names-head m .1 t, λ j h. absurd (omega arith)), λ x. refl)
+odd-lowest m (suc i) t = (
+  λ x. absurd (zero-names i (names-half 1 i .0 x)),
+  λ x. absurd (x .1 0 (omega arith) (names-head m .1 t)),
+)
+
+-- the lowest bit names the first channel that the map names, and no other
+pub lowest-names : (n m i : ℕ) → i < n → Names (lowest n m) i ↔ NamesFirst m i
+unfolding lowest
+lowest-names zero m i h = absurd (omega arith)
+lowest-names (suc n) m zero h =
+    if-elim (λ (x : ℕ). Names x 0 ↔ NamesFirst m 0) (odd m) (odd-lowest m 0)
+    (λ t. (
+      λ x. absurd (names-bit-head false (lowest n (half m)) .0 x),
+      λ x. absurd (T-not (odd m) t (names-head m .0 (x .0))),
+    ))
+lowest-names (suc n) m (suc i) h =
+    let ih = lowest-names n (half m) i (omega arith) in
+    if-elim (λ (x : ℕ). Names x (suc i) ↔ NamesFirst m (suc i)) (odd m) (odd-lowest m (suc i))
+    (λ t. (
+      λ x. let y = ih .0 (names-bit-tail false (lowest n (half m)) i .0 x) in (names-half m i .1 (y .0), later t (y .1)),
+      λ x. names-bit-tail false (lowest n (half m)) i .1 (ih .1 (names-half m i .0 (x .0), λ j l z. x .1 (suc j) (omega arith) (names-half m j .1 z))),
+    ))
+  where
+    later : T (not (odd m)) → ((j : ℕ) → j < i → Names (half m) j → ⊥) → (j : ℕ) → j < suc i → Names m j → ⊥
+    later t f zero l z = T-not (odd m) t (names-head m .0 z)
+    later t f (suc j) l z = f j (omega arith) (names-half m j .0 z)

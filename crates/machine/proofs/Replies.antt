@@ -7,10 +7,10 @@ use mathlib.Core.Path.{_≡_, refl, ap}
 use mathlib.Core.Bool.{Bool, true, false, not}
 use mathlib.Core.List.{List, [], _∷_, _++_, map}
 use native.Mathlib.Omega.{arith}
-use lib.Dec.{T, T-not, eqb, leb, ltb, eqb→eq, eqb-refl, ltb→lt, nleb→lt, nltb→le}
+use lib.Dec.{T, T-not, eqb, leb, ltb, eqb→eq, eqb-refl, nleb→lt, nltb→le}
 use lib.ListN.{length, length-map}
 use Rattle.machine.specs.Numbers.{quick, nowait, ABORTED, ADCMD·ALLOCATE, CHANNELSTOLEN}
-use Rattle.machine.specs.Lists.{if_then_else_, any, all, keep, among, distinct}
+use Rattle.machine.specs.Lists.{if_then_else_, keep, among, distinct}
 use Rattle.machine.specs.State.{Channel, Lock, Request, State, Reply, Answer, Outcome, Call, Op, OPEN, CLOSE, ABORT, EVENT, COMMAND, isFree}
 use Rattle.machine.specs.Maps.{odd, half, bit, lowest, meets, change, at}
 use Rattle.machine.specs.Choosing.{Look, fails, held, grants, look}
@@ -22,7 +22,7 @@ use Rattle.machine.specs.Sound.{sound, ids, writesOf}
 use Rattle.machine.specs.Kinds.{Kind, RESET, READ, WRITE, UPDATE, CLEAR, STOP, START, FLUSH, FREE, SETPREC, LOCK, ALLOCATE, UNKNOWN, kind}
 use Rattle.machine.specs.Refusals.{Refusal, accepted, refused, refusal, refuse}
 use Rattle.machine.specs.Call.{perform, settling, openSettling, accept, answering, call}
-use Rattle.machine.proofs.Tests.{if-elim, and-left, and-right, and-both, nor-left, nor-right, nor-both, by-test, test-true, test-false, eqb-false}
+use Rattle.machine.proofs.Tests.{if-elim, and-right, by-test, test-true, test-false}
 use Rattle.machine.proofs.Lists.{pigeon}
 use Rattle.machine.proofs.Counting.{count, count-nil, count-cons, count-append, count-map-append, count-keep, count-ins, count-one, count-other, count-absent, distinct-count, count-distinct, small-count, count-small}
 use Rattle.machine.proofs.Maps.{odd-bit, half-bit}
