@@ -38,15 +38,18 @@ channels-at q f g m [] u t = tt
 channels-at q f g m (c ∷ cs) u t =
     let h = and-left (soundChannel c) (all soundChannel cs) t in
     and-both (soundChannel (if odd m then f c else c)) (all soundChannel (change f (half m) cs))
-    (if-elim (λ (d : Channel). T (soundChannel d)) (odd m) (λ o. g c (or-named (odd m) (q c) (and-left (not (odd m) || q c) (named q (half m) cs) u) o) h) (λ _. h))
-    (channels-at q f g (half m) cs (and-right (not (odd m) || q c) (named q (half m) cs) u) (and-right (soundChannel c) (all soundChannel cs) t))
+    (if-elim (λ (d : Channel). T (soundChannel d)) (odd m)
+    (λ o. g c (or-named (odd m) (q c) (and-left (not (odd m) || q c) (named q (half m) cs) u) o) h) (λ _. h))
+    (channels-at q f g (half m) cs (and-right (not (odd m) || q c) (named q (half m) cs) u)
+    (and-right (soundChannel c) (all soundChannel cs) t))
 
 pub matching-named : (k m : ℕ) (cs : List Channel) → T (named (matches k) (matching k m cs) cs)
 unfolding named matching
 matching-named k m [] = tt
 matching-named k m (c ∷ cs) =
     rw (odd-bit (odd m && matches k c) (matching k (half m) cs), half-bit (odd m && matches k c) (matching k (half m) cs))
-    (and-both (not (odd m && matches k c) || matches k c) (named (matches k) (matching k (half m) cs) cs) (go (odd m) (matches k c)) (matching-named k (half m) cs))
+    (and-both (not (odd m && matches k c) || matches k c) (named (matches k) (matching k (half m) cs) cs)
+    (go (odd m) (matches k c)) (matching-named k (half m) cs))
   where
     go : (a b : Bool) → T (not (a && b) || b)
     go true true = tt
@@ -95,11 +98,14 @@ module _ (q : Channel → Bool) (alloc : (c : Channel) → T (q c) → T (not (i
       parts-sub s (withChannels (change f m (s .channels)) s) p (length-change f m (s .channels))
       (kept-channels m (s .channels) u (p .channelsOK))
       (kept-locks m (s .channels) (s .locks) (p .locksOK)) (sub-refl (s .waiting))
-      (sub-append (sub-append w (sub-refl (map (λ (l : Lock). l .id) (s .locks)))) (sub-refl (map (λ (r : Request). r .id) (s .waiting))))
+      (sub-append (sub-append w (sub-refl (map (λ (l : Lock). l .id) (s .locks))))
+      (sub-refl (map (λ (r : Request). r .id) (s .waiting))))
       (p .opensOK) (p .lastOK)
 
-each-sound : (n : ℕ) (f : Channel → Channel) (key : (c : Channel) → f c .key ≡ c .key) (lck : (c : Channel) → f c .locked ≡ c .locked)
-    (prec : (c : Channel) → T (leb (c .prec) 255) → T (leb (f c .prec) 255)) (w : (c : Channel) → Sub (f c .writes) (c .writes)) (drops : Bool) (c : Call) (s : State)
+each-sound : (n : ℕ) (f : Channel → Channel) (key : (c : Channel) → f c .key ≡ c .key)
+    (lck : (c : Channel) → f c .locked ≡ c .locked)
+    (prec : (c : Channel) → T (leb (c .prec) 255) → T (leb (f c .prec) 255))
+    (w : (c : Channel) → Sub (f c .writes) (c .writes)) (drops : Bool) (c : Call) (s : State)
     → Parts s → Parts (eachChange n f drops c s .next)
 unfolding eachChange each finished
 each-sound n f key lck prec w drops c s p =
@@ -130,7 +136,8 @@ put-sub ws m (c ∷ cs) h = go (odd m) h (put-sub ws (half m) cs)
     go true u ih = unfold at odd half in sub-append u (rw (change-zero (setWrites ws) cs) (sub-refl (writesOf cs)))
     go false u ih =
         unfold at in
-        (rw (odd-bit false x, half-bit false x) (sub-append (sub-refl (c .writes)) (ih (rw (odd-bit false x, half-bit false x) at u))))
+        (rw (odd-bit false x, half-bit false x) (sub-append (sub-refl (c .writes))
+        (ih (rw (odd-bit false x, half-bit false x) at u))))
 
 sub-back : (ws : List ℕ) → Sub (back ws) ws
 unfolding back
@@ -150,7 +157,8 @@ unfolding soundChannel playing
 playing-alloc c t v =
     not-T (isFree c)
     (λ f. T-not (eqb (length (c .writes)) 0) (and-right (not (c .stopped)) (not (eqb (length (c .writes)) 0)) v)
-    (and-right (eqb (c .prec) 128 && not (c .locked) && not (c .stopped)) (eqb (length (c .writes)) 0) (rw (test-true (isFree c) f) at t)))
+    (and-right (eqb (c .prec) 128 && not (c .locked) && not (c .stopped)) (eqb (length (c .writes)) 0)
+    (rw (test-true (isFree c) f) at t)))
 
 event-sound : (c : Call) (s : State) → Parts s → Parts (doEvent c s .next)
 unfolding doEvent silent
@@ -208,7 +216,8 @@ match-key : (k m : ℕ) (cs : List Channel) → T (named (matches k) m cs) → m
     → T (not (eqb k 0))
 match-key k m cs t h z =
     not-T (eqb k 0)
-    (λ e. T-not (eqb m 0) z (rw (named-none m cs (named-mono (matches k) (λ c. false) m cs (λ c v. unfold matches in T-not (eqb k 0) (and-left (not (eqb k 0)) (eqb (c .key) k) v) e) t) h) tt))
+    (λ e. T-not (eqb m 0) z (rw (named-none m cs (named-mono (matches k) (λ c. false) m cs
+    (λ c v. unfold matches in T-not (eqb k 0) (and-left (not (eqb k 0)) (eqb (c .key) k) v) e) t) h) tt))
 
 lock-named : (k m : ℕ) (cs : List Channel) → T (named (matches k) m cs)
     → T (named (λ c. c .locked && eqb (c .key) k) m (change setLock m cs))
@@ -249,7 +258,8 @@ put-ins i m (c ∷ cs) h = go (odd m) h (put-ins i (half m) cs)
     go : (b : Bool) → T (not (isFree (at (if b then 1 else bit false x) (c ∷ cs))))
         → (T (not (isFree (at x cs))) → Ins i (writesOf cs) (writesOf (change (setWrites (at x cs .writes ++ i ∷ [])) x cs)))
         → Ins i (c .writes ++ writesOf cs)
-        (writesOf (change (setWrites (at (if b then 1 else bit false x) (c ∷ cs) .writes ++ i ∷ [])) (if b then 1 else bit false x) (c ∷ cs)))
+        (writesOf (change (setWrites (at (if b then 1 else bit false x) (c ∷ cs) .writes ++ i ∷ []))
+        (if b then 1 else bit false x) (c ∷ cs)))
     go true u ih =
         unfold at odd half in
         (rw (change-zero (setWrites (c .writes ++ i ∷ [])) cs) (ins-right (writesOf cs) (ins-end (c .writes))))
@@ -262,7 +272,8 @@ unfolding enqueue all
 enqueue-all q r [] t u = and-both (q r) true t tt
 enqueue-all q r (w ∷ ws) t u =
     if-elim (λ (qs : List Request). T (all q qs)) (ltb (w .prec) (r .prec)) (λ _. and-both (q r) (q w && all q ws) t u)
-    (λ _. and-both (q w) (all q (enqueue r ws)) (and-left (q w) (all q ws) u) (enqueue-all q r ws t (and-right (q w) (all q ws) u)))
+    (λ _. and-both (q w) (all q (enqueue r ws)) (and-left (q w) (all q ws) u)
+    (enqueue-all q r ws t (and-right (q w) (all q ws) u)))
 
 all-mono : (q r : Request → Bool) → ((w : Request) → T (q w) → T (r w)) → (ws : List Request) → T (all q ws) → T (all r ws)
 unfolding all
@@ -280,7 +291,8 @@ enqueue-order r (w ∷ ws) t =
     (λ h. let lt = ltb→lt (w .prec) (r .prec) h in
     and-both (all (λ q. leb (q .prec) (r .prec)) (w ∷ ws)) (inOrder (w ∷ ws))
     (and-both (leb (w .prec) (r .prec)) (all (λ q. leb (q .prec) (r .prec)) ws) (le→leb (w .prec) (r .prec) (omega arith))
-    (all-mono (λ q. leb (q .prec) (w .prec)) (λ q. leb (q .prec) (r .prec)) (λ q v. let g = leb→le (q .prec) (w .prec) v in le→leb (q .prec) (r .prec) (omega arith)) ws below)) t)
+    (all-mono (λ q. leb (q .prec) (w .prec)) (λ q. leb (q .prec) (r .prec))
+    (λ q v. let g = leb→le (q .prec) (w .prec) v in le→leb (q .prec) (r .prec) (omega arith)) ws below)) t)
     (λ h. let ge = nltb→le (w .prec) (r .prec) h in
     and-both (all (λ q. leb (q .prec) (w .prec)) (enqueue r ws)) (inOrder (enqueue r ws))
     (enqueue-all (λ q. leb (q .prec) (w .prec)) r ws (le→leb (r .prec) (w .prec) ge) below) (enqueue-order r ws rest))
@@ -307,11 +319,13 @@ module _ (c : Call) (s : State) (p : Parts s) (small : T (ltb (c .id) 64)) (idle
       (λ v. let n = match-alloc (c .key) h v in
       let f = setWrites (h .writes ++ c .id ∷ []) in
       parts-ins (c .id) s (withChannels (change f m (s .channels)) s) p (length-change f m (s .channels))
-      (kept-channels (λ d. not (isFree d)) (λ d u. u) f (λ d. refl) (λ d. refl) (λ d u. u) m (s .channels) (low-named (λ d. not (isFree d)) (c .map) (s .channels) n) (p .channelsOK))
+      (kept-channels (λ d. not (isFree d)) (λ d u. u) f (λ d. refl) (λ d. refl) (λ d u. u) m (s .channels)
+      (low-named (λ d. not (isFree d)) (c .map) (s .channels) n) (p .channelsOK))
       (kept-locks (λ d. not (isFree d)) (λ d u. u) f (λ d. refl) (λ d. refl) (λ d u. u) m (s .channels) (s .locks) (p .locksOK))
       (requests-length (s .channels) (change f m (s .channels)) (length-change f m (s .channels)) (s .waiting) (p .waitingOK))
       (p .order)
-      (ins-right (map (λ (r : Request). r .id) (s .waiting)) (ins-right (map (λ (l : Lock). l .id) (s .locks)) (put-ins (c .id) (c .map) (s .channels) n)))
+      (ins-right (map (λ (r : Request). r .id) (s .waiting))
+      (ins-right (map (λ (l : Lock). l .id) (s .locks)) (put-ins (c .id) (c .map) (s .channels) n)))
       small idle refl refl)
       (λ _. p)
     where
@@ -325,7 +339,8 @@ module _ (c : Call) (s : State) (p : Parts s) (small : T (ltb (c .id) 64)) (idle
   unfolding doLock silent finished ids mismatch
   lock-sound b =
       if-elim (λ (o : Outcome). Parts (o .next)) (mismatch (c .key) (c .map) (s .channels)) (λ _. p)
-      (λ t. if-elim (λ (o : Outcome). Parts (o .next)) (eqb (c .map) 0) (λ _. p) (λ z. locks (nn (named (matches (c .key)) (c .map) (s .channels)) t) z))
+      (λ t. if-elim (λ (o : Outcome). Parts (o .next)) (eqb (c .map) 0) (λ _. p)
+      (λ z. locks (nn (named (matches (c .key)) (c .map) (s .channels)) t) z))
     where
       nn : (x : Bool) → T (not (not x)) → T x
       nn true w = tt
@@ -343,18 +358,22 @@ module _ (c : Call) (s : State) (p : Parts s) (small : T (ltb (c .id) 64)) (idle
       old : T (all (soundLock ds) (s .locks))
       old =
           locks-to (s .channels) ds e
-          (λ k u. named-keep setLock (λ d. d .locked && eqb (d .key) (k .key)) (λ d v. and-right (d .locked) (eqb (d .key) (k .key)) v) (k .map) (c .map) (s .channels) u) (s .locks) (p .locksOK)
+          (λ k u. named-keep setLock (λ d. d .locked && eqb (d .key) (k .key))
+          (λ d v. and-right (d .locked) (eqb (d .key) (k .key)) v) (k .map) (c .map) (s .channels) u) (s .locks) (p .locksOK)
 
       locks : T (named (matches (c .key)) (c .map) (s .channels)) → T (not (eqb (c .map) 0))
           → Parts (record { channels = ds; locks = s .locks ++ l ∷ []; waiting = s .waiting; opens = s .opens; last = s .last })
       locks o z =
           parts-ins (c .id) s _ p e
-          (channels-at (matches (c .key)) setLock (λ d u v. alloc-sound d (setLock d) (match-alloc (c .key) d u) refl (alloc-prec d (match-alloc (c .key) d u) v) v) (c .map) (s .channels) o (p .channelsOK))
+          (channels-at (matches (c .key)) setLock (λ d u v. alloc-sound d (setLock d) (match-alloc (c .key) d u) refl
+          (alloc-prec d (match-alloc (c .key) d u) v) v) (c .map) (s .channels) o (p .channelsOK))
           (all-append (soundLock ds) (s .locks) (l ∷ []) old
           (unfold all in and-both (soundLock ds l) true
-          (lock-from ds l z (rw e b) (match-key (c .key) (c .map) (s .channels) o (ltb→lt (c .map) (2 ^ length (s .channels)) b) z) (lock-named (c .key) (c .map) (s .channels) o)) tt))
+          (lock-from ds l z (rw e b) (match-key (c .key) (c .map) (s .channels) o
+          (ltb→lt (c .map) (2 ^ length (s .channels)) b) z) (lock-named (c .key) (c .map) (s .channels) o)) tt))
           (requests-length (s .channels) ds e (s .waiting) (p .waitingOK)) (p .order)
-          (rw (lock-writes (c .map) (s .channels)) (ins-right (map (λ (r : Request). r .id) (s .waiting)) (ins-left (writesOf (s .channels)) (lock-ids l (s .locks)))))
+          (rw (lock-writes (c .map) (s .channels)) (ins-right (map (λ (r : Request). r .id) (s .waiting))
+          (ins-left (writesOf (s .channels)) (lock-ids l (s .locks)))))
           small idle refl refl
 
   waits-sound : T (leb (c .prec) 255) → T (leb (c .key) 65535) → T (leb 1 (length (c .combos)))
@@ -364,7 +383,8 @@ module _ (c : Call) (s : State) (p : Parts s) (small : T (ltb (c .id) 64)) (idle
   waits-sound a b d e f =
       parts-ins (c .id) s _ p refl (p .channelsOK) (p .locksOK)
       (enqueue-all (soundRequest (s .channels)) r (s .waiting) ok (p .waitingOK)) (enqueue-order r (s .waiting) (p .order))
-      (ins-left (writesOf (s .channels) ++ map (λ (l : Lock). l .id) (s .locks)) (enqueue-ids r (s .waiting))) small idle refl refl
+      (ins-left (writesOf (s .channels) ++ map (λ (l : Lock). l .id) (s .locks)) (enqueue-ids r (s .waiting))) small idle refl
+      refl
     where
       r : Request
       r = record { id = c .id; key = c .key; prec = c .prec; impatient = nowait (c .flags); combos = c .combos }
@@ -380,7 +400,8 @@ module _ (c : Call) (s : State) (p : Parts s) (small : T (ltb (c .id) 64)) (idle
   -- what an ALLOCATE that was not refused waits with: a list that is not empty, for the empty one is granted
   allocate-sound : (l : Look) → Unlocked (s .channels) l → T (leb (c .prec) 255) → T (leb (c .key) 65535)
       → T (leb (length (c .combos)) 16) → T
-      (all (λ m. ltb m (2 ^ length (s .channels))) (c .combos)) → (Waits l → T (leb 1 (length (c .combos)))) → Parts (allocating l c s .next)
+      (all (λ m. ltb m (2 ^ length (s .channels))) (c .combos)) → (Waits l → T (leb 1 (length (c .combos)))) → Parts
+      (allocating l c s .next)
   unfolding allocating finished
   allocate-sound fails u a b e f w =
       if-elim (λ (o : Outcome). Parts (o .next)) (nowait (c .flags)) (λ _. p) (λ _. waits-sound a b (w tt) e f)
@@ -432,11 +453,13 @@ unfolding without
 without-sound i c t =
     by-test (isFree c)
     (λ f. unfold soundChannel in
-    (let u : T (eqb (c .prec) 128 && not (c .locked) && not (c .stopped) && eqb (length (c .writes)) 0) = rw (test-true (isFree c) f) at t in
+    (let u : T (eqb (c .prec) 128 && not (c .locked) && not (c .stopped) && eqb (length (c .writes)) 0) = rw (test-true
+    (isFree c) f) at t in
     rw (test-true (isFree c) f)
     (and-both (eqb (c .prec) 128 && not (c .locked) && not (c .stopped)) (eqb (length (keep (λ j. not (eqb i j)) (c .writes))) 0)
     (and-left (eqb (c .prec) 128 && not (c .locked) && not (c .stopped)) (eqb (length (c .writes)) 0) u)
-    (keep-empty (λ j. not (eqb i j)) (c .writes) (and-right (eqb (c .prec) 128 && not (c .locked) && not (c .stopped)) (eqb (length (c .writes)) 0) u)))))
+    (keep-empty (λ j. not (eqb i j)) (c .writes) (and-right (eqb (c .prec) 128 && not (c .locked) && not (c .stopped))
+    (eqb (length (c .writes)) 0) u)))))
     (λ n. alloc-sound c (setWrites (keep (λ j. not (eqb i j)) (c .writes)) c) n refl (alloc-prec c n t) t)
 
 without-channels : (i : ℕ) (cs : List Channel) → T (all soundChannel cs) → T (all soundChannel (map (without i) cs))
@@ -444,7 +467,8 @@ unfolding all
 without-channels i [] t = tt
 without-channels i (c ∷ cs) t =
     and-both (soundChannel (without i c)) (all soundChannel (map (without i) cs))
-    (without-sound i c (and-left (soundChannel c) (all soundChannel cs) t)) (without-channels i cs (and-right (soundChannel c) (all soundChannel cs) t))
+    (without-sound i c (and-left (soundChannel c) (all soundChannel cs) t))
+    (without-channels i cs (and-right (soundChannel c) (all soundChannel cs) t))
 
 without-named : (i k x : ℕ) (cs : List Channel)
     → named (λ c. c .locked && eqb (c .key) k) x (map (without i) cs) ≡ named (λ c. c .locked && eqb (c .key) k) x cs
@@ -466,7 +490,8 @@ abort-sound c s p =
     parts-sub s _ p e (without-channels (c .id) (s .channels) (p .channelsOK))
     (locks-to (s .channels) cs e (λ l u. rw (without-named (c .id) (l .key) (l .map) (s .channels)) u) (s .locks) (p .locksOK))
     (sub-keep (λ (r : Request). not (eqb (c .id) (r .id))) (s .waiting))
-    (sub-append (sub-append (without-writes (c .id) (s .channels)) (sub-refl (map (λ (l : Lock). l .id) (s .locks)))) (sub-map (λ (r : Request). r .id) (sub-keep (λ (r : Request). not (eqb (c .id) (r .id))) (s .waiting))))
+    (sub-append (sub-append (without-writes (c .id) (s .channels)) (sub-refl (map (λ (l : Lock). l .id) (s .locks))))
+    (sub-map (λ (r : Request). r .id) (sub-keep (λ (r : Request). not (eqb (c .id) (r .id))) (s .waiting))))
     (p .opensOK) (p .lastOK)
 
 -- ---- call
@@ -550,7 +575,8 @@ accept-sound EVENT c s p r e = settling-sound (doEvent c s) (event-sound c s p)
 accept-sound (COMMAND k) c s p r e =
     let n = first-none _ e in
     settling-sound (perform (kind k) c s)
-    (perform-sound (kind k) c s p r (id-small (c .id) (n .1 .1 .0)) (n .1 .1 .1 .0) (n .1 .1 .1 .1 .1 .1 .0) (n .1 .1 .1 .1 .1 .1 .1 .0))
+    (perform-sound (kind k) c s p r (id-small (c .id) (n .1 .1 .0)) (n .1 .1 .1 .0) (n .1 .1 .1 .1 .1 .1 .0)
+    (n .1 .1 .1 .1 .1 .1 .1 .0))
 
 pub call-sound : (s : State) (c : Call) → T (inRange c) → T (sound s) → T (sound (call s c .next))
 unfolding call answering

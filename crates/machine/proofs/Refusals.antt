@@ -191,7 +191,8 @@ pub refused-heard : (s : State) (c : Call) → T (among (call s c .answer .error
     → call s c .replies ≡ ownReply (c .op) c (call s c .answer .error)
 refused-heard s c =
     refused-with (λ (o : Outcome). o .replies ≡ ownReply (c .op) c (o .answer .error)) heard (unfold all among any in tt) s c
-    (λ e t. rw (refuse-error (c .op) e c s) (refuse-heard (c .op) e c s (among-all (λ x. not (leb x 5)) e heard (unfold all in tt) t)))
+    (λ e t. rw (refuse-error (c .op) e c s) (refuse-heard (c .op) e c s
+    (among-all (λ x. not (leb x 5)) e heard (unfold all in tt) t)))
 
 -- "A refused call answers map 0 .. and the key it was given."
 pub refused-answer : (s : State) (c : Call) → T (among (call s c .answer .error) refusals)

@@ -45,8 +45,11 @@ pub change-kept : (P : ℕ) (f : Channel → Channel) (m : ℕ) (cs : List Chann
     → Kept P cs (change f m cs)
 unfolding named change
 change-kept P f m [] t = tt
-change-kept P f m (c ∷ cs) t =
-    (head, change-kept P f (half m) cs (and-right (not (odd m) || not (strong P c)) (named (λ d. not (strong P d)) (half m) cs) t))
+change-kept P f m (c ∷ cs) t = (
+  head,
+  change-kept P f (half m) cs (and-right (not (odd m) || not (strong P c)) (named (λ d. not (strong P d)) (half m) cs)
+      t),
+)
   where
     weak : T (odd m) → T (not (strong P c))
     weak =
@@ -162,7 +165,11 @@ goOn-enough : (f : Found) (w : Walk) (s : State) (a b : State → Settled) → F
 unfolding goOn walked granted
 goOn-enough nobody w s a b h ih = refl
 goOn-enough (somebody r m) w s a b h ih =
-    ap (λ (t : Settled). record { state = t .state; replies = w .replies ++ abortedIn m (s .channels) ++ replied 0 m (keyFor (r .key) (walked w s)) r ∷ t .replies })
+    ap (λ (t : Settled). record {
+      state = t .state;
+      replies = w .replies ++ abortedIn m (s .channels) ++ replied 0 m
+          (keyFor (r .key) (walked w s)) r ∷ t .replies;
+    })
     (ih (granted m (r .key) (r .prec) (walked w s)) h)
 
 rounds-enough : (n k : ℕ) (s : State) → length (s .waiting) < n → length (s .waiting) < k → rounds n s ≡ rounds k s
@@ -219,7 +226,8 @@ onLook-stilled cs fails r rs ls rest e sub ih =
     if-elim (Stilled cs) (r .impatient) (λ _. ih ls) (λ t f. (rw e t, ih ls f))
 onLook-stilled cs (held m) r rs ls rest e sub ih =
     let k = keep (λ l. not (meets (length cs) m (l .map))) ls in λ f. (
-      rw e (sub-all (λ (l : Lock). not (meets (length cs) m (l .map))) (sub k) (keep-all (λ (l : Lock). not (meets (length cs) m (l .map))) ls)),
+      rw e (sub-all (λ (l : Lock). not (meets (length cs) m (l .map))) (sub k)
+          (keep-all (λ (l : Lock). not (meets (length cs) m (l .map))) ls)),
       ih k f,
     )
 onLook-stilled cs (grants m) r rs ls rest e sub ih = λ f. absurd (let z : _≡_ {A = ℕ} 0 1 = cc in omega arith)
