@@ -1,11 +1,16 @@
 pub mod Tests
 pub mod Lists
+pub mod Counting
 pub mod Maps
 pub mod Choosing
+pub mod Sound
 pub mod Granting
 pub mod Settling
 pub mod Refusals
-pub mod Sound
+pub mod Commands
+pub mod Allocating
+pub mod Resting
 pub mod Keeping
 pub mod KeepingSettle
 pub mod KeepingCalls
+pub mod Replies

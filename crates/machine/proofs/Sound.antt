@@ -1,4 +1,5 @@
--- Sound.
+-- Why a sound state can be used and made: its test is the conjunction of its parts. By the pigeonhole, at most 64 ids are
+-- outstanding, so at most 64 requests wait.
 -- Assumes nothing.
 use Prim.Native.Nat.{_+_, _≤_}
 use mathlib.Core.Bool.{_&&_}
@@ -58,13 +59,12 @@ parts s t =
       lastOK = and-right (a && b && c && d && e && f && g && h && i) j t;
     }
 
-pub waiting-few : (s : State) → Parts s → length (s .channels) + length (s .waiting) ≤ 72
+pub ids-few : (s : State) → Parts s → length (writesOf (s .channels)) + length (s .locks) + length (s .waiting) ≤ 64
 unfolding ids
-waiting-few s q =
-    let h = pigeon 64 (ids s) (q .apart) (q .small) in
-    let k = leb→le (length (s .channels)) 8 (q .most) in
-    let l : length (writesOf (s .channels)) + length (s .locks) + length (s .waiting) ≤ 64 = simp (length-append, length-map) at h in
-    omega arith
+ids-few s q = let h = pigeon 64 (ids s) (q .apart) (q .small) in simp (length-append, length-map) at h
+
+pub waiting-few : (s : State) → Parts s → length (s .channels) + length (s .waiting) ≤ 72
+waiting-few s q = let h = ids-few s q in let k = leb→le (length (s .channels)) 8 (q .most) in omega arith
 
 pub unparts : (s : State) → Parts s → T (sound s)
 unfolding sound

@@ -4,6 +4,7 @@ pub mod State
 pub mod Maps
 pub mod Choosing
 pub mod Granting
+pub mod Rule
 pub mod Commands
 pub mod Allocating
 pub mod Settling
@@ -14,4 +15,7 @@ pub mod Call
 pub mod Log
 pub mod Machine
 pub mod Text
+pub mod Marked
+pub mod Drawn
+pub mod Told
 pub mod Sample
