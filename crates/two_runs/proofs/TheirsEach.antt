@@ -1,25 +1,22 @@
--- UnwindTheirs.
+-- TheirsEach.
 -- Assumes nothing.
-use Prim.Native.Nat.{ℕ, _^_}
-use mathlib.Core.Path.{_≡_, refl, subst}
-use mathlib.Core.Bool.{Bool, true, false, not, _&&_, _||_}
-use mathlib.Core.List.{List, [], _∷_, map}
-use native.Mathlib.Omega.{arith}
-use lib.Dec.{T, eqb, ltb, eqb→eq}
-use lib.ListN.{length}
+use Prim.Native.Nat.{ℕ}
+use mathlib.Core.Path.{_≡_, refl}
+use mathlib.Core.Bool.{Bool, _&&_, _||_, false, not, true}
+use mathlib.Core.List.{List, [], _∷_}
+use lib.Dec.{T, eqb, eqb→eq}
 use Rattle.machine.specs.Numbers.{quick}
-use Rattle.machine.specs.Lists.{if_then_else_, all, keep}
-use Rattle.machine.specs.State.{Channel, Lock, State, Reply, Answer, Outcome, Call}
-use Rattle.machine.specs.Maps.{odd, half, named, change, at}
+use Rattle.machine.specs.Lists.{all, if_then_else_, keep}
+use Rattle.machine.specs.State.{Answer, Call, Channel, Outcome, Reply, State}
+use Rattle.machine.specs.Maps.{at, change, half, named, odd}
 use Rattle.machine.specs.Granting.{abortedIn}
-use Rattle.machine.specs.Commands.{matches, matching, finished, each, eachChange}
-use Rattle.machine.specs.Sound.{soundLock}
-use Rattle.machine.proofs.Tests.{if-elim, and-left, and-right, and-both, by-test, test-true, test-false}
-use Rattle.machine.proofs.Maps.{named-mono, length-change, odd-bit, half-bit}
-use Rattle.machine.proofs.Sound.{parts, waiting-few}
-use Rattle.two_runs.specs.TwoRuns.{Party, holds, project, ownReplies, fitting, fittingLock, Ready}
-use Rattle.two_runs.proofs.Unwind.{change-view, change-fit, own-append, abortedIn-quiet}
-use Rattle.two_runs.proofs.UnwindSettle.{Loop, lockFits, ownLock, ownLock-view, project-path, any-same}
+use Rattle.machine.specs.Commands.{each, eachChange, finished, matches, matching}
+use Rattle.machine.proofs.Tests.{and-both, and-right, if-elim, test-false}
+use Rattle.machine.proofs.Maps.{half-bit, length-change, odd-bit}
+use Rattle.two_runs.specs.TwoRuns.{Party, holds, ownReplies}
+use Rattle.two_runs.proofs.Part.{fitting, project}
+use Rattle.two_runs.proofs.Away.{abortedIn-quiet, change-fit, change-view, own-append}
+use Rattle.two_runs.proofs.Settle.{Loop, any-same, ownLock-view, project-path}
 
 -- the channels that match another key are not the party's
 pub match-away : (p : Party) (k : ℕ) (c : Channel) → T (not (eqb k (p .key))) → T (matches k c) → T (not (holds p c))
@@ -90,56 +87,7 @@ module _ (p : Party) (f : Channel → Channel) (key : (c : Channel) → f c .key
         loop = unfold finished in change-loop m s off lp;
       }
 
--- the settling invariant of a state from which a run may start
-ready-lock : (p : Party) (cs : List Channel) (l : Lock) → T (fittingLock p l) → T (soundLock cs l) → T (ownLock p cs l)
-unfolding fittingLock soundLock ownLock lockFits
-ready-lock p cs l f t =
-    by-test (eqb (l .key) (p .key))
-    (λ u. rw (test-true (eqb (l .key) (p .key)) u)
-    (and-both (p .mine (l .id)) (named (holds p) (l .map) cs && (ltb (l .map) (2 ^ length cs) && not (eqb (l .map) 0)))
-    (rw (test-true (eqb (l .key) (p .key)) u) at f)
-    (and-both (named (holds p) (l .map) cs) (ltb (l .map) (2 ^ length cs) && not (eqb (l .map) 0))
-    (named-mono own (holds p) (l .map) cs (λ c v. subst (λ (k : ℕ). T (eqb (c .key) k)) (eqb→eq (l .key) (p .key) u) (and-right (c .locked) (eqb (c .key) (l .key)) v)) t3)
-    (and-both (ltb (l .map) (2 ^ length cs)) (not (eqb (l .map) 0)) t5 t4))))
-    (λ u. rw (test-false (eqb (l .key) (p .key)) u) (rw (test-false (eqb (l .key) (p .key)) u) at f))
-  where
-    own : Channel → Bool
-    own c = c .locked && eqb (c .key) (l .key)
-
-    a : Bool
-    a = not (eqb (l .map) 0)
-
-    b : Bool
-    b = ltb (l .map) (2 ^ length cs)
-
-    d : Bool
-    d = not (eqb (l .key) 0)
-
-    t3 : T (named own (l .map) cs)
-    t3 = and-right (a && b && d) (named own (l .map) cs) t
-
-    t4 : T a
-    t4 = and-left a b (and-left (a && b) d (and-left (a && b && d) (named own (l .map) cs) t))
-
-    t5 : T b
-    t5 = and-right a b (and-left (a && b) d (and-left (a && b && d) (named own (l .map) cs) t))
-
-ready-locks : (p : Party) (cs : List Channel) (ls : List Lock) → T (all (fittingLock p) ls) → T (all (soundLock cs) ls) → T (all (ownLock p cs) ls)
-unfolding all
-ready-locks p cs [] f t = tt
-ready-locks p cs (l ∷ ls) f t =
-    and-both (ownLock p cs l) (all (ownLock p cs) ls)
-    (ready-lock p cs l (and-left (fittingLock p l) (all (fittingLock p) ls) f) (and-left (soundLock cs l) (all (soundLock cs) ls) t))
-    (ready-locks p cs ls (and-right (fittingLock p l) (all (fittingLock p) ls) f) (and-right (soundLock cs l) (all (soundLock cs) ls) t))
-
-pub ready-loop : (p : Party) (n : ℕ) (s : State) → Ready p n s → Loop p s
-ready-loop p n s r =
-    let q = parts s (r .sane) in
-    record {
-      real = r .real;
-      present = r .present;
-      fit = r .fit;
-      locksOK = ready-locks p (s .channels) (s .locks) (r .fitLocks) (q .locksOK);
-      low = r .low;
-      few = omega (arith, waiting-few s q);
-    }
+-- finished with nothing done
+pub finished-mild : (p : Party) (c : Call) (s : State) → T (not (p .mine (c .id))) → Loop p s → (n : ℕ) (a : Answer) → Mild p s (finished n c a [] s)
+unfolding finished
+finished-mild p c s u lp n a = record { quiet = finished-quiet p n c a [] s u (unfold ownReplies keep in refl); still = refl; loop = lp }

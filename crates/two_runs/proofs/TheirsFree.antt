@@ -1,22 +1,23 @@
--- UnwindFree.
+-- TheirsFree.
 -- Assumes nothing.
-use Prim.Native.Nat.{ℕ, _^_}
-use mathlib.Core.Path.{_≡_, refl, ap, subst}
-use mathlib.Core.Bool.{Bool, true, false, not, _&&_, _||_}
+use Prim.Native.Nat.{_^_, ℕ}
+use mathlib.Core.Path.{_∙_, _≡_, ap, refl}
+use mathlib.Core.Bool.{Bool, _&&_, _||_, false, not, true}
 use mathlib.Core.List.{List, [], _∷_, map}
-use lib.Dec.{T, T-not, not-T, eqb, ltb, eqb→eq, ltb→lt}
+use lib.Dec.{T, eqb, ltb, ltb→lt}
 use lib.ListN.{length}
-use Rattle.machine.specs.Lists.{if_then_else_, all, keep}
-use Rattle.machine.specs.State.{Channel, Lock, State, free}
-use Rattle.machine.specs.Maps.{minus, named, change}
+use Rattle.machine.specs.Lists.{all, keep}
+use Rattle.machine.specs.State.{Call, Channel, Lock, State, free}
+use Rattle.machine.specs.Maps.{at, change, minus, named}
 use Rattle.machine.specs.Granting.{abortedIn}
-use Rattle.machine.specs.Commands.{matches, freed, cleared, isEmpty, ended, freeing, freeingReplies, owned}
-use Rattle.machine.proofs.Tests.{if-elim, and-left, and-right, and-both, by-test, test-true, test-false}
-use Rattle.machine.proofs.Maps.{apart-meets, length-change, odd-bit, half-bit, minus-apart}
-use Rattle.two_runs.specs.TwoRuns.{Party, holds, mask, ownLocks, project, ownReplies, fitting}
-use Rattle.two_runs.proofs.Unwind.{change-view, change-fit, own-append, abortedIn-quiet}
-use Rattle.two_runs.proofs.UnwindSettle.{Loop, lockFits, ownLock, ownLock-view, project-path, any-same}
-use Rattle.two_runs.proofs.UnwindTheirs.{match-away}
+use Rattle.machine.specs.Commands.{cleared, doClose, doFree, each, ended, finished, freed, freeing, freeingReplies, isEmpty, matches, matching, owned, silent}
+use Rattle.machine.proofs.Tests.{and-both, and-left, and-right, by-test, if-elim, test-false, test-true}
+use Rattle.machine.proofs.Maps.{apart-meets, half-bit, length-change, minus-apart, odd-bit}
+use Rattle.two_runs.specs.TwoRuns.{Party, holds, mask, ownReplies}
+use Rattle.two_runs.proofs.Part.{fitting, ownLocks, project}
+use Rattle.two_runs.proofs.Away.{abortedIn-quiet, change-fit, change-view, free-away, own-append}
+use Rattle.two_runs.proofs.Settle.{Loop, any-same, lockFits, ownLock, ownLock-view, project-path}
+use Rattle.two_runs.proofs.TheirsEach.{Mild, finished-quiet, match-away, matching-away}
 
 module _ (p : Party) (f : ℕ) (cs : List Channel) (off : T (named (λ c. not (holds p c)) f cs)) where
   own-minus : (l : Lock) → T (lockFits p cs l) → minus (length cs) (l .map) f ≡ l .map
@@ -84,10 +85,6 @@ module _ (p : Party) (f : ℕ) (cs : List Channel) (off : T (named (λ c. not (h
           (λ _. and-both (ownLock p cs (record { id = l .id; key = l .key; map = minus (length cs) (l .map) f })) _ (unfold ownLock in rw (a, b) tt) ih)
           (λ _. ih)
 
--- no free channel is the party's
-pub free-away : (p : Party) → T (not (eqb (p .key) 0)) → T (not (holds p free))
-free-away p k = not-T (eqb 0 (p .key)) (λ u. T-not (eqb (p .key) 0) k (subst (λ (x : ℕ). T (eqb x 0)) (eqb→eq 0 (p .key) u) tt))
-
 module _ (p : Party) (f : ℕ) (s : State) (lp : Loop p s) (off : T (named (λ c. not (holds p c)) f (s .channels))) where
   freeing-view : map (mask p) (change freed f (s .channels)) ≡ map (mask p) (s .channels)
   freeing-view = change-view p freed (λ c _. free-away p (lp .real)) f (s .channels) off
@@ -124,3 +121,27 @@ owned-away p k (c ∷ cs) t =
     go : (b : Bool) → (T b → T (not (holds p c))) → T (not b || not (holds p c))
     go true g = g tt
     go false g = tt
+
+pub close-mild : (p : Party) (c : Call) (s : State) → Loop p s → T (not (eqb (c .key) (p .key))) → Mild p s (doClose c s)
+unfolding doClose silent
+close-mild p c s lp t =
+    let m = owned (c .key) (s .channels) in
+    let off = owned-away p (c .key) (s .channels) t in
+    let l = freeing-loop p m s lp off in
+    record {
+      quiet = freeing-quiet p m s lp off;
+      still = project-path p _ (freeing m s) refl refl ∙ freeing-still p m s lp off;
+      loop = record { real = l .real; present = l .present; fit = l .fit; locksOK = l .locksOK; low = l .low; few = l .few };
+    }
+
+module _ (p : Party) (c : Call) (s : State) (t : T (not (eqb (c .key) (p .key)))) (u : T (not (p .mine (c .id)))) (lp : Loop p s) where
+  pub free-mild : Mild p s (doFree c s)
+  unfolding doFree each
+  free-mild =
+      let m = matching (c .key) (c .map) (s .channels) in
+      let off = matching-away p (c .key) (c .map) (s .channels) t in
+      record {
+        quiet = finished-quiet p 9 c _ (freeingReplies m s) _ u (freeing-quiet p m s lp off);
+        still = unfold finished in freeing-still p m s lp off;
+        loop = unfold finished in freeing-loop p m s lp off;
+      }

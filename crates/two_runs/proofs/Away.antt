@@ -1,21 +1,22 @@
--- Unwind.
+-- Away.
 -- Assumes nothing.
-use Prim.Native.Nat.{ℕ, zero, suc, _+_, _<_}
-use mathlib.Core.Path.{_≡_, refl, ap₂, subst}
-use mathlib.Core.Bool.{Bool, true, false, not, _&&_, _||_}
-use mathlib.Core.List.{List, [], _∷_, _++_, map}
-use lib.Dec.{T, T-not, not-T, eqb, leb, eqb→eq}
+use Prim.Native.Nat.{_+_, _<_, suc, zero, ℕ}
+use mathlib.Core.Path.{_≡_, ap₂, refl, subst}
+use mathlib.Core.Bool.{Bool, _&&_, _||_, false, not, true}
+use mathlib.Core.List.{List, [], _++_, _∷_, map}
+use lib.Dec.{T, T-not, eqb, eqb→eq, leb, not-T}
 use lib.ListN.{length, length-append, length-map}
-use Rattle.machine.specs.Lists.{if_then_else_, any, all, keep}
-use Rattle.machine.specs.State.{Channel, State, Reply, isFree}
-use Rattle.machine.specs.Maps.{odd, half, named, change}
-use Rattle.machine.specs.Granting.{aborted, abortedIn, inUse, newKey, keyFor}
-use Rattle.machine.proofs.Tests.{if-elim, and-left, and-right, and-both, or-named, by-test, test-true, test-false}
-use Rattle.machine.proofs.Lists.{keep-append}
-use Rattle.machine.proofs.Maps.{named-with}
+use Rattle.machine.specs.Lists.{all, any, if_then_else_, keep}
+use Rattle.machine.specs.State.{Channel, Reply, State, free, isFree}
+use Rattle.machine.specs.Maps.{at, change, half, named, odd}
+use Rattle.machine.specs.Granting.{aborted, abortedIn, inUse, keyFor, newKey}
+use Rattle.machine.proofs.Tests.{and-both, and-left, and-right, by-test, if-elim, or-named, test-false, test-true}
 use Rattle.machine.proofs.Choosing.{strong}
 use Rattle.machine.proofs.Granting.{newKey-not}
-use Rattle.two_runs.specs.TwoRuns.{Party, holds, mask, ownReplies, fitting}
+use Rattle.machine.proofs.Lists.{keep-append}
+use Rattle.machine.proofs.Maps.{named-with}
+use Rattle.two_runs.specs.TwoRuns.{Party, holds, mask, ownReplies}
+use Rattle.two_runs.proofs.Part.{fitting}
 
 -- the party's channels are strong
 fits-strong : (p : Party) (c : Channel) → T (not (eqb (p .key) 0)) → T (not (strong (p .floor) c)) → T (fitting p c) → T (not (holds p c))
@@ -119,3 +120,14 @@ keyFor-not p s zero l h t =
     not-T (eqb (newKey s) (p .key))
     (λ u. newKey-not s (p .key) (simp (length-append, length-map) l) h (eqb→eq (newKey s) (p .key) u))
 keyFor-not p s (suc k) l h t = t
+
+-- no free channel is the party's
+pub free-away : (p : Party) → T (not (eqb (p .key) 0)) → T (not (holds p free))
+free-away p k = not-T (eqb 0 (p .key)) (λ u. T-not (eqb (p .key) 0) k (subst (λ (x : ℕ). T (eqb x 0)) (eqb→eq 0 (p .key) u) tt))
+
+pub at-fit : (p : Party) (m : ℕ) (cs : List Channel) → T (not (eqb (p .key) 0)) → T (all (fitting p) cs) → T (fitting p (at m cs))
+unfolding at all
+at-fit p m [] k t = unfold fitting all in rw (test-false (holds p free) (free-away p k)) tt
+at-fit p m (c ∷ cs) k t =
+    if-elim (λ (d : Channel). T (fitting p d)) (odd m) (λ _. and-left (fitting p c) (all (fitting p) cs) t)
+    (λ _. at-fit p (half m) cs k (and-right (fitting p c) (all (fitting p) cs) t))
