@@ -16,3 +16,6 @@ pub mod OursSound
 pub mod OursCall
 pub mod Begin
 pub mod TwoRuns
+pub mod Premises
+pub mod Witness
+pub mod Needed
