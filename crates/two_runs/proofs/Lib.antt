@@ -19,3 +19,4 @@ pub mod TwoRuns
 pub mod Premises
 pub mod Witness
 pub mod Needed
+pub mod Logs

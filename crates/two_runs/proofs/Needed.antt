@@ -19,7 +19,7 @@ use Rattle.machine.specs.Commands.{setPrec}
 use Rattle.machine.specs.Machine.{machine}
 use Rattle.machine.proofs.Tests.{and-both}
 use Rattle.two_runs.specs.TwoRuns.{Party, Seen, Step, answered, claim, our, own, owning, received, seen, their}
-use Rattle.two_runs.proofs.Premises.{Premise, atPOrLess, bytes, channelsAtP, deviceOpen, keepsBut, listFull, noLowerPrecedence, notClosedMore, notSent, onAChannel, othersIdle, outstandingOwned, premises, startsBut, unused, waitingAtP, waitingWithoutK, withKAndId}
+use Rattle.two_runs.proofs.Premises.{Premise, atPOrLess, bytes, channelsAtP, deviceOpen, listFull, noLowerPrecedence, notClosedMore, notSent, onAChannel, othersIdle, outstandingOwned, premises, runsBut, startsBut, unused, waitingAtP, waitingWithoutK, withKAndId}
 use Rattle.two_runs.proofs.Witness.{ask}
 
 -- ---- what is seen, as numbers
@@ -67,8 +67,8 @@ pub record Needs (x : Premise) : Type 0 where
   pub one : List Step
   pub two : List Step
   pub begins : T (startsBut x party start)
-  pub one-keeps : T (keepsBut x party 0 start one)
-  pub two-keeps : T (keepsBut x party 0 start two)
+  pub one-keeps : T (runsBut x party start one)
+  pub two-keeps : T (runsBut x party start two)
   pub same-calls : own one ≡ own two
   pub unlike : T (not (equal (numbers (seen party start one)) (numbers (seen party start two))))
 

@@ -5,7 +5,7 @@
 --   Premise            the premises that can be left out; `nothing` leaves out none
 --   is x y             x is the premise y
 --   startsBut x p s    all that `Start` asks, but for x
---   keepsBut x p n s xs   all that `Keeps` asks, but for x
+--   keepsBut x p n s xs, runsBut x p s xs   all that `Keeps` and `Run` ask, but for x
 use Prim.Native.Nat.{ℕ}
 use mathlib.Core.Bool.{Bool, _&&_, _||_, not, true}
 use mathlib.Core.List.{List, [], _∷_}
@@ -16,7 +16,7 @@ use Rattle.machine.specs.Call.{call, inRange}
 use Rattle.machine.specs.Log.{opened}
 use Rattle.machine.specs.Sound.{sound}
 use Rattle.machine.proofs.Tests.{and-left, and-right}
-use Rattle.two_runs.specs.TwoRuns.{ByK, ByOthers, Keeps, Party, Start, Step, atLeast, atMost, avoids, balance, carries, elsewhere, holds, isOpen, keepsFloor, lends, mayClose, maySend, modest, ofK, our, their, under}
+use Rattle.two_runs.specs.TwoRuns.{ByK, ByOthers, Keeps, Party, Run, Start, Step, atLeast, atMost, avoids, balance, calls, carries, elsewhere, holds, isOpen, keepsFloor, lends, mayClose, maySend, modest, ofK, our, their, under}
 
 pub data Premise : Type 0 where
   nothing deviceOpen onAChannel channelsAtP waitingAtP waitingWithoutK outstandingOwned othersIdle : Premise
@@ -58,21 +58,24 @@ unfoldable pub byKBut : Premise → Party → State → Call → Bool
 byKBut x p s c =
     (is x withKAndId || ofK p (c .op) c s)
     && ((is x notSent || maySend (c .op))
-    && ((is x noLowerPrecedence || keepsFloor p (c .op) c s) && ((is x listFull || lends c) && (is x bytes || inRange c))))
+    && (is x noLowerPrecedence || keepsFloor p (c .op) c s))
 
 unfoldable pub byOthersBut : Premise → Party → ℕ → State → Call → Bool
 byOthersBut x p n s c =
     (is x unused || avoids p (c .op) c s)
     && ((is x atPOrLess || modest p (c .op) c)
-    && ((is x notClosedMore || mayClose n (c .op)) && ((is x listFull || lends c) && (is x bytes || inRange c))))
+    && (is x notClosedMore || mayClose n (c .op)))
 
 unfoldable pub keepsBut : Premise → Party → ℕ → State → List Step → Bool
 keepsBut x p n s [] = true
 keepsBut x p n s (our c ∷ xs) = byKBut x p s c && keepsBut x p n (call s c .next) xs
 keepsBut x p n s (their c ∷ xs) = byOthersBut x p n s c && keepsBut x p (balance (c .op) (call s c .answer) n) (call s c .next) xs
 
+unfoldable pub runsBut : Premise → Party → State → List Step → Bool
+runsBut x p s xs = keepsBut x p 0 s xs && ((is x listFull || all lends (calls xs)) && (is x bytes || all inRange (calls xs)))
+
 unfoldable pub premises : Unit {0}
-unfolding number is startsBut byKBut byOthersBut keepsBut
+unfolding number is startsBut byKBut byOthersBut keepsBut runsBut
 premises = tt
 
 -- ---- with nothing left out
@@ -103,31 +106,23 @@ byK-all : (p : Party) (s : State) (c : Call) → T (byKBut nothing p s c) → By
 unfolding byKBut is number
 byK-all p s c t =
     let t1 = and-right (ofK p (c .op) c s) _ t in
-    let t2 = and-right (maySend (c .op)) _ t1 in
-    let t3 = and-right (keepsFloor p (c .op) c s) _ t2 in
     record {
       party = and-left (ofK p (c .op) c s) _ t;
-      sends = and-left (maySend (c .op)) _ t1;
-      high = and-left (keepsFloor p (c .op) c s) _ t2;
-      full = and-left (lends c) (inRange c) t3;
-      fits = and-right (lends c) (inRange c) t3;
+      sends = and-left (maySend (c .op)) (keepsFloor p (c .op) c s) t1;
+      high = and-right (maySend (c .op)) (keepsFloor p (c .op) c s) t1;
     }
 
 byOthers-all : (p : Party) (n : ℕ) (s : State) (c : Call) → T (byOthersBut nothing p n s c) → ByOthers p n s c
 unfolding byOthersBut is number
 byOthers-all p n s c t =
     let t1 = and-right (avoids p (c .op) c s) _ t in
-    let t2 = and-right (modest p (c .op) c) _ t1 in
-    let t3 = and-right (mayClose n (c .op)) _ t2 in
     record {
       apart = and-left (avoids p (c .op) c s) _ t;
-      low = and-left (modest p (c .op) c) _ t1;
-      closes = and-left (mayClose n (c .op)) _ t2;
-      full = and-left (lends c) (inRange c) t3;
-      fits = and-right (lends c) (inRange c) t3;
+      low = and-left (modest p (c .op) c) (mayClose n (c .op)) t1;
+      closes = and-right (modest p (c .op) c) (mayClose n (c .op)) t1;
     }
 
-pub keeps-all : (p : Party) (n : ℕ) (s : State) (xs : List Step) → T (keepsBut nothing p n s xs) → Keeps p n s xs
+keeps-all : (p : Party) (n : ℕ) (s : State) (xs : List Step) → T (keepsBut nothing p n s xs) → Keeps p n s xs
 unfolding keepsBut
 keeps-all p n s [] t = tt
 keeps-all p n s (our c ∷ xs) t =
@@ -136,3 +131,13 @@ keeps-all p n s (their c ∷ xs) t = (
   byOthers-all p n s c (and-left (byOthersBut nothing p n s c) _ t),
   keeps-all p (balance (c .op) (call s c .answer) n) (call s c .next) xs (and-right (byOthersBut nothing p n s c) _ t),
 )
+
+pub runs-all : (p : Party) (s : State) (xs : List Step) → T (runsBut nothing p s xs) → Run p s xs
+unfolding runsBut is number
+runs-all p s xs t =
+    let u = and-right (keepsBut nothing p 0 s xs) _ t in
+    record {
+      keeps = keeps-all p 0 s xs (and-left (keepsBut nothing p 0 s xs) _ t);
+      full = and-left (all lends (calls xs)) (all inRange (calls xs)) u;
+      fits = and-right (all lends (calls xs)) (all inRange (calls xs)) u;
+    }

@@ -12,9 +12,9 @@ use lib.ListN.{length}
 use Rattle.machine.specs.State.{ABORT, CLOSE, COMMAND, Call, EVENT, OPEN, Op, State, free}
 use Rattle.machine.specs.Call.{call}
 use Rattle.machine.specs.Machine.{machine}
-use Rattle.two_runs.specs.TwoRuns.{Keeps, Party, Start, Step, claim, our, own, seen, their}
+use Rattle.two_runs.specs.TwoRuns.{Party, Run, Start, Step, claim, our, own, seen, their}
 use Rattle.two_runs.proofs.TwoRuns.{K-sees-the-same}
-use Rattle.two_runs.proofs.Premises.{keeps-all, premises, starts-all}
+use Rattle.two_runs.proofs.Premises.{premises, runs-all, starts-all}
 
 -- ---- the party and the state
 
@@ -80,11 +80,11 @@ busy-run =
 ready : Start party start
 ready = starts-all party start (unfold machine claim premises in tt)
 
-quiet-keeps : Keeps party 0 start quiet-run
-quiet-keeps = keeps-all party 0 start quiet-run (unfold machine claim premises in tt)
+quiet-keeps : Run party start quiet-run
+quiet-keeps = runs-all party start quiet-run (unfold machine claim premises in tt)
 
-busy-keeps : Keeps party 0 start busy-run
-busy-keeps = keeps-all party 0 start busy-run (unfold machine claim premises in tt)
+busy-keeps : Run party start busy-run
+busy-keeps = runs-all party start busy-run (unfold machine claim premises in tt)
 
 same-calls : own quiet-run ≡ own busy-run
 unfolding claim

@@ -25,10 +25,11 @@
 --   modest p o c         an OPEN or ALLOCATE is at P or less
 --   mayClose n o         a CLOSE finds an opening of the others that they have not closed, of the n there are
 --   balance o a n        the number n of such openings after a call of theirs, by its answer
---   lends c              the call lends a full reply list
 --   ByK, ByOthers        what is asked of a call of either kind
---   Keeps p n s xs       a run keeps to all of it, with n such openings at its begin
---   frame c, own xs      all the numbers of a call but the length of the list it lends; those of the K party's calls, in order
+--   Keeps p n s xs       each call of a run is so, with n such openings at its begin
+--   calls xs, lends c    all the calls of a run; a call lends a full reply list
+--   Run p s xs           all that the demand asks of a run
+--   said c, own xs       all the numbers of a call but the length of the list it lends; those of the K party's calls, in order
 -- What the K party sees
 --   mask p c             a channel as the K party sees it: itself if it has K, else as a free one
 --   view p s             all channels so, each at its place
@@ -179,9 +180,6 @@ balance (COMMAND k) a n = n
 
 -- ---- the runs
 
-unfoldable pub lends : Call → Bool
-lends c = leb REQUESTS (c .room)
-
 pub record ByK (p : Party) (s : State) (c : Call) : Type 0 where
   -- "the same K calls, each with K and one of those ids, and the same write-end events on K's channels"
   pub party : T (ofK p (c .op) c s)
@@ -189,10 +187,6 @@ pub record ByK (p : Party) (s : State) (c : Call) : Type 0 where
   pub sends : T (maySend (c .op))
   -- "and sets no precedence below P"
   pub high : T (keepsFloor p (c .op) c s)
-  -- "every call lends a full reply list"
-  pub full : T (lends c)
-  -- a frame's precedence is one byte and its key two
-  pub fits : T (inRange c)
 
 pub record ByOthers (p : Party) (n : ℕ) (s : State) (c : Call) : Type 0 where
   -- "the others never use K or those ids"; their events are those on other channels
@@ -201,19 +195,32 @@ pub record ByOthers (p : Party) (n : ℕ) (s : State) (c : Call) : Type 0 where
   pub low : T (modest p (c .op) c)
   -- "and have at no moment closed more often than they have successfully opened"
   pub closes : T (mayClose n (c .op))
-  -- "every call lends a full reply list"
-  pub full : T (lends c)
-  -- a frame's precedence is one byte and its key two
-  pub fits : T (inRange c)
 
 abbrev pub Keeps : Party → ℕ → State → List Step → Type 0
 Keeps p n s [] = Unit {0}
 Keeps p n s (our c ∷ xs) = ByK p s c × Keeps p n (call s c .next) xs
 Keeps p n s (their c ∷ xs) = ByOthers p n s c × Keeps p (balance (c .op) (call s c .answer) n) (call s c .next) xs
 
+-- all the calls of a run
+unfoldable pub calls : List Step → List Call
+calls [] = []
+calls (our c ∷ xs) = c ∷ calls xs
+calls (their c ∷ xs) = c ∷ calls xs
+
+unfoldable pub lends : Call → Bool
+lends c = leb REQUESTS (c .room)
+
+pub record Run (p : Party) (s : State) (xs : List Step) : Type 0 where
+  -- each call is as above; the others have neither opened nor closed yet
+  pub keeps : Keeps p 0 s xs
+  -- "and if every call lends a full reply list"
+  pub full : T (all lends (calls xs))
+  -- a call's precedence is one byte and its key two
+  pub fits : T (all inRange (calls xs))
+
 -- "the same K calls .. all in the same order": the reply list is lent beside the call, so its length may differ
-unfoldable pub frame : Call → Call
-frame c =
+unfoldable pub said : Call → Call
+said c =
     record {
       op = c .op;
       id = c .id;
@@ -227,7 +234,7 @@ frame c =
 
 unfoldable pub own : List Step → List Call
 own [] = []
-own (our c ∷ xs) = frame c ∷ own xs
+own (our c ∷ xs) = said c ∷ own xs
 own (their c ∷ xs) = own xs
 
 -- ---- what the K party sees
@@ -248,15 +255,15 @@ pub data Seen : Type 0 where
   received : Reply → Seen
   owning : List Channel → Seen
 
--- each call of its own and each event on its channels shows the answer, then the replies to its ids, then its channels; a
+-- each call of its own and each event on its channels shows the replies to its ids, then the answer, then its channels; a
 -- call of the others shows the replies to its ids; the end shows its channels
 unfoldable pub seen : Party → State → List Step → List Seen
 seen p s [] = owning (view p s) ∷ []
 seen p s (our c ∷ xs) =
     let o = call s c in
-    answered (o .answer) ∷ map received (ownReplies p (o .replies)) ++ owning (view p (o .next)) ∷ seen p (o .next) xs
+    map received (ownReplies p (o .replies)) ++ answered (o .answer) ∷ owning (view p (o .next)) ∷ seen p (o .next) xs
 seen p s (their c ∷ xs) = let o = call s c in map received (ownReplies p (o .replies)) ++ seen p (o .next) xs
 
 unfoldable pub claim : Unit {0}
-unfolding isOpen atLeast atMost carries under elsewhere onK ofK maySend selected sets keepsFloor avoids modest mayClose balance lends frame own mask view ownReplies seen
+unfolding isOpen atLeast atMost carries under elsewhere onK ofK maySend selected sets keepsFloor avoids modest mayClose balance calls lends said own mask view ownReplies seen
 claim = tt
