@@ -20,3 +20,4 @@ pub mod Premises
 pub mod Witness
 pub mod Needed
 pub mod Logs
+pub mod LogWitness

@@ -19,7 +19,7 @@ use Rattle.machine.specs.Commands.{setPrec}
 use Rattle.machine.specs.Machine.{machine}
 use Rattle.machine.proofs.Tests.{and-both}
 use Rattle.two_runs.specs.TwoRuns.{Party, Seen, Step, answered, claim, our, own, owning, received, seen, their}
-use Rattle.two_runs.proofs.Premises.{Premise, atPOrLess, bytes, channelsAtP, deviceOpen, listFull, noLowerPrecedence, notClosedMore, notSent, onAChannel, othersIdle, outstandingOwned, premises, runsBut, startsBut, unused, waitingAtP, waitingWithoutK, withKAndId}
+use Rattle.two_runs.proofs.Premises.{Premise, atPOrLess, channelsAtP, deviceOpen, fitBytes, listFull, noLowerPrecedence, notClosedMore, notSent, onAChannel, othersIdle, outstandingOwned, premises, runsBut, startsBut, unused, waitingAtP, waitingWithoutK, withKAndId}
 use Rattle.two_runs.proofs.Witness.{ask}
 
 -- ---- what is seen, as numbers
@@ -506,7 +506,7 @@ full-list-needed =
 
 -- A precedence is one byte and a key two: in one run somebody allocates for the key 70,000, the state is no longer
 -- sound and K is refused with 1.
-pub bytes-needed : Needs bytes
+pub bytes-needed : Needs fitBytes
 unfolding machine claim premises seeing
 bytes-needed =
     record {

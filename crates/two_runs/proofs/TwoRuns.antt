@@ -6,7 +6,7 @@
 use Prim.Native.Nat.{_≤_, suc, ℕ}
 use mathlib.Core.Path.{_∙_, _≡_, ap, refl, sym}
 use mathlib.Core.Bool.{Bool, _&&_, false, not, true}
-use mathlib.Core.List.{List, [], _∷_, map}
+use mathlib.Core.List.{List, [], _++_, _∷_, map}
 use native.Mathlib.Omega.{arith}
 use lib.Dec.{T, eqb, leb→le, ltb, ltb→lt, not-T}
 use Rattle.machine.specs.Numbers.{REQUESTS}
@@ -22,10 +22,11 @@ use Rattle.machine.specs.Refusals.{Refusal, accepted, badList, badMap, badMaps,
 use Rattle.machine.specs.Sound.{sound}
 use Rattle.machine.proofs.Tests.{and-both, and-left, and-right, test-false}
 use Rattle.machine.proofs.KeepingCalls.{call-sound}
-use Rattle.two_runs.specs.TwoRuns.{ByK, ByOthers, Keeps, Party, Run, Start, Step, balance, calls, said, lends, our, own, seen, their}
+use Rattle.two_runs.specs.TwoRuns.{ByK, ByOthers, Keeps, Party, Run, Start, Step, balance, calls, lends, our, own, ownReplies, reached, said, seen, their, view}
 use Rattle.two_runs.proofs.Part.{Ready, fittingLock, ours-of, ownReplies-twice, project, projectOut, theirs-of, view-part}
 use Rattle.two_runs.proofs.Opens.{ours-opened, theirs-opened}
 use Rattle.two_runs.proofs.Settle.{Loop, lockFits, ownLock}
+use Rattle.two_runs.proofs.TheirsEach.{Mild}
 use Rattle.two_runs.proofs.TheirsCall.{theirs-mild}
 use Rattle.two_runs.proofs.OursCall.{ours-loop, ours-same}
 use Rattle.two_runs.proofs.Begin.{start-ready}
@@ -163,3 +164,24 @@ K-sees-the-same p s xs ys t h k e =
     alone p 0 s xs r (h .keeps) (h .full) (h .fits)
     ∙ ap (λ (cs : List Call). seen p (project p s) (map our cs)) e
     ∙ sym (alone p 0 s ys r (k .keeps) (k .full) (k .fits))
+
+-- ---- and the others leave it alone, at every moment
+
+left-alone : (p : Party) (n : ℕ) (s : State) (xs : List Step) (c : Call) → Ready p n s → Keeps p n s (xs ++ their c ∷ []) → T (all inRange (calls (xs ++ their c ∷ [])))
+    → Mild p (reached s xs) (call (reached s xs) c)
+unfolding reached calls all
+left-alone p n s [] c r k f = theirs-mild p n s c r (theirs-of p n s c (k .0))
+left-alone p n s (our d ∷ xs) c r k f =
+    left-alone p n (call s d .next) xs c (ours-ready p n s d r (k .0) (and-left (inRange d) (all inRange (calls (xs ++ their c ∷ []))) f)) (k .1)
+    (and-right (inRange d) (all inRange (calls (xs ++ their c ∷ []))) f)
+left-alone p n s (their d ∷ xs) c r k f =
+    left-alone p (balance (d .op) (call s d .answer) n) (call s d .next) xs c (theirs-ready p n s d r (k .0) (and-left (inRange d) (all inRange (calls (xs ++ their c ∷ []))) f)) (k .1)
+    (and-right (inRange d) (all inRange (calls (xs ++ their c ∷ []))) f)
+
+-- a call of the others, behind any run, replies to no id of the K party's and leaves its channels as they are
+pub others-leave-K-alone : (p : Party) (s : State) (xs : List Step) (c : Call) → Start p s → Run p s (xs ++ their c ∷ [])
+    → (ownReplies p (call (reached s xs) c .replies) ≡ []) × (view p (call (reached s xs) c .next) ≡ view p (reached s xs))
+unfolding view
+others-leave-K-alone p s xs c t h =
+    let m = left-alone p 0 s xs c (start-ready p s t) (h .keeps) (h .fits) in
+    (m .quiet, (unfold project in ap (λ (u : State). u .channels) (m .still)))

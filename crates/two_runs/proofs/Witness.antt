@@ -10,9 +10,8 @@ use mathlib.Core.List.{List, [], _∷_, map}
 use lib.Dec.{eqb}
 use lib.ListN.{length}
 use Rattle.machine.specs.State.{ABORT, CLOSE, COMMAND, Call, EVENT, OPEN, Op, State, free}
-use Rattle.machine.specs.Call.{call}
 use Rattle.machine.specs.Machine.{machine}
-use Rattle.two_runs.specs.TwoRuns.{Party, Run, Start, Step, claim, our, own, seen, their}
+use Rattle.two_runs.specs.TwoRuns.{Party, Run, Start, Step, claim, our, own, reached, seen, their}
 use Rattle.two_runs.proofs.TwoRuns.{K-sees-the-same}
 use Rattle.two_runs.proofs.Premises.{premises, runs-all, starts-all}
 
@@ -102,19 +101,14 @@ how-many = refl
 
 -- ---- and the states at the end are unlike
 
-unfoldable pub endOf : State → List Step → State
-endOf s [] = s
-endOf s (our c ∷ xs) = endOf (call s c .next) xs
-endOf s (their c ∷ xs) = endOf (call s c .next) xs
-
 -- the open count and the last key; who waits; the keys on the channels
 unfoldable pub brief : State → List (List ℕ)
 brief s = (s .opens ∷ s .last ∷ []) ∷ map (λ r. r .id) (s .waiting) ∷ map (λ c. c .key) (s .channels) ∷ []
 
-pub quiet-end : brief (endOf start quiet-run) ≡ (1 ∷ 7 ∷ []) ∷ (30 ∷ []) ∷ (1 ∷ 1 ∷ 7 ∷ 0 ∷ []) ∷ []
-unfolding machine endOf brief
+pub quiet-end : brief (reached start quiet-run) ≡ (1 ∷ 7 ∷ []) ∷ (30 ∷ []) ∷ (1 ∷ 1 ∷ 7 ∷ 0 ∷ []) ∷ []
+unfolding machine claim brief
 quiet-end = refl
 
-pub busy-end : brief (endOf start busy-run) ≡ (2 ∷ 10 ∷ []) ∷ (32 ∷ []) ∷ (1 ∷ 1 ∷ 8 ∷ 10 ∷ []) ∷ []
-unfolding machine endOf brief
+pub busy-end : brief (reached start busy-run) ≡ (2 ∷ 10 ∷ []) ∷ (32 ∷ []) ∷ (1 ∷ 1 ∷ 8 ∷ 10 ∷ []) ∷ []
+unfolding machine claim brief
 busy-end = refl

@@ -5,12 +5,14 @@
 --
 --   Line, ourLine l, theirLine l   a line of the K party's or an event on its channels; any other line
 --   text x, texts xs       the line itself; the lines of a stretch as the log has them
---   made f l               the call of a line, as a step of a run; none where the line is malformed
---   steps xs               the calls of a stretch
---   written s x            the lines of output for one line: its replies, then its answer
+--   made f c               the call of a line, as a step of a run; none where the line is malformed
+--   step x, steps xs       that of a line; those of a stretch
+--   written o              the lines of output for one line: its replies, then its answer
 --   output s xs            those for a stretch
 --   read p s x             those that are the K party's: the replies to its ids, and the answer where the line is its own
+--   readOwn, readOther     of a line of the K party's; of any other
 --   reads p s xs           those of a stretch
+--   logs                   one name that unfolds these definitions
 use Prim.Native.Nat.{ℕ}
 use mathlib.Core.List.{List, [], _∷_, _++_, map}
 use mathlib.Core.Option.{Option, none, some}
@@ -70,3 +72,7 @@ read p s (theirLine l) = readOther p s (frame (unhex l))
 unfoldable pub reads : Party → State → List Line → List (List ℕ)
 reads p s [] = []
 reads p s (x ∷ xs) = read p s x ++ reads p (feed s (text x) .next) xs
+
+unfoldable pub logs : Unit {0}
+unfolding text texts made step steps written output readOwn readOther read reads
+logs = tt

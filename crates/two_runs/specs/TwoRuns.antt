@@ -27,6 +27,7 @@
 --   balance o a n        the number n of such openings after a call of theirs, by its answer
 --   ByK, ByOthers        what is asked of a call of either kind
 --   Keeps p n s xs       each call of a run is so, with n such openings at its begin
+--   reached s xs         the state after a run
 --   calls xs, lends c    all the calls of a run; a call lends a full reply list
 --   Run p s xs           all that the demand asks of a run
 --   said c, own xs       all the numbers of a call but the length of the list it lends; those of the K party's calls, in order
@@ -201,6 +202,12 @@ Keeps p n s [] = Unit {0}
 Keeps p n s (our c ∷ xs) = ByK p s c × Keeps p n (call s c .next) xs
 Keeps p n s (their c ∷ xs) = ByOthers p n s c × Keeps p (balance (c .op) (call s c .answer) n) (call s c .next) xs
 
+-- the state after a run
+unfoldable pub reached : State → List Step → State
+reached s [] = s
+reached s (our c ∷ xs) = reached (call s c .next) xs
+reached s (their c ∷ xs) = reached (call s c .next) xs
+
 -- all the calls of a run
 unfoldable pub calls : List Step → List Call
 calls [] = []
@@ -265,5 +272,5 @@ seen p s (our c ∷ xs) =
 seen p s (their c ∷ xs) = let o = call s c in map received (ownReplies p (o .replies)) ++ seen p (o .next) xs
 
 unfoldable pub claim : Unit {0}
-unfolding isOpen atLeast atMost carries under elsewhere onK ofK maySend selected sets keepsFloor avoids modest mayClose balance calls lends said own mask view ownReplies seen
+unfolding isOpen atLeast atMost carries under elsewhere onK ofK maySend selected sets keepsFloor avoids modest mayClose balance reached calls lends said own mask view ownReplies seen
 claim = tt
