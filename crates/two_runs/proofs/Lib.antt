@@ -5,12 +5,14 @@ pub mod Settle
 pub mod TheirsEach
 pub mod TheirsFree
 pub mod TheirsQueue
+pub mod TheirsEvent
 pub mod TheirsAllocate
 pub mod TheirsAbort
 pub mod TheirsCall
 pub mod OursPart
 pub mod OursEach
 pub mod OursQueue
+pub mod OursEvent
 pub mod OursAbort
 pub mod OursSound
 pub mod OursCall

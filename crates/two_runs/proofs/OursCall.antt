@@ -1,42 +1,36 @@
--- OursCall.
+-- Any call of the K party does to its part what it does to the state, refused or accepted: the tests that refuse it come out the
+-- same, since part and state are both sound and open, are of one length and have the same ids of the party's outstanding.
 -- Assumes nothing.
 use Prim.Native.Nat.{_^_, _≤_, suc, zero, ℕ}
 use mathlib.Core.Path.{_∙_, _≡_, refl, sym}
-use mathlib.Core.Bool.{Bool, _||_, false, not, true}
+use mathlib.Core.Bool.{Bool, false, not, true}
 use mathlib.Core.List.{[]}
 use native.Mathlib.Omega.{arith}
 use lib.Dec.{T, eqb, eqb→eq, leb, ltb}
 use lib.ListN.{length, length-map}
 use Rattle.machine.specs.Lists.{all, if_then_else_}
-use Rattle.machine.specs.State.{ABORT, CLOSE, COMMAND, Call, Channel, EVENT, OPEN, Op, State, withChannels}
-use Rattle.machine.specs.Maps.{at, change, lowest}
-use Rattle.machine.specs.Commands.{doAbort, doEvent, done, each, eachChange, finished, flushed, matching, reset, same, setPrec, setStop, silent}
+use Rattle.machine.specs.State.{ABORT, CLOSE, COMMAND, Call, EVENT, OPEN, Op, State}
+use Rattle.machine.specs.Maps.{at, lowest}
+use Rattle.machine.specs.Commands.{doAbort, doEvent, done, finished, flushed, reset, same, setStop, silent}
 use Rattle.machine.specs.Call.{accept, answering, call, perform, settling}
 use Rattle.machine.specs.Kinds.{ALLOCATE, CLEAR, FLUSH, FREE, Kind, LOCK, READ, RESET, SETPREC, START, STOP, UNKNOWN, UPDATE, WRITE, allocates, kind, unknown}
 use Rattle.machine.specs.Refusals.{Refusal, accepted, badMap, badMaps, refusal, refuse, refused}
 use Rattle.machine.specs.Sound.{sound}
 use Rattle.machine.proofs.Tests.{and-left, and-right, by-test, test-false, test-true}
-use Rattle.machine.proofs.KeepingCalls.{change-zero}
 use Rattle.machine.proofs.Refusals.{first-none, refuse-same}
 use Rattle.two_runs.specs.TwoRuns.{Party, holds, mask, maySend, ofK, onK}
 use Rattle.two_runs.proofs.Part.{Ours, Ready, allowed, allowed-kind, project, projectOut}
 use Rattle.two_runs.proofs.Settle.{Loop, ready-loop, settle-calm}
 use Rattle.two_runs.proofs.OursPart.{Tame, finished-own, fit-own, none-own, own-floor, own-writes, settling-own, silent-own}
-use Rattle.two_runs.proofs.OursEach.{each-tame, eachChange-own}
-use Rattle.two_runs.proofs.OursQueue.{event-loop, event-own, lock-loop, lock-own, read-loop, read-own, write-loop, write-own}
+use Rattle.two_runs.proofs.OursEach.{each-tame, setprec-tame}
+use Rattle.two_runs.proofs.OursQueue.{lock-loop, lock-own, read-loop, read-own, write-loop, write-own}
+use Rattle.two_runs.proofs.OursEvent.{event-loop, event-own}
 use Rattle.two_runs.proofs.OursAbort.{abort-loop, abort-own}
 use Rattle.two_runs.proofs.OursSound.{among-ids, project-sound}
 
 module _ (p : Party) (real : T (not (eqb (p .key) 0))) where
-  -- a change at no channel
-  none-set : (f : Channel → Channel) (m : ℕ) (s : State) → Loop p s → T (eqb m 0) → Loop p (withChannels (change f m (s .channels)) s)
-  none-set f m s lp t = rw (eqb→eq m 0 t, change-zero f (s .channels)) lp
+  -- ---- commands, by kind: not ALLOCATE nor FREE
 
-  or-right : (a b : Bool) → T (not a) → T (a || b) → T b
-  or-right true b t u = absurd t
-  or-right false b t u = u
-
-  -- a command of the party's, not ALLOCATE nor FREE
   pub perform-tame : (k : Kind) (c : Call) (s : State) → c .key ≡ p .key → T (p .mine (c .id)) → T (allowed p k c s) → T (not (unknown k)) → T (ltb (c .map) (2 ^ length (s .channels)))
       → Loop p s → Tame p real s (perform k c s) (perform k c (project p s))
   unfolding perform allowed unknown all
@@ -49,16 +43,12 @@ module _ (p : Party) (real : T (not (eqb (p .key) 0))) where
   perform-tame START c s k m a u b lp = each-tame p real 7 (setStop false) (λ d. refl) false c s k m lp (λ d h f. fit-own p real (setStop false d) h (own-floor p real d h f) (own-writes p real d h f))
   perform-tame FLUSH c s k m a u b lp = each-tame p real 8 flushed (λ d. refl) true c s k m lp (λ d h f. fit-own p real (flushed d) h (own-floor p real d h f) tt)
   perform-tame FREE c s k m a u b lp = absurd a
-  perform-tame SETPREC c s k m a u b lp =
-      by-test (leb (p .floor) (c .prec))
-      (λ h. each-tame p real 10 (setPrec (c .prec)) (λ d. refl) false c s k m lp (λ d o f. fit-own p real (setPrec (c .prec) d) o h (own-writes p real d o f)))
-      (λ h. record {
-        alike = eachChange-own p real 10 (setPrec (c .prec)) (λ d. refl) false c s k m (lp .fit);
-        loop = unfold eachChange each finished in none-set (setPrec (c .prec)) (matching (c .key) (c .map) (s .channels)) s lp (or-right (leb (p .floor) (c .prec)) (eqb (matching (c .key) (c .map) (s .channels)) 0) h a);
-      })
+  perform-tame SETPREC c s k m a u b lp = setprec-tame p real c s k m a lp
   perform-tame LOCK c s k m a u b lp = record { alike = lock-own p real c s k m; loop = lock-loop p real c s k m b lp }
   perform-tame ALLOCATE c s k m a u b lp = absurd a
   perform-tame UNKNOWN c s k m a u b lp = absurd u
+
+-- ---- refusals come out the same
 
 not-zero : (n k : ℕ) → suc n ≤ k → eqb k 0 ≡ false
 not-zero n zero h = absurd (omega arith)
@@ -112,7 +102,8 @@ module _ (p : Party) (n : ℕ) (s : State) (r : Ready p n s) where
         badMaps-same c,
       )
 
-  -- of a command that is not refused
+  -- ---- a command that is not refused is known and names channels of the board
+
   command-known : (k : ℕ) (c : Call) → refusal (COMMAND k) c s ≡ accepted → T (not (unknown (kind k)))
   unfolding refusal
   command-known k c e = first-none _ e .1 .1 .1 .1 .1 .0
@@ -140,6 +131,8 @@ module _ (p : Party) (n : ℕ) (s : State) (r : Ready p n s) where
   unfolding ofK onK
   event-on c t = and-right (not (badMap c s)) (holds p (at (lowest (length (s .channels)) (c .map)) (s .channels))) (t .party)
 
+  -- ---- every operation
+
   accept-own : (o : Op) (c : Call) → Ours p s o c → refusal o c s ≡ accepted → accept o c (project p s) ≡ projectOut p (accept o c s)
   unfolding accept ofK maySend
   accept-own OPEN c t e = absurd (t .sends)
@@ -152,6 +145,8 @@ module _ (p : Party) (n : ℕ) (s : State) (r : Ready p n s) where
   accept-own (COMMAND k) c t e =
       let tame = command-tame k c t e in
       settling-own p (r .real) (perform (kind k) c s) (perform (kind k) c (project p s)) (tame .loop) (tame .alike)
+
+  -- ---- refusals
 
   refuse-own : (o : Op) (x : ℕ) (c : Call) → Ours p s o c → refuse o x c (project p s) ≡ projectOut p (refuse o x c s)
   unfolding refuse ofK maySend
@@ -169,6 +164,8 @@ module _ (p : Party) (n : ℕ) (s : State) (r : Ready p n s) where
       go true = silent-own p (r .real) _ [] [] s _ (none-own p (r .real)) refl
       go false = finished-own p (r .real) k c _ [] [] s _ m (none-own p (r .real)) refl
 
+  -- ---- the call
+
   pub ours-same : (c : Call) → Ours p s (c .op) c → call (project p s) c ≡ projectOut p (call s c)
   unfolding call answering
   ours-same c t = rw (refusal-same (c .op) c t) (go (refusal (c .op) c s) refl)
@@ -177,7 +174,8 @@ module _ (p : Party) (n : ℕ) (s : State) (r : Ready p n s) where
       go accepted e = accept-own (c .op) c t e
       go (refused x) e = refuse-own (c .op) x c t
 
-  -- settling may follow again
+  -- ---- and settling may follow again
+
   accept-loop : (o : Op) (c : Call) → Ours p s o c → refusal o c s ≡ accepted → Loop p (accept o c s .next)
   unfolding accept ofK maySend settling
   accept-loop OPEN c t e = absurd (t .sends)

@@ -12,21 +12,21 @@
 --   Ready p n s        all of it, with n openings of the others that they have not closed
 --   allowed, modestly  what the premises leave of a command of the K party's, and of the others', by its kind
 --   Ours, Theirs       the premises about one call, of an operation o
-use Prim.Native.Nat.{ℕ, suc, _≤_}
+use Prim.Native.Nat.{_≤_, suc, ℕ}
 use mathlib.Core.Path.{_≡_, refl, subst}
-use mathlib.Core.Bool.{Bool, true, false, not, _&&_, _||_}
+use mathlib.Core.Bool.{Bool, _&&_, _||_, false, not, true}
 use mathlib.Core.List.{List, [], _∷_, map}
-use lib.Dec.{T, T-not, eqb, leb, eqb→eq}
-use Rattle.machine.specs.Numbers.{ADCMD·FREE, ADCMD·SETPREC, ADCMD·ALLOCATE}
-use Rattle.machine.specs.Lists.{if_then_else_, any, all, keep}
-use Rattle.machine.specs.State.{Channel, Lock, Request, State, Reply, Outcome, Call, Op, COMMAND, free}
+use lib.Dec.{T, T-not, eqb, eqb→eq, leb}
+use Rattle.machine.specs.Numbers.{ADCMD·ALLOCATE, ADCMD·FREE, ADCMD·SETPREC}
+use Rattle.machine.specs.Lists.{all, any, if_then_else_, keep}
+use Rattle.machine.specs.State.{COMMAND, Call, Channel, Lock, Op, Outcome, Reply, Request, State, free}
 use Rattle.machine.specs.Commands.{matching}
-use Rattle.machine.specs.Sound.{sound}
-use Rattle.machine.specs.Kinds.{kind, Kind, RESET, READ, WRITE, UPDATE, CLEAR, STOP, START, FLUSH, FREE, SETPREC, LOCK, ALLOCATE, UNKNOWN}
+use Rattle.machine.specs.Kinds.{ALLOCATE, CLEAR, FLUSH, FREE, Kind, LOCK, READ, RESET, SETPREC, START, STOP, UNKNOWN, UPDATE, WRITE, kind}
 use Rattle.machine.specs.Refusals.{accepted, refusal}
-use Rattle.machine.proofs.Tests.{if-elim, and-left, and-right, or-named, by-test, test-true, test-false}
+use Rattle.machine.specs.Sound.{sound}
+use Rattle.machine.proofs.Tests.{and-left, and-right, by-test, if-elim, or-named, test-false, test-true}
 use Rattle.machine.proofs.Lists.{keep-twice}
-use Rattle.two_runs.specs.TwoRuns.{Party, holds, ofK, maySend, selected, sets, keepsFloor, avoids, modest, mayClose, ByK, ByOthers, mask, view, ownReplies}
+use Rattle.two_runs.specs.TwoRuns.{ByK, ByOthers, Party, avoids, holds, keepsFloor, mask, mayClose, maySend, modest, ofK, ownReplies, selected, sets, view}
 
 -- ---- the part
 
@@ -154,10 +154,6 @@ map-twice p (c ∷ cs) = rw (mask-twice p c, map-twice p cs)
 pub view-part : (p : Party) (s : State) → view p (project p s) ≡ view p s
 unfolding view project
 view-part p s = map-twice p (s .channels)
-
-pub project-twice : (p : Party) (s : State) → project p (project p s) ≡ project p s
-unfolding project ownLocks
-project-twice p s = rw (map-twice p (s .channels), keep-twice (λ (l : Lock). eqb (l .key) (p .key)) (s .locks))
 
 pub ownReplies-twice : (p : Party) (rs : List Reply) → ownReplies p (ownReplies p rs) ≡ ownReplies p rs
 unfolding ownReplies

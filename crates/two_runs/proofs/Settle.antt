@@ -1,4 +1,6 @@
--- Settle.
+-- Settling is nothing to the K party: every waiting allocation is at most P, so each look chooses channels without K. A grant
+-- then goes to channels without K and to a key that is not K; a lock that is replied -12 is over such channels and so not
+-- K's; and a reply goes to a waiting allocation, which has none of the party's ids.
 -- Assumes nothing.
 use Prim.Native.Nat.{_+_, _<_, _^_, _≤_, suc, zero, ℕ}
 use mathlib.Core.Path.{_∙_, _≡_, ap, refl, subst, sym}
@@ -25,6 +27,8 @@ use Rattle.two_runs.specs.TwoRuns.{Party, holds, mask, ownReplies}
 use Rattle.two_runs.proofs.Part.{Ready, fitting, fittingLock, lower, ownLocks, project}
 use Rattle.two_runs.proofs.Away.{abortedIn-quiet, any-view, change-fit, change-view, keyFor-not, named-view, own-append, spared}
 
+-- ---- what settling needs, and keeps
+
 -- a lock of the party names only its channels, of the board and at least one, and has an id of its own; no other lock has
 unfoldable pub lockFits : Party → List Channel → Lock → Bool
 lockFits p cs l = named (holds p) (l .map) cs && (ltb (l .map) (2 ^ length cs) && not (eqb (l .map) 0))
@@ -32,7 +36,6 @@ lockFits p cs l = named (holds p) (l .map) cs && (ltb (l .map) (2 ^ length cs) &
 unfoldable pub ownLock : Party → List Channel → Lock → Bool
 ownLock p cs l = if eqb (l .key) (p .key) then p .mine (l .id) && lockFits p cs l else not (p .mine (l .id))
 
--- what settling needs and keeps
 pub record Loop (p : Party) (s : State) : Type 0 where
   pub real : T (not (eqb (p .key) 0))
   pub present : T (any (holds p) (s .channels))
@@ -41,7 +44,8 @@ pub record Loop (p : Party) (s : State) : Type 0 where
   pub low : T (all (lower p) (s .waiting))
   pub few : length (s .channels) + length (s .waiting) < 65535
 
--- locks over a map that names no channel of the party: not the party's
+-- ---- locks over channels without K are not K's
+
 module _ (p : Party) (m : ℕ) (cs : List Channel) (off : T (named (λ c. not (holds p c)) m cs)) where
   met-foreign : (l : Lock) → T (ownLock p cs l) → T (meets (length cs) m (l .map)) → T (not (eqb (l .key) (p .key)))
   unfolding ownLock lockFits
@@ -84,6 +88,8 @@ module _ (p : Party) (m : ℕ) (cs : List Channel) (off : T (named (λ c. not (h
       if-cong : (b : Bool) {w x y z : List Lock} → w ≡ y → x ≡ z → (if b then w else x) ≡ (if b then y else z)
       if-cong true e h = e
       if-cong false e h = h
+
+-- ---- a walk
 
 abbrev FoundCalm : Party → List Channel → Found → Type 0
 FoundCalm p cs nobody = Unit {0}
@@ -180,6 +186,8 @@ module _ (p : Party) (cs : List Channel) (real : T (not (eqb (p .key) 0))) (fit 
       onLook-calm (length rs) (look (r .prec) (r .combos) cs) r rs ls (walk cs rs)
       (look-spares (p .floor) (r .prec) (r .combos) cs (lower-prec p r t)) t b (omega arith) lo (walk-calm rs b)
 
+-- ---- states with the same view
+
 pub project-path : (p : Party) (s t : State) → map (mask p) (s .channels) ≡ map (mask p) (t .channels) → ownLocks p (s .locks) ≡ ownLocks p (t .locks)
     → project p s ≡ project p t
 unfolding project
@@ -208,12 +216,14 @@ ownLock-view p cs ds k e (l ∷ ls) t =
 pub any-same : (p : Party) (cs ds : List Channel) → T (not (eqb (p .key) 0)) → map (mask p) ds ≡ map (mask p) cs → any (holds p) cs ≡ any (holds p) ds
 any-same p cs ds k e = sym (any-view p cs k) ∙ ap (any (holds p)) (sym e) ∙ any-view p ds k
 
+-- ---- grants
+
 pub record SettleCalm (p : Party) (s : State) (t : Settled) : Type 0 where
   pub quiet : ownReplies p (t .replies) ≡ []
   pub still : project p (t .state) ≡ project p s
   pub loop : Loop p (t .state)
 
--- a grant to another key
+-- a grant to another key, over channels without K
 module _ (p : Party) (s : State) (m k prec : ℕ) (lp : Loop p s) (off : T (named (λ c. not (holds p c)) m (s .channels))) (other : T (not (eqb k (p .key)))) where
   pub newKeyNot : T (not (eqb (keyFor k s) (p .key)))
   newKeyNot = keyFor-not p s k (lp .few) (lp .present) other
@@ -237,6 +247,8 @@ module _ (p : Party) (s : State) (m k prec : ℕ) (lp : Loop p s) (off : T (name
   pub grant-still : project p (granted m k prec s) ≡ project p s
   unfolding granted
   grant-still = project-path p (granted m k prec s) s grant-view refl
+
+-- ---- rounds
 
 walked-loop : (p : Party) (s : State) (w : Walk) → Loop p s → WalkCalm p (s .channels) (length (s .waiting)) (s .locks) w → Loop p (walked w s)
 unfolding walked
@@ -277,7 +289,8 @@ pub settle-calm : (p : Party) (s : State) → Loop p s → SettleCalm p s (settl
 unfolding settle
 settle-calm p s lp = rounds-calm p (suc (length (s .waiting))) s lp
 
--- the settling invariant of a state from which a run may start
+-- ---- between two calls, settling has what it needs
+
 ready-lock : (p : Party) (cs : List Channel) (l : Lock) → T (fittingLock p l) → T (soundLock cs l) → T (ownLock p cs l)
 unfolding fittingLock soundLock ownLock lockFits
 ready-lock p cs l f t =

@@ -1,4 +1,5 @@
--- TheirsCall.
+-- Any call of the others is nothing to the K party, whether it is refused or accepted, and with the settling that follows: it
+-- replies to none of its ids, leaves its part of the state, and leaves a state that settling may follow again.
 -- Assumes nothing.
 use Prim.Native.Nat.{_+_, _≤_, ℕ}
 use mathlib.Core.Path.{_∙_, _≡_, refl}
@@ -26,9 +27,12 @@ use Rattle.two_runs.proofs.Away.{own-append}
 use Rattle.two_runs.proofs.Settle.{Loop, ready-loop, settle-calm}
 use Rattle.two_runs.proofs.TheirsEach.{Mild, eachChange-mild, finished-mild}
 use Rattle.two_runs.proofs.TheirsFree.{close-mild, free-mild}
-use Rattle.two_runs.proofs.TheirsQueue.{event-mild, lock-mild, read-mild, write-mild}
+use Rattle.two_runs.proofs.TheirsQueue.{lock-mild, read-mild, write-mild}
+use Rattle.two_runs.proofs.TheirsEvent.{event-mild}
 use Rattle.two_runs.proofs.TheirsAllocate.{allocate-mild, open-mild}
 use Rattle.two_runs.proofs.TheirsAbort.{abort-mild}
+
+-- ---- commands, by kind
 
 module _ (p : Party) (c : Call) (s : State) (t : T (not (eqb (c .key) (p .key)))) (u : T (not (p .mine (c .id)))) (lp : Loop p s) where
   perform-mild : (k : Kind) → length (s .channels) + length (s .waiting) ≤ 72 → T (modestly p k c) → Mild p s (perform k c s)
@@ -49,7 +53,9 @@ module _ (p : Party) (c : Call) (s : State) (t : T (not (eqb (c .key) (p .key)))
       allocate-mild p c s t u lp (look (c .prec) (c .combos) (s .channels)) few m (look-spares (p .floor) (c .prec) (c .combos) (s .channels) (leb→le (c .prec) (p .floor) m))
   perform-mild UNKNOWN few m = record { quiet = unfold ownReplies keep in refl; still = refl; loop = lp }
 
--- an event that is not refused and not on a channel of the party's
+-- ---- every operation
+
+-- an event that is not refused and not on a channel of K's
 event-off : (p : Party) (s : State) (c : Call) → T (avoids p EVENT c s) → refusal EVENT c s ≡ accepted
     → T (not (holds p (at (lowest (length (s .channels)) (c .map)) (s .channels))))
 unfolding avoids onK refusal
@@ -81,6 +87,8 @@ accept-mild p n s (COMMAND k) c r t e =
     settling-mild p s (perform (kind k) c s)
     (perform-mild p c s (and-left a b (t .apart)) (and-right a b (t .apart)) (ready-loop p n s r) (kind k) (waiting-few s (parts s (r .sane))) (modest-kind p k c (t .low)))
 
+-- ---- refusals
+
 refuse-mild : (p : Party) (n e : ℕ) (s : State) (o : Op) (c : Call) → Loop p s → Theirs p n s o c → Mild p s (refuse o e c s)
 unfolding refuse silent ownReplies keep avoids
 refuse-mild p n e s OPEN c lp t = record { quiet = refl; still = refl; loop = lp }
@@ -90,6 +98,8 @@ refuse-mild p n e s EVENT c lp t = record { quiet = refl; still = refl; loop = l
 refuse-mild p n e s (COMMAND k) c lp t =
     if-elim (Mild p s) (leb e 5) (λ _. record { quiet = refl; still = refl; loop = lp })
     (λ _. finished-mild p c s (and-right (not (eqb (c .key) (p .key))) (not (p .mine (c .id))) (t .apart)) lp k (done e 0 (c .key) 255))
+
+-- ---- the call
 
 pub theirs-mild : (p : Party) (n : ℕ) (s : State) (c : Call) → Ready p n s → Theirs p n s (c .op) c → Mild p s (call s c)
 unfolding call answering
