@@ -22,7 +22,7 @@ use Rattle.machine.specs.Refusals.{Refusal, accepted, badList, badMap, badMaps,
 use Rattle.machine.specs.Sound.{sound}
 use Rattle.machine.proofs.Tests.{and-both, and-left, and-right, test-false}
 use Rattle.machine.proofs.KeepingCalls.{call-sound}
-use Rattle.two_runs.specs.TwoRuns.{ByK, ByOthers, Keeps, Party, Run, Start, Step, balance, calls, lends, our, own, ownReplies, reached, said, seen, their, view}
+use Rattle.two_runs.specs.TwoRuns.{ByK, ByOthers, Demand3, Keeps, Party, Run, Start, Step, balance, calls, lends, our, own, ownReplies, reached, said, seen, their, view}
 use Rattle.two_runs.proofs.Part.{Ready, fittingLock, ours-of, ownReplies-twice, project, projectOut, theirs-of, view-part}
 use Rattle.two_runs.proofs.Opens.{ours-opened, theirs-opened}
 use Rattle.two_runs.proofs.Settle.{Loop, lockFits, ownLock}
@@ -157,8 +157,7 @@ alone p n s (their c ∷ xs) r k l f =
 
 -- ---- the claim
 
-pub K-sees-the-same : (p : Party) (s : State) (xs ys : List Step) → Start p s → Run p s xs → Run p s ys → own xs ≡ own ys
-    → seen p s xs ≡ seen p s ys
+pub K-sees-the-same : Demand3
 K-sees-the-same p s xs ys t h k e =
     let r = start-ready p s t in
     alone p 0 s xs r (h .keeps) (h .full) (h .fits)

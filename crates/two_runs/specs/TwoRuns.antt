@@ -1,6 +1,6 @@
 -- Demand 3, the two-run property, stated over `call` of the machine alone: the premises, each under a name, and what the K
--- party sees. The claim is `K-sees-the-same` of proofs/TwoRuns.antt. It holds on any board of 1 to 8 channels, since `sound`
--- asks for no other number.
+-- party sees. proofs/TwoRuns.antt proves it as `K-sees-the-same`, for every board of 1 to 8 channels, the numbers that `sound`
+-- allows.
 -- Assumes nothing.
 --
 -- The parties
@@ -36,8 +36,11 @@
 --   view p s             all channels so, each at its place
 --   ownReplies p rs      the replies to the K party's ids, in order
 --   Seen, seen p s xs    its answers, the replies to its ids and its channels, in the order of the run
+-- The claim
+--   Demand3              two runs with the same calls of the K party show it the same
 --   claim                one name that unfolds all these definitions, for what is proved by computing: `unfolding machine claim`
 use Prim.Native.Nat.{ℕ, suc, pred}
+use mathlib.Core.Path.{_≡_}
 use mathlib.Core.Bool.{Bool, true, false, not, _&&_, _||_}
 use mathlib.Core.List.{List, [], _∷_, _++_, map}
 use lib.Dec.{T, eqb, leb, ltb}
@@ -270,6 +273,12 @@ seen p s (our c ∷ xs) =
     let o = call s c in
     map received (ownReplies p (o .replies)) ++ answered (o .answer) ∷ owning (view p (o .next)) ∷ seen p (o .next) xs
 seen p s (their c ∷ xs) = let o = call s c in map received (ownReplies p (o .replies)) ++ seen p (o .next) xs
+
+-- ---- the claim
+
+-- "then the K party's answers, replies and channels are the same in both runs"
+abbrev pub Demand3 : Type 0
+Demand3 = (p : Party) (s : State) (xs ys : List Step) → Start p s → Run p s xs → Run p s ys → own xs ≡ own ys → seen p s xs ≡ seen p s ys
 
 unfoldable pub claim : Unit {0}
 unfolding isOpen atLeast atMost carries under elsewhere onK ofK maySend selected sets keepsFloor avoids modest mayClose balance reached calls lends said own mask view ownReplies seen
