@@ -4,7 +4,8 @@
 -- Assumes nothing.
 --
 -- The parties
---   Party                the K party: its key K, the precedence P (`floor`) and which request ids are its own (`mine`)
+--   Party                the K party: its key K, the precedence P (`floor`, plus 128 like every precedence of the machine) and
+--                        which request ids are its own (`mine`)
 --   holds p c            the channel c has K
 -- The start
 --   isOpen s             the device is open
@@ -19,14 +20,14 @@
 --   onK p c s            an event's map is on the board, and its lowest bit is a channel with K
 --   ofK p o c s          a call is with K and one of those ids, or is an event on a channel of K's
 --   maySend o            not ALLOCATE, FREE, OPEN or CLOSE
---   sets c s             the channels whose precedence a SETPREC sets: none if it is refused
+--   selected, sets c s   the channels whose precedence a SETPREC sets: those that match, none if it is refused
 --   keepsFloor p o c s   the call sets no precedence below P
 --   avoids p o c s       the call uses neither K nor those ids
 --   modest p o c         an OPEN or ALLOCATE is at P or less
 --   mayClose n o         a CLOSE finds an opening of the others that they have not closed, of the n there are
 --   balance o a n        the number n of such openings after a call of theirs, by its answer
 --   ByK, ByOthers        what is asked of a call of either kind
---   Keeps p n s xs       each call of a run is so, with n such openings at its begin
+--   Keeps p n s xs       each call of a run is so, with n such openings at its beginning
 --   reached s xs         the state after a run
 --   calls xs, lends c    all the calls of a run; a call lends a full reply list
 --   Run p s xs           all that the demand asks of a run
