@@ -4,7 +4,7 @@
 -- two runs with the same such calls show it the same.
 -- Assumes nothing.
 use Prim.Native.Nat.{_≤_, suc, ℕ}
-use mathlib.Core.Path.{_∙_, _≡_, ap, refl, sym}
+use mathlib.Core.Path.{_∙_, _≡_, ap, ap₂, refl, sym}
 use mathlib.Core.Bool.{Bool, _&&_, false, not, true}
 use mathlib.Core.List.{List, [], _++_, _∷_, map}
 use native.Mathlib.Omega.{arith}
@@ -157,12 +157,16 @@ alone p n s (their c ∷ xs) r k l f =
 
 -- ---- the claim
 
+-- more than is asked: the runs may even begin in two states, if K's part of them is the same
+pub K-sees-its-part : (p : Party) (s t : State) (xs ys : List Step) → Start p s → Start p t → project p s ≡ project p t → Run p s xs → Run p t ys → own xs ≡ own ys
+    → seen p s xs ≡ seen p t ys
+K-sees-its-part p s t xs ys a b q h k e =
+    alone p 0 s xs (start-ready p s a) (h .keeps) (h .full) (h .fits)
+    ∙ ap₂ (λ (u : State) (cs : List Call). seen p u (map our cs)) q e
+    ∙ sym (alone p 0 t ys (start-ready p t b) (k .keeps) (k .full) (k .fits))
+
 pub K-sees-the-same : Demand3
-K-sees-the-same p s xs ys t h k e =
-    let r = start-ready p s t in
-    alone p 0 s xs r (h .keeps) (h .full) (h .fits)
-    ∙ ap (λ (cs : List Call). seen p (project p s) (map our cs)) e
-    ∙ sym (alone p 0 s ys r (k .keeps) (k .full) (k .fits))
+K-sees-the-same p s xs ys a h k e = K-sees-its-part p s s xs ys a a refl h k e
 
 -- ---- and the others leave it alone, at every moment
 
