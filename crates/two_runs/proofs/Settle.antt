@@ -1,26 +1,33 @@
--- UnwindSettle.
+-- Settling is nothing to the K party: every waiting allocation is at most P, so each look chooses channels without K. A grant
+-- then goes to channels without K and to a key that is not K; a lock that is replied -12 is over such channels and so not
+-- K's; and a reply goes to a waiting allocation, which has none of the party's ids.
 -- Assumes nothing.
-use Prim.Native.Nat.{ℕ, zero, suc, _+_, _^_, _≤_, _<_}
-use mathlib.Core.Path.{_≡_, refl, ap, subst, sym, _∙_}
-use mathlib.Core.Bool.{Bool, true, false, not, _&&_}
-use mathlib.Core.List.{List, [], _∷_, _++_, map}
+use Prim.Native.Nat.{_+_, _<_, _^_, _≤_, suc, zero, ℕ}
+use mathlib.Core.Path.{_∙_, _≡_, ap, refl, subst, sym}
+use mathlib.Core.Bool.{Bool, _&&_, false, not, true}
+use mathlib.Core.List.{List, [], _++_, _∷_, map}
 use native.Mathlib.Omega.{arith}
-use lib.Dec.{T, eqb, leb, ltb, leb→le}
+use lib.Dec.{T, eqb, eqb→eq, leb, leb→le, ltb}
 use lib.ListN.{length, length-map}
 use Rattle.machine.specs.Numbers.{ALLOCFAILED, CHANNELSTOLEN}
-use Rattle.machine.specs.Lists.{if_then_else_, any, all, keep}
-use Rattle.machine.specs.State.{Channel, Lock, Request, State, Reply}
-use Rattle.machine.specs.Maps.{meets, named, change}
-use Rattle.machine.specs.Choosing.{Look, fails, held, grants, look}
-use Rattle.machine.specs.Granting.{taken, keyFor, granted, abortedIn}
+use Rattle.machine.specs.Lists.{all, any, if_then_else_, keep}
+use Rattle.machine.specs.State.{Channel, Lock, Reply, Request, State}
+use Rattle.machine.specs.Maps.{at, change, meets, named}
+use Rattle.machine.specs.Choosing.{Look, fails, grants, held, look}
+use Rattle.machine.specs.Granting.{abortedIn, granted, keyFor, taken}
 use Rattle.machine.specs.Commands.{ended}
-use Rattle.machine.specs.Settling.{Found, nobody, somebody, Walk, Settled, replied, staying, saying, onLook, walk, walked, goOn, rounds, settle}
-use Rattle.machine.proofs.Tests.{if-elim, and-left, and-right, and-both, by-test, test-true, test-false}
-use Rattle.machine.proofs.Lists.{all-keep}
-use Rattle.machine.proofs.Maps.{apart-meets, length-change}
+use Rattle.machine.specs.Settling.{Found, Settled, Walk, goOn, nobody, onLook, replied, rounds, saying, settle, somebody, staying, walk, walked}
+use Rattle.machine.specs.Sound.{soundLock}
+use Rattle.machine.proofs.Tests.{and-both, and-left, and-right, by-test, if-elim, test-false, test-true}
 use Rattle.machine.proofs.Choosing.{Spares, look-spares}
-use Rattle.two_runs.specs.TwoRuns.{Party, holds, mask, ownLocks, project, ownReplies, fitting, lower}
-use Rattle.two_runs.proofs.Unwind.{spared, change-view, change-fit, own-append, abortedIn-quiet, any-view, named-view, keyFor-not}
+use Rattle.machine.proofs.Lists.{all-keep}
+use Rattle.machine.proofs.Maps.{apart-meets, length-change, named-mono}
+use Rattle.machine.proofs.Sound.{parts, waiting-few}
+use Rattle.two_runs.specs.TwoRuns.{Party, holds, mask, ownReplies}
+use Rattle.two_runs.proofs.Part.{Ready, fitting, fittingLock, lower, ownLocks, project}
+use Rattle.two_runs.proofs.Away.{abortedIn-quiet, any-view, change-fit, change-view, keyFor-not, named-view, own-append, spared}
+
+-- ---- what settling needs, and keeps
 
 -- a lock of the party names only its channels, of the board and at least one, and has an id of its own; no other lock has
 unfoldable pub lockFits : Party → List Channel → Lock → Bool
@@ -29,7 +36,6 @@ lockFits p cs l = named (holds p) (l .map) cs && (ltb (l .map) (2 ^ length cs) &
 unfoldable pub ownLock : Party → List Channel → Lock → Bool
 ownLock p cs l = if eqb (l .key) (p .key) then p .mine (l .id) && lockFits p cs l else not (p .mine (l .id))
 
--- what settling needs and keeps
 pub record Loop (p : Party) (s : State) : Type 0 where
   pub real : T (not (eqb (p .key) 0))
   pub present : T (any (holds p) (s .channels))
@@ -38,7 +44,8 @@ pub record Loop (p : Party) (s : State) : Type 0 where
   pub low : T (all (lower p) (s .waiting))
   pub few : length (s .channels) + length (s .waiting) < 65535
 
--- locks over a map that names no channel of the party: not the party's
+-- ---- locks over channels without K are not K's
+
 module _ (p : Party) (m : ℕ) (cs : List Channel) (off : T (named (λ c. not (holds p c)) m cs)) where
   met-foreign : (l : Lock) → T (ownLock p cs l) → T (meets (length cs) m (l .map)) → T (not (eqb (l .key) (p .key)))
   unfolding ownLock lockFits
@@ -81,6 +88,8 @@ module _ (p : Party) (m : ℕ) (cs : List Channel) (off : T (named (λ c. not (h
       if-cong : (b : Bool) {w x y z : List Lock} → w ≡ y → x ≡ z → (if b then w else x) ≡ (if b then y else z)
       if-cong true e h = e
       if-cong false e h = h
+
+-- ---- a walk
 
 abbrev FoundCalm : Party → List Channel → Found → Type 0
 FoundCalm p cs nobody = Unit {0}
@@ -177,6 +186,8 @@ module _ (p : Party) (cs : List Channel) (real : T (not (eqb (p .key) 0))) (fit 
       onLook-calm (length rs) (look (r .prec) (r .combos) cs) r rs ls (walk cs rs)
       (look-spares (p .floor) (r .prec) (r .combos) cs (lower-prec p r t)) t b (omega arith) lo (walk-calm rs b)
 
+-- ---- states with the same view
+
 pub project-path : (p : Party) (s t : State) → map (mask p) (s .channels) ≡ map (mask p) (t .channels) → ownLocks p (s .locks) ≡ ownLocks p (t .locks)
     → project p s ≡ project p t
 unfolding project
@@ -205,12 +216,14 @@ ownLock-view p cs ds k e (l ∷ ls) t =
 pub any-same : (p : Party) (cs ds : List Channel) → T (not (eqb (p .key) 0)) → map (mask p) ds ≡ map (mask p) cs → any (holds p) cs ≡ any (holds p) ds
 any-same p cs ds k e = sym (any-view p cs k) ∙ ap (any (holds p)) (sym e) ∙ any-view p ds k
 
+-- ---- grants
+
 pub record SettleCalm (p : Party) (s : State) (t : Settled) : Type 0 where
   pub quiet : ownReplies p (t .replies) ≡ []
   pub still : project p (t .state) ≡ project p s
   pub loop : Loop p (t .state)
 
--- a grant to another key
+-- a grant to another key, over channels without K
 module _ (p : Party) (s : State) (m k prec : ℕ) (lp : Loop p s) (off : T (named (λ c. not (holds p c)) m (s .channels))) (other : T (not (eqb k (p .key)))) where
   pub newKeyNot : T (not (eqb (keyFor k s) (p .key)))
   newKeyNot = keyFor-not p s k (lp .few) (lp .present) other
@@ -234,6 +247,8 @@ module _ (p : Party) (s : State) (m k prec : ℕ) (lp : Loop p s) (off : T (name
   pub grant-still : project p (granted m k prec s) ≡ project p s
   unfolding granted
   grant-still = project-path p (granted m k prec s) s grant-view refl
+
+-- ---- rounds
 
 walked-loop : (p : Party) (s : State) (w : Walk) → Loop p s → WalkCalm p (s .channels) (length (s .waiting)) (s .locks) w → Loop p (walked w s)
 unfolding walked
@@ -273,3 +288,58 @@ rounds-calm p (suc n) s lp =
 pub settle-calm : (p : Party) (s : State) → Loop p s → SettleCalm p s (settle s)
 unfolding settle
 settle-calm p s lp = rounds-calm p (suc (length (s .waiting))) s lp
+
+-- ---- between two calls, settling has what it needs
+
+ready-lock : (p : Party) (cs : List Channel) (l : Lock) → T (fittingLock p l) → T (soundLock cs l) → T (ownLock p cs l)
+unfolding fittingLock soundLock ownLock lockFits
+ready-lock p cs l f t =
+    by-test (eqb (l .key) (p .key))
+    (λ u. rw (test-true (eqb (l .key) (p .key)) u)
+    (and-both (p .mine (l .id)) (named (holds p) (l .map) cs && (ltb (l .map) (2 ^ length cs) && not (eqb (l .map) 0)))
+    (rw (test-true (eqb (l .key) (p .key)) u) at f)
+    (and-both (named (holds p) (l .map) cs) (ltb (l .map) (2 ^ length cs) && not (eqb (l .map) 0))
+    (named-mono own (holds p) (l .map) cs (λ c v. subst (λ (k : ℕ). T (eqb (c .key) k)) (eqb→eq (l .key) (p .key) u) (and-right (c .locked) (eqb (c .key) (l .key)) v)) t3)
+    (and-both (ltb (l .map) (2 ^ length cs)) (not (eqb (l .map) 0)) t5 t4))))
+    (λ u. rw (test-false (eqb (l .key) (p .key)) u) (rw (test-false (eqb (l .key) (p .key)) u) at f))
+  where
+    own : Channel → Bool
+    own c = c .locked && eqb (c .key) (l .key)
+
+    a : Bool
+    a = not (eqb (l .map) 0)
+
+    b : Bool
+    b = ltb (l .map) (2 ^ length cs)
+
+    d : Bool
+    d = not (eqb (l .key) 0)
+
+    t3 : T (named own (l .map) cs)
+    t3 = and-right (a && b && d) (named own (l .map) cs) t
+
+    t4 : T a
+    t4 = and-left a b (and-left (a && b) d (and-left (a && b && d) (named own (l .map) cs) t))
+
+    t5 : T b
+    t5 = and-right a b (and-left (a && b) d (and-left (a && b && d) (named own (l .map) cs) t))
+
+ready-locks : (p : Party) (cs : List Channel) (ls : List Lock) → T (all (fittingLock p) ls) → T (all (soundLock cs) ls) → T (all (ownLock p cs) ls)
+unfolding all
+ready-locks p cs [] f t = tt
+ready-locks p cs (l ∷ ls) f t =
+    and-both (ownLock p cs l) (all (ownLock p cs) ls)
+    (ready-lock p cs l (and-left (fittingLock p l) (all (fittingLock p) ls) f) (and-left (soundLock cs l) (all (soundLock cs) ls) t))
+    (ready-locks p cs ls (and-right (fittingLock p l) (all (fittingLock p) ls) f) (and-right (soundLock cs l) (all (soundLock cs) ls) t))
+
+pub ready-loop : (p : Party) (n : ℕ) (s : State) → Ready p n s → Loop p s
+ready-loop p n s r =
+    let q = parts s (r .sane) in
+    record {
+      real = r .real;
+      present = r .present;
+      fit = r .fit;
+      locksOK = ready-locks p (s .channels) (s .locks) (r .fitLocks) (q .locksOK);
+      low = r .low;
+      few = omega (arith, waiting-few s q);
+    }

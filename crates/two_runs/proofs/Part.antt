@@ -1,0 +1,160 @@
+-- The K party's part of a state, and what stays true between the calls of a run: every state of a run is sound, open beyond
+-- the openings of the others, and fits the party; so each call sees a state like the first. Definitions that only the proofs
+-- need, and their first laws.
+-- Assumes nothing.
+--
+--   ownLocks p ls      the locks with K
+--   project p s        the K party's part of a state: its channels and locks; nobody waits and the device is open
+--   projectOut p o     its part of an outcome: the answer, the replies to its ids, its part of the next state
+--   fitting p c        a channel with K is at P or more and has writes of the party's alone; another has none of them
+--   fittingLock p l    a lock has an id of the party's exactly if it has K
+--   lower p r          a waiting allocation is at most P, without K and without an id of the party's
+--   Ready p n s        all of it, with n openings of the others that they have not closed
+--   allowed, modestly  what the premises leave of a command of the K party's, and of the others', by its kind
+--   Ours, Theirs       the premises about one call, of an operation o
+use Prim.Native.Nat.{_≤_, suc, ℕ}
+use mathlib.Core.Path.{_≡_, refl, subst}
+use mathlib.Core.Bool.{Bool, _&&_, _||_, false, not, true}
+use mathlib.Core.List.{List, [], _∷_, map}
+use lib.Dec.{T, T-not, eqb, eqb→eq, leb}
+use Rattle.machine.specs.Numbers.{ADCMD·ALLOCATE, ADCMD·FREE, ADCMD·SETPREC}
+use Rattle.machine.specs.Lists.{all, any, if_then_else_, keep}
+use Rattle.machine.specs.State.{COMMAND, Call, Channel, Lock, Op, Outcome, Reply, Request, State, free}
+use Rattle.machine.specs.Commands.{matching}
+use Rattle.machine.specs.Kinds.{ALLOCATE, CLEAR, FLUSH, FREE, Kind, LOCK, READ, RESET, SETPREC, START, STOP, UNKNOWN, UPDATE, WRITE, kind}
+use Rattle.machine.specs.Refusals.{accepted, refusal}
+use Rattle.machine.specs.Sound.{sound}
+use Rattle.machine.proofs.Tests.{and-left, and-right, by-test, if-elim, or-named, test-false, test-true}
+use Rattle.machine.proofs.Lists.{keep-twice}
+use Rattle.two_runs.specs.TwoRuns.{ByK, ByOthers, Party, avoids, holds, keepsFloor, mask, mayClose, maySend, modest, ofK, ownReplies, selected, sets, view}
+
+-- ---- the part
+
+unfoldable pub ownLocks : Party → List Lock → List Lock
+ownLocks p ls = keep (λ l. eqb (l .key) (p .key)) ls
+
+unfoldable pub project : Party → State → State
+project p s = record { channels = map (mask p) (s .channels); locks = ownLocks p (s .locks); waiting = []; opens = 1; last = 0 }
+
+unfoldable pub projectOut : Party → Outcome → Outcome
+projectOut p o = record { answer = o .answer; replies = ownReplies p (o .replies); next = project p (o .next) }
+
+-- ---- between the calls
+
+unfoldable pub fitting : Party → Channel → Bool
+fitting p c = if holds p c then leb (p .floor) (c .prec) && all (p .mine) (c .writes) else all (λ i. not (p .mine i)) (c .writes)
+
+unfoldable pub fittingLock : Party → Lock → Bool
+fittingLock p l = if eqb (l .key) (p .key) then p .mine (l .id) else not (p .mine (l .id))
+
+unfoldable pub lower : Party → Request → Bool
+lower p r = leb (r .prec) (p .floor) && not (eqb (r .key) (p .key)) && not (p .mine (r .id))
+
+pub record Ready (p : Party) (n : ℕ) (s : State) : Type 0 where
+  pub sane : T (sound s)
+  pub opened : suc n ≤ s .opens
+  pub real : T (not (eqb (p .key) 0))
+  pub present : T (any (holds p) (s .channels))
+  pub fit : T (all (fitting p) (s .channels))
+  pub fitLocks : T (all (fittingLock p) (s .locks))
+  pub low : T (all (lower p) (s .waiting))
+
+-- ---- one call
+
+pub record Ours (p : Party) (s : State) (o : Op) (c : Call) : Type 0 where
+  pub party : T (ofK p o c s)
+  pub sends : T (maySend o)
+  pub high : T (keepsFloor p o c s)
+
+pub record Theirs (p : Party) (n : ℕ) (s : State) (o : Op) (c : Call) : Type 0 where
+  pub apart : T (avoids p o c s)
+  pub low : T (modest p o c)
+  pub closes : T (mayClose n o)
+
+pub ours-of : (p : Party) (s : State) (c : Call) → ByK p s c → Ours p s (c .op) c
+ours-of p s c k = record { party = k .party; sends = k .sends; high = k .high }
+
+pub theirs-of : (p : Party) (n : ℕ) (s : State) (c : Call) → ByOthers p n s c → Theirs p n s (c .op) c
+theirs-of p n s c k = record { apart = k .apart; low = k .low; closes = k .closes }
+
+unfoldable pub allowed : Party → Kind → Call → State → Bool
+allowed p RESET c s = true
+allowed p READ c s = true
+allowed p WRITE c s = true
+allowed p UPDATE c s = true
+allowed p CLEAR c s = true
+allowed p STOP c s = true
+allowed p START c s = true
+allowed p FLUSH c s = true
+allowed p FREE c s = false
+allowed p SETPREC c s = leb (p .floor) (c .prec) || eqb (matching (c .key) (c .map) (s .channels)) 0
+allowed p LOCK c s = true
+allowed p ALLOCATE c s = false
+allowed p UNKNOWN c s = true
+
+unfoldable pub modestly : Party → Kind → Call → Bool
+modestly p RESET c = true
+modestly p READ c = true
+modestly p WRITE c = true
+modestly p UPDATE c = true
+modestly p CLEAR c = true
+modestly p STOP c = true
+modestly p START c = true
+modestly p FLUSH c = true
+modestly p FREE c = true
+modestly p SETPREC c = true
+modestly p LOCK c = true
+modestly p ALLOCATE c = leb (c .prec) (p .floor)
+modestly p UNKNOWN c = true
+
+-- the kind of a number, by the tests that `kind` makes
+kind-elim : (P : Kind → Type 0) (n : ℕ) → P RESET → P READ → P WRITE → P UPDATE → P CLEAR → P STOP → P START → P FLUSH
+    → (T (eqb n ADCMD·FREE) → P FREE) → (T (eqb n ADCMD·SETPREC) → P SETPREC) → P LOCK → (T (eqb n ADCMD·ALLOCATE) → P ALLOCATE) → P UNKNOWN
+    → P (kind n)
+unfolding kind
+kind-elim P n a b d e f g h i j k l m o =
+    if-elim P (eqb n 1) (λ _. a) (λ _. if-elim P (eqb n 2) (λ _. b) (λ _. if-elim P (eqb n 3) (λ _. d) (λ _. if-elim P (eqb n 4) (λ _. e)
+    (λ _. if-elim P (eqb n 5) (λ _. f) (λ _. if-elim P (eqb n 6) (λ _. g) (λ _. if-elim P (eqb n 7) (λ _. h) (λ _. if-elim P (eqb n 8) (λ _. i)
+    (λ _. if-elim P (eqb n 9) j (λ _. if-elim P (eqb n 10) k (λ _. if-elim P (eqb n 13) (λ _. l) (λ _. if-elim P (eqb n 32) m (λ _. o))))))))))))
+
+-- a SETPREC that is not refused sets the precedence of the channels that match
+setprec-sets : (n : ℕ) (c : Call) (s : State) → T (eqb n ADCMD·SETPREC) → refusal (COMMAND n) c s ≡ accepted → sets c s ≡ matching (c .key) (c .map) (s .channels)
+unfolding sets selected
+setprec-sets n c s t e = rw (subst (λ (x : ℕ). refusal (COMMAND x) c s ≡ accepted) (eqb→eq n ADCMD·SETPREC t) e)
+
+pub allowed-kind : (p : Party) (s : State) (n : ℕ) (c : Call) → Ours p s (COMMAND n) c → refusal (COMMAND n) c s ≡ accepted → T (allowed p (kind n) c s)
+unfolding allowed maySend keepsFloor
+allowed-kind p s n c k e =
+    kind-elim (λ x. T (allowed p x c s)) n tt tt tt tt tt tt tt tt
+    (λ t. T-not (eqb n ADCMD·FREE) (and-right (not (eqb n ADCMD·ALLOCATE)) (not (eqb n ADCMD·FREE)) (k .sends)) t)
+    (λ t. subst (λ (x : ℕ). T (leb (p .floor) (c .prec) || eqb x 0)) (setprec-sets n c s t e)
+    (or-named (eqb n ADCMD·SETPREC) (leb (p .floor) (c .prec) || eqb (sets c s) 0) (k .high) t))
+    tt
+    (λ t. T-not (eqb n ADCMD·ALLOCATE) (and-left (not (eqb n ADCMD·ALLOCATE)) (not (eqb n ADCMD·FREE)) (k .sends)) t)
+    tt
+
+pub modest-kind : (p : Party) (n : ℕ) (c : Call) → T (modest p (COMMAND n) c) → T (modestly p (kind n) c)
+unfolding modestly modest
+modest-kind p n c m =
+    kind-elim (λ x. T (modestly p x c)) n tt tt tt tt tt tt tt tt (λ _. tt) (λ _. tt) tt (or-named (eqb n ADCMD·ALLOCATE) (leb (c .prec) (p .floor)) m) tt
+
+-- ---- the part of a part
+
+mask-twice : (p : Party) (c : Channel) → mask p (mask p c) ≡ mask p c
+unfolding mask
+mask-twice p c =
+    by-test (holds p c)
+    (λ t. simp (test-true (holds p c) t))
+    (λ t. simp (test-false (holds p c) t) (if-elim (λ (d : Channel). d ≡ free) (holds p free) (λ _. refl) (λ _. refl)))
+
+map-twice : (p : Party) (cs : List Channel) → map (mask p) (map (mask p) cs) ≡ map (mask p) cs
+map-twice p [] = refl
+map-twice p (c ∷ cs) = rw (mask-twice p c, map-twice p cs)
+
+pub view-part : (p : Party) (s : State) → view p (project p s) ≡ view p s
+unfolding view project
+view-part p s = map-twice p (s .channels)
+
+pub ownReplies-twice : (p : Party) (rs : List Reply) → ownReplies p (ownReplies p rs) ≡ ownReplies p rs
+unfolding ownReplies
+ownReplies-twice p rs = keep-twice (λ (r : Reply). p .mine (r .id)) rs
