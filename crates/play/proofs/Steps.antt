@@ -1,0 +1,175 @@
+-- WRITE and the event put together: what their calls ensure makes what they promise. Assumes nothing.
+use Prim.Native.Nat.{ℕ, zero, suc, _+_, _*_, _^_, _≤_, _<_}
+use mathlib.Core.Path.{_≡_, refl, ap, ap₂, sym, subst, _∙_}
+use mathlib.Core.Bool.{Bool, true, false, not, _&&_}
+use mathlib.Core.List.{List, [], _∷_, _++_, map}
+use native.Mathlib.Omega.{arith}
+use borrow.Author.Tests.{le-leb, lt-leb, leb-true, leb-false}
+use lib.Dec.{T, eqb, leb, eqb→eq}
+use lib.ListN.{length, getD, replicate}
+use Rattle.memory.specs.Splice.{splice}
+use Rattle.memory.proofs.Splice.{splice-none}
+use Rattle.queue.specs.Queue.{queueOf, pushed, removed}
+use Rattle.channel.specs.declared.Channel.{Channel}
+use Rattle.channel.specs.Channel.{channelOf, channelIn, lowestFrom, hasKey, withWrites}
+use Rattle.channel.proofs.Laws.{channelIn-of}
+use Rattle.table.specs.Entry.{idle, writeEntry, headBytes}
+use Rattle.reply.specs.Replies.{encode}
+use Rattle.machine.specs.Numbers.{NONE, NOALLOCATION}
+use Rattle.machine.specs.Lists.{if_then_else_, among}
+use Rattle.machine.specs.State.{Channel as ChannelM, State as StateM, Outcome as OutcomeM, free}
+use Rattle.machine.specs.Sound.{ids}
+use Rattle.machine.specs.Commands.{matches, done, pending, finished, silent, playing, doWrite, doEvent}
+use Rattle.machine.proofs.Tests.{and-left, and-right}
+use Rattle.store.specs.declared.State.{State}
+use Rattle.store.specs.Store.{structOf, tableOf, stateIn, Held}
+use Rattle.store.specs.Work.{Did}
+use Rattle.store.proofs.Store.{held-parts, held-four}
+use Rattle.answers.specs.declared.Request.{Request}
+use Rattle.answers.specs.declared.Answer.{Answer}
+use Rattle.answers.specs.declared.Outcome.{Outcome}
+use Rattle.answers.specs.Answers.{callOf, answerOf, Told}
+use Rattle.answers.proofs.Laws.{told-as}
+use Rattle.play.specs.Play.{placeOf, frontOf, withChannel, withFront}
+use Rattle.play.proofs.Laws.{matches-is}
+use Rattle.play.proofs.Queue.{channel-is, withBack, back-struct, back-table, back-room, front-struct, front-table, front-room}
+use Rattle.play.proofs.Outcomes.{write-none, write-other, write-own, front-is, front-none, event-none, event-still, event-ends}
+
+entry-of : (k k′ : ℕ) → k ≡ k′ → writeEntry k ≡ headBytes (record { command = 3; key = k′; map = 0; prec = 0; impatient = 0; n = 0 }) ++ replicate 16 0
+unfolding writeEntry
+entry-of k k′ e = ap (λ (x : ℕ). headBytes (record { command = 3; key = x; map = 0; prec = 0; impatient = 0; n = 0 }) ++ replicate 16 0) e
+
+-- ---- the place
+
+record Placed (k m i : ℕ) (cs : List Channel) : Type 0 where
+  low : i ≡ lowestFrom 4 m
+  own : hasKey k (getD cs i (channelOf free)) ≡ true
+
+placed : (k m : ℕ) (cs : List Channel) (i : ℕ) → i ≡ placeOf k m cs → i < 4 → Placed k m i cs
+unfolding placeOf
+placed k m cs i e h = go (leb 4 (lowestFrom 4 m)) (hasKey k (getD cs (lowestFrom 4 m) (channelOf free))) refl e
+  where
+    go : (a b : Bool) → hasKey k (getD cs (lowestFrom 4 m) (channelOf free)) ≡ b → i ≡ (if a then 4 else if b then lowestFrom 4 m else 4) → Placed k m i cs
+    go true b q p = absurd (omega arith)
+    go false true q p = record { low = p; own = rw p q }
+    go false false q p = absurd (omega arith)
+
+module _ {st : State} {tb : List ℕ} (h : Held st tb) (r : Request) where
+  s₀ : StateM
+  s₀ = stateIn st tb
+
+  own-is : (i : ℕ) → i < 4 → (b : Bool) → hasKey (r .key) (getD (st .channels) i (channelOf free)) ≡ b → matches (r .key) (getD (stateIn st tb .channels) i free) ≡ b
+  own-is i l b q = sym (ap (matches (r .key)) (channelIn-of (getD (stateIn st tb .channels) i free))) ∙ (sym (matches-is (r .key) (channelOf (getD (stateIn st tb .channels) i free))) ∙ (rw (← (channel-is h i l (channelOf free))) q))
+
+  pub write-refused : (i : ℕ) → i ≡ placeOf (r .key) (r .map) (st .channels) → 4 ≤ i
+      → doWrite (callOf r []) (stateIn st tb) ≡ finished 3 (callOf r []) (done NOALLOCATION 0 (r .key) NONE) [] (stateIn st tb)
+  unfolding placeOf
+  write-refused i e g = go (leb 4 (lowestFrom 4 (r .map))) refl (hasKey (r .key) (getD (st .channels) (lowestFrom 4 (r .map)) (channelOf free))) refl e
+    where
+      u : StateM
+      u = stateIn st tb
+
+      go : (a : Bool) → leb 4 (lowestFrom 4 (r .map)) ≡ a → (b : Bool) → hasKey (r .key) (getD (st .channels) (lowestFrom 4 (r .map)) (channelOf free)) ≡ b
+          → i ≡ (if a then 4 else if b then lowestFrom 4 (r .map) else 4) → doWrite (callOf r []) (stateIn st tb) ≡ finished 3 (callOf r []) (done NOALLOCATION 0 (r .key) NONE) [] (stateIn st tb)
+      go true p b q x = write-none (callOf r []) (stateIn st tb) (rw (held-four h) (leb-true 4 (lowestFrom 4 (r .map)) p))
+      go false p true q x = absurd (let z = leb-false 4 (lowestFrom 4 (r .map)) p in omega arith)
+      go false p false q x =
+          let z = leb-false 4 (lowestFrom 4 (r .map)) p in
+          write-other (callOf r []) (stateIn st tb) (lowestFrom 4 (r .map)) (rw (held-four h) refl) (rw (held-four h) z) (own-is (lowestFrom 4 (r .map)) z false q)
+
+  pub write-room : (i : ℕ) (d : Channel) → i < 4 → r .id < 64 → T (not (among (r .id) (ids (stateIn st tb)))) → getD (st .channels) i d .writes .n < 64
+  write-room i d l b n = rw (channel-is h i l d) (back-room (stateIn st tb) i (r .id) (held-parts h) b n)
+
+  pub write-told : {t : State} {a : Answer} {l tb′ : List ℕ} (i : ℕ) (c : Channel) (d : Channel) → i ≡ placeOf (r .key) (r .map) (st .channels) → i < 4
+      → r .id < 64 → T (not (among (r .id) (ids (stateIn st tb)))) → c ≡ getD (st .channels) i d
+      → a ≡ answerOf (pending (r .key)) → t ≡ withChannel i (withWrites (pushed (c .writes) (r .id)) c) st
+      → tb′ ≡ splice tb (r .id * 23) (headBytes (record { command = 3; key = r .key; map = 0; prec = 0; impatient = 0; n = 0 }) ++ replicate 16 0)
+      → Told (doWrite (callOf r []) (stateIn st tb)) l (record { answer = a; state = t; n = 0 }) tb′ l
+  unfolding silent
+  write-told {l = l} i c d e g b n ec ea et eb =
+      let p = placed (r .key) (r .map) (st .channels) i e g in
+      let m = own-is i g true (p .own) in
+      let cc = ec ∙ channel-is h i g d in
+      let k : getD (stateIn st tb .channels) i free .key ≡ r .key = key-of (r .key) (getD (stateIn st tb .channels) i free) m in
+      let w : writeEntry (getD (stateIn st tb .channels) i free .key) ≡ headBytes (record { command = 3; key = r .key; map = 0; prec = 0; impatient = 0; n = 0 }) ++ replicate 16 0 = entry-of _ _ k in
+      told-as (write-own (callOf r []) (stateIn st tb) i (rw (held-four h) (p .low)) (rw (held-four h) g) m)
+      (record {
+        answer = ea;
+        did = record {
+          struct = et ∙ back-struct h i g c (r .id) cc (back-room (stateIn st tb) i (r .id) (held-parts h) b n);
+          table =
+              eb
+              ∙ (ap (λ (x : List ℕ). splice tb (r .id * 23) x) (sym w)
+              ∙ (ap (λ (x : List ℕ). splice x (r .id * 23) (writeEntry (getD (stateIn st tb .channels) i free .key))) (h .table) ∙ back-table-as i g b n));
+          list = sym (splice-none l 0);
+          count = refl;
+        };
+      })
+    where
+      key-of : (q : ℕ) (x : ChannelM) → matches q x ≡ true → x .key ≡ q
+      key-of q x f = unfold matches in eqb→eq (x .key) q (and-right (not (eqb q 0)) (eqb (x .key) q) (subst T (sym f) tt))
+
+      back-table-as : (j : ℕ) → j < 4 → r .id < 64 → T (not (among (r .id) (ids (stateIn st tb))))
+          → splice (tableOf (stateIn st tb)) (r .id * 23) (writeEntry (getD (stateIn st tb .channels) j free .key)) ≡ tableOf (withBack j (r .id) (stateIn st tb))
+      back-table-as j y x z = back-table (stateIn st tb) j (r .id) (held-parts h) (rw (held-four h) y) x z
+
+-- ---- the front write ends
+
+module _ {st : State} {tb : List ℕ} (h : Held st tb) (i : ℕ) (g : i < 4) (c : Channel) (ec : c ≡ getD (st .channels) i (channelOf free)) (j : ℕ) (ej : j ≡ frontOf (channelIn c)) (small : j < 255) where
+  pub same-channel : c ≡ channelOf (getD (stateIn st tb .channels) i free)
+  same-channel = ec ∙ channel-is h i g (channelOf free)
+
+  held-front : j ≡ frontOf (getD (stateIn st tb .channels) i free)
+  held-front = ej ∙ (ap (λ (x : Channel). frontOf (channelIn x)) same-channel ∙ ap frontOf (channelIn-of (getD (stateIn st tb .channels) i free)))
+
+  pub front-at : (ws : List ℕ) × (getD (stateIn st tb .channels) i free .writes ≡ j ∷ ws) × (playing (getD (stateIn st tb .channels) i free) ≡ true)
+  front-at = front-is (getD (stateIn st tb .channels) i free) j held-front small
+
+  pub front-below : (length (front-at .0) < 64) × (j < 64)
+  front-below = front-room (stateIn st tb) i j (front-at .0) (held-parts h) (front-at .1)
+
+  pub front-held : (0 < c .writes .n) × (c .writes .n ≤ 64)
+  front-held =
+      let e : c .writes .n ≡ suc (length (front-at .0)) = ap (λ (x : Channel). x .writes .n) same-channel ∙ ap length (front-at .1) in
+      let f = front-below .0 in
+      (omega arith, omega arith)
+
+  pub end-did : {t : State} {tb′ l l′ : List ℕ} {b n : ℕ} → t ≡ withChannel i (withWrites (removed (c .writes) 0) c) st → tb′ ≡ splice tb (j * 23) idle
+      → l′ ≡ splice l (0 * 6) (encode (record { id = j; command = 3; error = 0; map = b; key = c .key })) → b ≡ 2 ^ i → n ≡ 0 + 1
+      → Did (withFront i (stateIn st tb)) (record { id = j; command = 3; error = 0; map = 2 ^ i; key = c .key } ∷ []) l 0 t tb′ l′ n
+  end-did {l = l} et eb el bb en =
+      record {
+        struct = et ∙ front-struct h i g c j (front-at .0) same-channel (front-at .1) (front-below .0);
+        table = eb ∙ (ap (λ (x : List ℕ). splice x (j * 23) idle) (h .table) ∙ front-table (stateIn st tb) i j (front-at .0) (held-parts h) (rw (held-four h) g) (front-at .1));
+        list = el ∙ ap (λ (x : ℕ). splice l 0 (encode (record { id = j; command = 3; error = 0; map = x; key = c .key }))) bb;
+        count = en;
+      }
+
+-- ---- the event
+
+module _ {st : State} {tb : List ℕ} (h : Held st tb) (r : Request) where
+  pub event-quiet : {a : Answer} {l : List ℕ} → a ≡ answerOf (done 0 0 (r .key) NONE) → doEvent (callOf r []) (stateIn st tb) ≡ silent (done 0 0 (r .key) NONE) [] (stateIn st tb)
+      → Told (doEvent (callOf r []) (stateIn st tb)) l (record { answer = a; state = st; n = 0 }) tb l
+  unfolding silent
+  event-quiet {l = l} ea e = told-as e (record { answer = ea; did = record { struct = h .struct; table = h .table; list = sym (splice-none l 0); count = refl } })
+
+  pub event-off : (i : ℕ) → i ≡ lowestFrom 4 (r .map) → 4 ≤ i → doEvent (callOf r []) (stateIn st tb) ≡ silent (done 0 0 (r .key) NONE) [] (stateIn st tb)
+  event-off i e g = event-none (callOf r []) (stateIn st tb) (rw (held-four h, ← e) g)
+
+  pub event-idle : (i : ℕ) (d : Channel) → i ≡ lowestFrom 4 (r .map) → i < 4 → 255 ≡ frontOf (channelIn (getD (st .channels) i d))
+      → doEvent (callOf r []) (stateIn st tb) ≡ silent (done 0 0 (r .key) NONE) [] (stateIn st tb)
+  event-idle i d e g f =
+      let c = getD (stateIn st tb .channels) i free in
+      let q : 255 ≡ frontOf c = f ∙ (ap (λ (x : Channel). frontOf (channelIn x)) (channel-is h i g d) ∙ ap frontOf (channelIn-of c)) in
+      event-still (callOf r []) (stateIn st tb) i (rw (held-four h) e) (rw (held-four h) g)
+      (front-none c q (λ j ws w. front-room (stateIn st tb) i j ws (held-parts h) w .1))
+
+  pub event-told : {o : Outcome} {tb′ l l′ : List ℕ} (i : ℕ) → i ≡ lowestFrom 4 (r .map) → (g : i < 4) (c : Channel) (ec : c ≡ getD (st .channels) i (channelOf free)) (j : ℕ) (ej : j ≡ frontOf (channelIn c)) (small : j < 255)
+      → o .answer ≡ answerOf (done 0 (2 ^ i) (r .key) NONE) → Did (withFront i (stateIn st tb)) (record { id = j; command = 3; error = 0; map = 2 ^ i; key = c .key } ∷ []) l 0 (o .state) tb′ l′ (o .n)
+      → Told (doEvent (callOf r []) (stateIn st tb)) l o tb′ l′
+  unfolding silent
+  event-told {o} {tb′} {l} {l′} i e g c ec j ej small ea d =
+      let f = front-at h i g c ec j ej small in
+      let k : c .key ≡ getD (stateIn st tb .channels) i free .key = ap (λ (x : Channel). x .key) (same-channel h i g c ec j ej small) in
+      told-as (event-ends (callOf r []) (stateIn st tb) i (rw (held-four h) e) (rw (held-four h) g) j (f .0) (f .2) (f .1))
+      (record { answer = ea; did = subst (λ (x : ℕ). Did (withFront i (stateIn st tb)) (record { id = j; command = 3; error = 0; map = 2 ^ i; key = x } ∷ []) l 0 (o .state) tb′ l′ (o .n)) k d })

@@ -1,0 +1,33 @@
+-- The front write of a channel, and a struct with one channel replaced.
+-- Assumes nothing.
+--
+--   frontOf c         the id at the front of the queue, or 255 if it is empty or the channel stopped
+--   placeOf k m cs    the place of the lowest channel that m names, where it has the key; 4 otherwise
+--   withFront i s     the state without the front write of channel i
+--   withChannel i c s the struct with channel i replaced
+use Prim.Native.Nat.{ℕ}
+use mathlib.Core.Bool.{Bool, true, false}
+use mathlib.Core.List.{List}
+use lib.Dec.{leb}
+use lib.ListN.{set, getD}
+use Rattle.machine.specs.Numbers.{NONE}
+use Rattle.machine.specs.Lists.{if_then_else_}
+use Rattle.machine.specs.State.{Channel as ChannelM, State as StateM, free, withChannels}
+use Rattle.machine.specs.Commands.{front, back, setWrites}
+use Rattle.channel.specs.declared.Channel.{Channel}
+use Rattle.channel.specs.Channel.{channelOf, hasKey, lowestFrom}
+use Rattle.store.specs.declared.State.{State}
+
+unfoldable pub frontOf : ChannelM → ℕ
+frontOf c = if c .stopped then NONE else front (c .writes)
+
+abbrev pub withChannel : ℕ → Channel → State → State
+withChannel i c s = record { channels = set (s .channels) i c; locks = s .locks; waiting = s .waiting; opens = s .opens; last = s .last }
+
+unfoldable pub placeOf : ℕ → ℕ → List Channel → ℕ
+placeOf k m cs =
+    let i = lowestFrom 4 m in
+    if leb 4 i then 4 else if hasKey k (getD cs i (channelOf free)) then i else 4
+
+abbrev pub withFront : ℕ → StateM → StateM
+withFront i s = withChannels (set (s .channels) i (setWrites (back (getD (s .channels) i free .writes)) (getD (s .channels) i free))) s
