@@ -27,7 +27,7 @@ use Rattle.store.specs.Store.{Item, writeItem, lockItem, waitItem, writeItems, 
 use Rattle.store.proofs.Table.{Ins, here, ins-left, ins-right, ins-at, entry-added, entry-removed, good-add}
 use Rattle.store.proofs.Store.{held-parts, held-four, good-of, keys-items, ids-few, small-ids}
 use Rattle.granting.proofs.Laws.{held-channels, small-left, small-right}
-use Rattle.play.specs.Play.{withChannel, withFront}
+use Rattle.play.specs.Play.{withChannel, withBack, withFront}
 
 -- ---- items of a channel's writes among the others
 
@@ -79,10 +79,6 @@ module _ (cs : List ChannelM) (i : ℕ) (h : i < length cs) where
 ins-state : (x : Item) (s t : StateM) → Ins x (writeItems (s .channels)) (writeItems (t .channels)) → t .locks ≡ s .locks → t .waiting ≡ s .waiting → Ins x (items s) (items t)
 unfolding items
 ins-state x s t i l w = rw (l, w) (ins-right (map waitItem (s .waiting)) (ins-right (map lockItem (s .locks)) i))
-
--- the state with one write more at the back of channel i
-abbrev pub withBack : ℕ → ℕ → StateM → StateM
-withBack i j s = withChannels (set (s .channels) i (setWrites (getD (s .channels) i free .writes ++ j ∷ []) (getD (s .channels) i free))) s
 
 entry-long : (k : ℕ) → length (writeEntry k) ≡ 23
 unfolding writeEntry

@@ -9,6 +9,7 @@ use lib.Dec.{T, eqb, leb, eqb→eq}
 use lib.ListN.{length, getD, replicate}
 use Rattle.memory.specs.Splice.{splice}
 use Rattle.memory.proofs.Splice.{splice-none}
+use Rattle.queue.specs.declared.Queue.{Queue}
 use Rattle.queue.specs.Queue.{queueOf, pushed, removed}
 use Rattle.channel.specs.declared.Channel.{Channel}
 use Rattle.channel.specs.Channel.{channelOf, channelIn, lowestFrom, hasKey, withWrites}
@@ -30,9 +31,9 @@ use Rattle.answers.specs.declared.Answer.{Answer}
 use Rattle.answers.specs.declared.Outcome.{Outcome}
 use Rattle.answers.specs.Answers.{callOf, answerOf, Told}
 use Rattle.answers.proofs.Laws.{told-as}
-use Rattle.play.specs.Play.{placeOf, frontOf, withChannel, withFront}
+use Rattle.play.specs.Play.{placeOf, frontOf, withChannel, withBack, withFront}
 use Rattle.play.proofs.Laws.{matches-is}
-use Rattle.play.proofs.Queue.{channel-is, withBack, back-struct, back-table, back-room, front-struct, front-table, front-room}
+use Rattle.play.proofs.Queue.{channel-is, back-struct, back-table, back-room, front-struct, front-table, front-room}
 use Rattle.play.proofs.Outcomes.{write-none, write-other, write-own, front-is, front-none, event-none, event-still, event-ends}
 
 entry-of : (k k′ : ℕ) → k ≡ k′ → writeEntry k ≡ headBytes (record { command = 3; key = k′; map = 0; prec = 0; impatient = 0; n = 0 }) ++ replicate 16 0
@@ -55,9 +56,6 @@ placed k m cs i e h = go (leb 4 (lowestFrom 4 m)) (hasKey k (getD cs (lowestFrom
     go false false q p = absurd (omega arith)
 
 module _ {st : State} {tb : List ℕ} (h : Held st tb) (r : Request) where
-  s₀ : StateM
-  s₀ = stateIn st tb
-
   own-is : (i : ℕ) → i < 4 → (b : Bool) → hasKey (r .key) (getD (st .channels) i (channelOf free)) ≡ b → matches (r .key) (getD (stateIn st tb .channels) i free) ≡ b
   own-is i l b q = sym (ap (matches (r .key)) (channelIn-of (getD (stateIn st tb .channels) i free))) ∙ (sym (matches-is (r .key) (channelOf (getD (stateIn st tb .channels) i free))) ∙ (rw (← (channel-is h i l (channelOf free))) q))
 
@@ -66,9 +64,6 @@ module _ {st : State} {tb : List ℕ} (h : Held st tb) (r : Request) where
   unfolding placeOf
   write-refused i e g = go (leb 4 (lowestFrom 4 (r .map))) refl (hasKey (r .key) (getD (st .channels) (lowestFrom 4 (r .map)) (channelOf free))) refl e
     where
-      u : StateM
-      u = stateIn st tb
-
       go : (a : Bool) → leb 4 (lowestFrom 4 (r .map)) ≡ a → (b : Bool) → hasKey (r .key) (getD (st .channels) (lowestFrom 4 (r .map)) (channelOf free)) ≡ b
           → i ≡ (if a then 4 else if b then lowestFrom 4 (r .map) else 4) → doWrite (callOf r []) (stateIn st tb) ≡ finished 3 (callOf r []) (done NOALLOCATION 0 (r .key) NONE) [] (stateIn st tb)
       go true p b q x = write-none (callOf r []) (stateIn st tb) (rw (held-four h) (leb-true 4 (lowestFrom 4 (r .map)) p))
@@ -80,27 +75,34 @@ module _ {st : State} {tb : List ℕ} (h : Held st tb) (r : Request) where
   pub write-room : (i : ℕ) (d : Channel) → i < 4 → r .id < 64 → T (not (among (r .id) (ids (stateIn st tb)))) → getD (st .channels) i d .writes .n < 64
   write-room i d l b n = rw (channel-is h i l d) (back-room (stateIn st tb) i (r .id) (held-parts h) b n)
 
-  pub write-told : {t : State} {a : Answer} {l tb′ : List ℕ} (i : ℕ) (c : Channel) (d : Channel) → i ≡ placeOf (r .key) (r .map) (st .channels) → i < 4
-      → r .id < 64 → T (not (among (r .id) (ids (stateIn st tb)))) → c ≡ getD (st .channels) i d
-      → a ≡ answerOf (pending (r .key)) → t ≡ withChannel i (withWrites (pushed (c .writes) (r .id)) c) st
+  pub join-struct : {t : State} {d : Channel} {q : Queue} (i : ℕ) (c : Channel) → i < 4 → r .id < 64 → T (not (among (r .id) (ids (stateIn st tb)))) → c ≡ getD (st .channels) i (channelOf free)
+      → q ≡ pushed (c .writes) (r .id) → d ≡ withWrites q c → t ≡ withChannel i d st → t ≡ structOf (withBack i (r .id) (stateIn st tb))
+  join-struct i c g b n ec eq ed et =
+      et
+      ∙ (ap (λ (x : Channel). withChannel i x st) (ed ∙ ap (λ (x : Queue). withWrites x c) eq)
+      ∙ back-struct h i g c (r .id) (ec ∙ channel-is h i g (channelOf free)) (back-room (stateIn st tb) i (r .id) (held-parts h) b n))
+
+  pub write-told : {t : State} {a : Answer} {l tb′ : List ℕ} (i : ℕ) → i ≡ placeOf (r .key) (r .map) (st .channels) → i < 4
+      → r .id < 64 → T (not (among (r .id) (ids (stateIn st tb))))
+      → a ≡ answerOf (pending (r .key)) → t ≡ structOf (withBack i (r .id) (stateIn st tb))
       → tb′ ≡ splice tb (r .id * 23) (headBytes (record { command = 3; key = r .key; map = 0; prec = 0; impatient = 0; n = 0 }) ++ replicate 16 0)
       → Told (doWrite (callOf r []) (stateIn st tb)) l (record { answer = a; state = t; n = 0 }) tb′ l
   unfolding silent
-  write-told {l = l} i c d e g b n ec ea et eb =
+  write-told {l = l} i e g b n ea et eb =
       let p = placed (r .key) (r .map) (st .channels) i e g in
       let m = own-is i g true (p .own) in
-      let cc = ec ∙ channel-is h i g d in
       let k : getD (stateIn st tb .channels) i free .key ≡ r .key = key-of (r .key) (getD (stateIn st tb .channels) i free) m in
-      let w : writeEntry (getD (stateIn st tb .channels) i free .key) ≡ headBytes (record { command = 3; key = r .key; map = 0; prec = 0; impatient = 0; n = 0 }) ++ replicate 16 0 = entry-of _ _ k in
+      let w = entry-of _ _ k in
       told-as (write-own (callOf r []) (stateIn st tb) i (rw (held-four h) (p .low)) (rw (held-four h) g) m)
       (record {
         answer = ea;
         did = record {
-          struct = et ∙ back-struct h i g c (r .id) cc (back-room (stateIn st tb) i (r .id) (held-parts h) b n);
+          struct = et;
           table =
               eb
               ∙ (ap (λ (x : List ℕ). splice tb (r .id * 23) x) (sym w)
-              ∙ (ap (λ (x : List ℕ). splice x (r .id * 23) (writeEntry (getD (stateIn st tb .channels) i free .key))) (h .table) ∙ back-table-as i g b n));
+              ∙ (ap (λ (x : List ℕ). splice x (r .id * 23) (writeEntry (getD (stateIn st tb .channels) i free .key))) (h .table)
+              ∙ back-table (stateIn st tb) i (r .id) (held-parts h) (rw (held-four h) g) b n));
           list = sym (splice-none l 0);
           count = refl;
         };
@@ -108,10 +110,6 @@ module _ {st : State} {tb : List ℕ} (h : Held st tb) (r : Request) where
     where
       key-of : (q : ℕ) (x : ChannelM) → matches q x ≡ true → x .key ≡ q
       key-of q x f = unfold matches in eqb→eq (x .key) q (and-right (not (eqb q 0)) (eqb (x .key) q) (subst T (sym f) tt))
-
-      back-table-as : (j : ℕ) → j < 4 → r .id < 64 → T (not (among (r .id) (ids (stateIn st tb))))
-          → splice (tableOf (stateIn st tb)) (r .id * 23) (writeEntry (getD (stateIn st tb .channels) j free .key)) ≡ tableOf (withBack j (r .id) (stateIn st tb))
-      back-table-as j y x z = back-table (stateIn st tb) j (r .id) (held-parts h) (rw (held-four h) y) x z
 
 -- ---- the front write ends
 

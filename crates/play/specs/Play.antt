@@ -3,11 +3,12 @@
 --
 --   frontOf c         the id at the front of the queue, or 255 if it is empty or the channel stopped
 --   placeOf k m cs    the place of the lowest channel that m names, where it has the key; 4 otherwise
+--   withBack i j s    the state with the write j at the back of channel i
 --   withFront i s     the state without the front write of channel i
 --   withChannel i c s the struct with channel i replaced
 use Prim.Native.Nat.{ℕ}
 use mathlib.Core.Bool.{Bool, true, false}
-use mathlib.Core.List.{List}
+use mathlib.Core.List.{List, [], _∷_, _++_}
 use lib.Dec.{leb}
 use lib.ListN.{set, getD}
 use Rattle.machine.specs.Numbers.{NONE}
@@ -28,6 +29,9 @@ unfoldable pub placeOf : ℕ → ℕ → List Channel → ℕ
 placeOf k m cs =
     let i = lowestFrom 4 m in
     if leb 4 i then 4 else if hasKey k (getD cs i (channelOf free)) then i else 4
+
+abbrev pub withBack : ℕ → ℕ → StateM → StateM
+withBack i j s = withChannels (set (s .channels) i (setWrites (getD (s .channels) i free .writes ++ j ∷ []) (getD (s .channels) i free))) s
 
 abbrev pub withFront : ℕ → StateM → StateM
 withFront i s = withChannels (set (s .channels) i (setWrites (back (getD (s .channels) i free .writes)) (getD (s .channels) i free))) s

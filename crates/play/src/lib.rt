@@ -9,19 +9,21 @@ use store::State;
 use table::Head;
 ghost use mathlib.Core.Path.{_≡_};
 ghost use mathlib.Core.Bool.{not};
-ghost use mathlib.Core.List.{[], _∷_, map as each};
+ghost use mathlib.Core.List.{[], _∷_, _++_, map as each};
 ghost use Prim.Native.Nat.{_+_, _*_, _≤_, _<_, _^_};
 ghost use lib.Dec.{T};
-ghost use lib.ListN.{length, getD};
+ghost use lib.ListN.{length, getD, replicate};
+ghost use Rattle.memory.specs.Splice.{splice};
+ghost use Rattle.table.specs.Entry.{headBytes};
 ghost use Rattle.machine.specs.Lists.{among};
 ghost use Rattle.machine.specs.State.{State as StateM, free};
 ghost use Rattle.machine.specs.Sound.{ids};
 ghost use Rattle.machine.specs.Commands.{done, doRead, doWrite, doEvent};
 ghost use Rattle.channel.specs.Channel.{channelIn, channelOf};
-ghost use Rattle.store.specs.Store.{stateIn};
+ghost use Rattle.store.specs.Store.{structOf, stateIn, Held};
 ghost use Rattle.store.specs.Work.{Ready, Did};
 ghost use Rattle.answers.specs.Answers.{callOf, answerOf, Told};
-ghost use Rattle.play.specs.Play.{frontOf, withChannel, placeOf, withFront};
+ghost use Rattle.play.specs.Play.{frontOf, withChannel, placeOf, withBack, withFront};
 
 // The front write; 255 where there is none or the channel is stopped.
 fn front(c: Channel) -> u8
@@ -104,6 +106,20 @@ pub fn write(r: Request, s: State, table: &mut [u8], replies: &mut [u8]) -> Outc
     }
     let cs = s.channels;
     let c = cs[i];
+    let t = join(r, s, table, i, c);
+    let a = answers::pending(r.key);
+    Outcome {
+        answer: a,
+        state: t,
+        n: 0,
+    }
+}
+
+// The write joins the queue of channel i, and its entry is written.
+fn join(r: Request, s: State, table: &mut [u8], i: usize, c: Channel) -> State
+    requires { ⌜ Held s (now table) × (i < 4) × (c ≡ getD (s .channels) i (channelOf free)) × (r .id < 64) × T (not (among (r .id) (ids (stateIn s (now table))))) ⌝ }
+    ensures { λ t. ⌜ (t ≡ structOf (withBack i (r .id) (stateIn s (now (table .entry))))) × (now (table .exit) ≡ splice (now (table .entry)) (r .id * 23) (headBytes (record { command = 3; key = r .key; map = 0; prec = 0; impatient = 0; n = 0 }) ++ replicate 16 0)) ⌝ }
+{
     table::put(
         table,
         r.id,
@@ -119,13 +135,7 @@ pub fn write(r: Request, s: State, table: &mut [u8], replies: &mut [u8]) -> Outc
     let q = c.writes;
     let q2 = q.push(r.id);
     let d = c.with_writes(q2);
-    let t = put_channel(s, i, d);
-    let a = answers::pending(r.key);
-    Outcome {
-        answer: a,
-        state: t,
-        n: 0,
-    }
+    put_channel(s, i, d)
 }
 
 pub fn event(r: Request, s: State, table: &mut [u8], replies: &mut [u8]) -> Outcome

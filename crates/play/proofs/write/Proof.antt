@@ -1,18 +1,14 @@
 -- `write` meets its contract: a caller's own channel gets the write; another's gives -10. Assumes nothing.
-use Rattle.queue.specs.declared.Queue.{Queue}
-use Rattle.channel.specs.declared.Channel.{Channel}
-use Rattle.channel.specs.Channel.{withWrites}
-use Rattle.play.specs.Play.{withChannel}
 use Prim.Native.Nat.{_≤_, _<_}
-use mathlib.Core.Path.{_≡_, refl, ap, sym, _∙_}
+use mathlib.Core.Path.{_≡_, refl, sym, _∙_}
 use mathlib.Core.List.{[]}
 use native.Mathlib.Omega.{arith}
 use lib.ListN.{length}
 use Rattle.memory.proofs.Splice.{splice-none}
 use Rattle.store.specs.Store.{stateIn}
-use Rattle.store.proofs.Store.{held-length}
 use Rattle.answers.proofs.Laws.{finished-of, finished-told, told-as}
-use Rattle.play.proofs.Steps.{write-refused, write-room, write-told}
+use Rattle.play.proofs.Laws.{getD-any}
+use Rattle.play.proofs.Steps.{write-refused, write-told}
 use borrow.Author.Needs.{needs}
 use Rattle.play.proofs.write.Statement.{statement}
 use Rattle.play.proofs.write.Tie as tie
@@ -21,11 +17,8 @@ use Rattle.play.proofs.write.Lts as lts
 use Rattle.answers.proofs.done.Reads as done-reads
 use Rattle.answers.proofs.finished.Reads as finished-reads
 use Rattle.answers.proofs.pending.Reads as pending-reads
-use Rattle.channel.proofs.Channel.with_writes.Reads as with-writes-reads
+use Rattle.play.proofs.join.Reads as join-reads
 use Rattle.play.proofs.place.Reads as place-reads
-use Rattle.play.proofs.put_channel.Reads as put-channel-reads
-use Rattle.queue.proofs.Queue.push.Reads as push-reads
-use Rattle.table.proofs.put.Reads as put-reads
 
 place-requires : tie.Need-place-requires
 place-requires c κs = c .before .before .pre .0 .held .four
@@ -53,19 +46,13 @@ mul-c c = search needs
 array-copy-out-c : tie.Need-array-copy-out-c
 array-copy-out-c c = search needs
 
-put-requires : tie.Need-put-requires
-put-requires c κs = let p = c .before .before .before .before .before .before .before .pre in (p .2, held-length (p .0 .held))
-
-push-requires : tie.Need-push-requires
-push-requires c κs =
-    let s = c .before .before .before .before .before .before .before .before .before .before .before in
-    write-room (s .pre .0 .held) (s .args .r) _ _ (search needs) (s .pre .2) (s .pre .3)
-
-with-writes-requires : tie.Need-with-writes-requires
-with-writes-requires c κs = search needs
-
-put-channel-requires : tie.Need-put-channel-requires
-put-channel-requires c κs = search needs
+join-requires : tie.Need-join-requires
+join-requires c κs =
+    let s = c .before .before .before .before .before .before .before in
+    let p = s .pre in
+    let n : c .before .before .before .before .place .result < 4 = c .before .before .before .if1 .left in
+    let g : c .before .before .before .before .place .result < length (s .args .s .channels) = rw (p .0 .held .four) n in
+    (p .0 .held, n, getD-any (s .args .s .channels) _ _ _ g, p .2, p .3)
 
 pending-requires : tie.Need-pending-requires
 pending-requires c κs = search needs
@@ -75,11 +62,11 @@ same-length-2 c = search needs
 
 returns-2 : tie.Need-returns-2
 returns-2 c =
-    let s = c .before .before .before .before .before .before .before .before .before .before .before .before .before .before .before in
+    let s = c .before .before .before .before .before .before .before .before .before .before .before in
     let p = s .pre in
-    let i : c .before .before .before .before .before .before .before .before .before .before .before .before .place .result < 4 = c .before .before .before .before .before .before .before .before .before .before .before .if1 .left in
-    write-told (p .0 .held) (s .args .r) _ _ _ (c .before .before .before .before .before .before .before .before .before .before .before .before .place .ensures) i (p .2) (p .3) refl (c .pending .ensures)
-    (c .before .put-channel .ensures ∙ ap (λ (x : Channel). withChannel (c .before .before .before .before .before .before .before .before .before .before .before .before .place .result) x (s .args .s)) (c .before .before .with-writes .ensures ∙ ap (λ (q : Queue). withWrites q _) (c .before .before .before .push .ensures))) (c .before .before .before .before .before .before .before .put .ensures)
+    let j = c .before .before .before .join .ensures in
+    let i : c .before .before .before .before .before .before .before .before .place .result < 4 = c .before .before .before .before .before .before .before .if1 .left in
+    write-told (p .0 .held) (s .args .r) _ (c .before .before .before .before .before .before .before .before .place .ensures) i (p .2) (p .3) (c .pending .ensures) (j .0) (j .1)
 
 pub write-spec : {M : Type 1} → statement M
 write-spec =
@@ -92,10 +79,7 @@ write-spec =
     returns
     mul-c
     array-copy-out-c
-    put-requires
-    push-requires
-    with-writes-requires
-    put-channel-requires
+    join-requires
     pending-requires
     same-length-2
     returns-2)
