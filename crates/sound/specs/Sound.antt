@@ -103,3 +103,8 @@ falling tb p (i ∷ is) = leb (requestIn tb i .prec) p && falling tb (requestIn 
 unfoldable pub restIdle : List ℕ → List ℕ → ℕ → Bool
 restIdle tb seen zero = true
 restIdle tb seen (suc n) = (not (eqb (getD seen n 0) 0) || same (block 23 tb n) idle) && restIdle tb seen n
+
+unfoldable pub soundTest : State → List ℕ → Bool
+soundTest st tb =
+    eqb (length tb) 1472 && shaped st && placedAll st tb .ok && falling tb 255 (listOf (st .waiting))
+    && restIdle tb (placedAll st tb .seen) 64

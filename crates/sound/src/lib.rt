@@ -387,3 +387,25 @@ fn rest_idle(table: &[u8], seen: [u8; 64]) -> bool
     }
     true
 }
+
+// Whether the struct and the table hold a sound state and are the ones that stand for it.
+pub fn sound(s: State, table: &[u8]) -> bool
+    ensures { λ r. ⌜ Decides r (Held s (now (table .entry))) ⌝ }
+{
+    if table.len() != 1472 {
+        return false;
+    }
+    if !shaped(s) {
+        return false;
+    }
+    let m = place_all(s, table);
+    if !m.ok {
+        return false;
+    }
+    let w = s.waiting;
+    if !falling(table, w) {
+        return false;
+    }
+    let seen = m.seen;
+    rest_idle(table, seen)
+}
