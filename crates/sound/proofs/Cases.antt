@@ -1,7 +1,7 @@
 -- Cases of the tests, as the code meets them. Assumes nothing.
-use Prim.Native.Nat.{ℕ, zero, suc, _+_, _-_, _*_, _/_, _%_, _≤_, _<_}
+use Prim.Native.Nat.{ℕ, zero, suc, _+_, _-_, _/_, _%_, _≤_, _<_}
 use mathlib.Core.Path.{_≡_, refl, ap, sym, _∙_}
-use mathlib.Core.Bool.{Bool, true, false, not, _&&_}
+use mathlib.Core.Bool.{Bool, true, false, _&&_}
 use mathlib.Core.List.{List, [], _∷_, _++_}
 use native.Mathlib.Omega.{arith}
 use borrow.Author.Tests.{eqb-true, ltb-true}
@@ -148,31 +148,43 @@ next-stop m f e = sym (ap (λ (b : Bool). if b then f (m .seen) else m) e)
 pub next-go : (m : Marks) (f : List ℕ → Marks) → m .ok ≡ true → f (m .seen) ≡ next m f
 next-go m f e = sym (ap (λ (b : Bool). if b then f (m .seen) else m) e)
 
+-- the walks over all places, each by its marks
+module _ (st : State) (tb : List ℕ) where
+  unfoldable pub waits-from : List ℕ → Marks
+  waits-from x = placed (waitTest tb) x (listOf (st .waiting))
+
+  unfoldable pub locks-from : List ℕ → Marks
+  locks-from x = placed (lockTest (st .channels) tb) x (listOf (st .locks))
+
+  abbrev pub after-writes : List ℕ → Marks
+  after-writes x = next (locks-from x) waits-from
+
+  unfoldable pub write-walks : Marks
+  write-walks = placedWrites tb (replicate 64 0) (st .channels)
+
+  pub all-walks : next write-walks after-writes ≡ placedAll st tb
+  unfolding placedAll write-walks locks-from waits-from
+  all-walks = refl
+
 module _ (st : State) (tb : List ℕ) {a : Marks} (first : a ≡ placedWrites tb (replicate 64 0) (st .channels)) where
-  waits : List ℕ → Marks
-  waits x = placed (waitTest tb) x (listOf (st .waiting))
-
-  locks : List ℕ → Marks
-  locks x = next (placed (lockTest (st .channels) tb) x (listOf (st .locks))) waits
-
-  from-first : next a locks ≡ placedAll st tb
-  unfolding placedAll locks waits
-  from-first = ap (λ (m : Marks). next m locks) first
+  from-first : next a (after-writes st tb) ≡ placedAll st tb
+  unfolding write-walks
+  from-first = ap (λ (m : Marks). next m (after-writes st tb)) first ∙ all-walks st tb
 
   pub all-first : a .ok ≡ false → a ≡ placedAll st tb
-  all-first e = next-stop a locks e ∙ from-first
+  all-first e = next-stop a (after-writes st tb) e ∙ from-first
 
   module _ (go : a .ok ≡ true) {b : Marks} (second : b ≡ placed (lockTest (st .channels) tb) (a .seen) (listOf (st .locks))) where
-    from-second : next b waits ≡ placedAll st tb
-    unfolding locks
-    from-second = ap (λ (m : Marks). next m waits) second ∙ next-go a locks go ∙ from-first
+    from-second : next b (waits-from st tb) ≡ placedAll st tb
+    unfolding locks-from
+    from-second = ap (λ (m : Marks). next m (waits-from st tb)) second ∙ next-go a (after-writes st tb) go ∙ from-first
 
     pub all-second : b .ok ≡ false → b ≡ placedAll st tb
-    all-second e = next-stop b waits e ∙ from-second
+    all-second e = next-stop b (waits-from st tb) e ∙ from-second
 
     pub all-third : {r : Marks} → b .ok ≡ true → r ≡ placed (waitTest tb) (b .seen) (listOf (st .waiting)) → r ≡ placedAll st tb
-    unfolding waits
-    all-third e third = third ∙ next-go b waits e ∙ from-second
+    unfolding waits-from
+    all-third e third = third ∙ next-go b (waits-from st tb) e ∙ from-second
 
 -- ---- the parts of the test of a struct
 

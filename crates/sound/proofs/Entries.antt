@@ -1,8 +1,8 @@
 -- The table by its entries: it is that of a state where each item's entry stands at its id, and zeros stand elsewhere.
 -- Assumes nothing.
-use Prim.Native.Nat.{ℕ, zero, suc, _+_, _*_, _≤_, _<_}
+use Prim.Native.Nat.{ℕ, zero, suc, _+_, _*_, _<_}
 use mathlib.Core.Path.{_≡_, refl, ap, ap₂, sym, subst, _∙_}
-use mathlib.Core.Bool.{Bool, true, false, not, _&&_, _||_}
+use mathlib.Core.Bool.{Bool, true, false, not, _||_}
 use mathlib.Core.List.{List, [], _∷_, _++_, map, map-id, append-nil}
 use native.Mathlib.Omega.{arith}
 use native.Mathlib.Nat.{zero-add, add-zero}
@@ -10,8 +10,8 @@ use lib.Dec.{T, eqb, ltb, eqb→eq, ltb→lt}
 use lib.ListN.{length, take, drop, getD, take-append-drop, length-drop}
 use lib.Seq.{drop-drop}
 use Rattle.memory.specs.Splice.{block}
-use Rattle.table.specs.Entry.{idle, writeEntry, lockEntry, waitEntry}
-use Rattle.machine.specs.Lists.{if_then_else_, any, all, among, distinct}
+use Rattle.table.specs.Entry.{idle}
+use Rattle.machine.specs.Lists.{any, all, among, distinct}
 use Rattle.machine.proofs.Tests.{and-left, and-right, and-both, nor-both, by-test, test-true, test-false}
 use Rattle.store.specs.Store.{Item, lookup, entries}
 use Rattle.store.proofs.Table.{keys, Long, block-entries}

@@ -1,34 +1,34 @@
 -- The test decides whether a struct and a table hold a sound state. Assumes nothing.
-use Prim.Native.Nat.{ℕ, zero, suc, _+_, _-_, _≤_, _<_, _^_}
+use Prim.Native.Nat.{ℕ, zero, suc, _+_, _-_, _≤_, _^_}
 use mathlib.Core.Path.{_≡_, refl, ap, ap₂, sym, subst, _∙_}
-use mathlib.Core.Bool.{Bool, true, false, not, _&&_, _||_}
+use mathlib.Core.Bool.{Bool, true, false, not, _&&_}
 use mathlib.Core.List.{List, [], _∷_, _++_, map, append-assoc, append-nil}
 use native.Mathlib.Omega.{arith}
 use borrow.Author.Tests.{eq-eqb, ne-eqb}
-use lib.Dec.{T, T-not, eqb, leb, ltb, eqb→eq, eqb-refl, leb→le, le→leb, ltb→lt}
-use lib.ListN.{length, take, drop, getD, replicate, length-append, length-take, length-drop, length-map, length-replicate, take-append-drop}
+use lib.Dec.{T, T-not, eqb, leb, ltb, eqb→eq, leb→le, le→leb}
+use lib.ListN.{length, drop, replicate, length-append, length-take, length-drop, length-map, take-append-drop}
 use lib.Seq.{drop-at}
 use Rattle.memory.specs.Splice.{block}
 use Rattle.queue.specs.declared.Queue.{Queue}
 use Rattle.queue.specs.Queue.{pad, queueOf, listOf}
-use Rattle.queue.proofs.Laws.{length-pad, listOf-queueOf}
+use Rattle.queue.proofs.Laws.{length-pad}
 use Rattle.channel.specs.declared.Channel.{Channel}
 use Rattle.channel.specs.Channel.{channelOf, channelIn}
 use Rattle.channel.proofs.Laws.{channelIn-of}
-use Rattle.table.specs.Entry.{idle, writeEntry, lockEntry, waitEntry}
-use Rattle.machine.specs.Lists.{if_then_else_, any, all, among, distinct}
-use Rattle.machine.specs.State.{Channel as ChannelM, Lock, Request, State as StateM, fresh}
-use Rattle.machine.specs.Sound.{sound, soundChannel, soundLock, soundRequest, inOrder, writesOf, ids}
+use Rattle.table.specs.Entry.{writeEntry, lockEntry, waitEntry}
+use Rattle.machine.specs.Lists.{all, among, distinct}
+use Rattle.machine.specs.State.{Channel as ChannelM, Lock, Request, fresh}
+use Rattle.machine.specs.Sound.{soundChannel, soundLock, soundRequest, inOrder, writesOf, ids}
 use Rattle.machine.proofs.Tests.{and-left, and-right, and-both, test-true, test-false, by-test}
 use Rattle.machine.proofs.Lists.{pigeon, Sub, sub-refl, sub-nil, sub-append, sub-all, sub-distinct}
-use Rattle.machine.proofs.Sound.{Parts, parts, unparts}
+use Rattle.machine.proofs.Sound.{Parts, unparts}
 use Rattle.store.specs.declared.State.{State}
-use Rattle.store.specs.Store.{structOf, Item, writeItem, lockItem, waitItem, writeItems, items, entries, tableOf, lockIn, requestIn, stateIn, Held}
+use Rattle.store.specs.Store.{structOf, writeItem, lockItem, waitItem, writeItems, items, tableOf, lockIn, requestIn, stateIn, Held}
 use Rattle.store.proofs.Table.{keys, lookup-none}
-use Rattle.store.proofs.Store.{Each, keys-items, parts-long, length-tableOf, block-tableOf, held-parts}
+use Rattle.store.proofs.Store.{keys-items, parts-long, length-tableOf, block-tableOf, held-parts}
 use Rattle.sound.specs.declared.Marks.{Marks}
 use Rattle.sound.specs.Sound.{Decides, isZero, tidy, good, shaped, same, placed, next, writeTest, lockTest, waitTest, placedWrites, placedAll, falling, restIdle, soundTest}
-use Rattle.sound.proofs.Cases.{same-eq, same-refl, Tidy, tidied, Shape, shape, unshape, next-stop, next-go}
+use Rattle.sound.proofs.Cases.{same-eq, same-refl, tidied, Shape, shape, unshape, next-stop, next-go, waits-from, locks-from, after-writes, write-walks, all-walks}
 use Rattle.sound.proofs.Walks.{Clean, clean-start, walk-clean, walk-ends}
 use Rattle.sound.proofs.Entries.{Stored, stored-append, stored-left, stored-right, stored-table, table-stored, rest-zero, zero-rest}
 
@@ -275,26 +275,15 @@ module _ (st : State) (tb : List ℕ) where
     pub locksOK : T (all (lockTest (st .channels) tb) (listOf (st .locks)))
     pub waitingOK : T (all (waitTest tb) (listOf (st .waiting)))
 
-  waits : List ℕ → Marks
-  waits x = placed (waitTest tb) x (listOf (st .waiting))
-
-  locks : List ℕ → Marks
-  locks x = placed (lockTest (st .channels) tb) x (listOf (st .locks))
-
-  first : Marks
-  first = placedWrites tb (replicate 64 0) (st .channels)
-
-  all-walks : placedAll st tb ≡ next first (λ x. next (locks x) waits)
-  unfolding placedAll first locks waits
-  all-walks = refl
-
   pub found : T (placedAll st tb .ok) → Found
-  unfolding first locks waits writes
+  unfolding write-walks locks-from waits-from writes
   found t =
-      let a = next-ok first (λ x. next (locks x) waits) (subst (λ (x : Marks). T (x .ok)) all-walks t) in
-      let f : placedAll st tb ≡ next (locks (first .seen)) waits = all-walks ∙ a .1 in
-      let b = next-ok (locks (first .seen)) waits (subst (λ (x : Marks). T (x .ok)) f t) in
-      let g : placedAll st tb ≡ waits (locks (first .seen) .seen) = f ∙ b .1 in
+      let m = write-walks st tb in
+      let a = next-ok m (after-writes st tb) (subst (λ (x : Marks). T (x .ok)) (sym (all-walks st tb)) t) in
+      let f : placedAll st tb ≡ after-writes st tb (m .seen) = sym (all-walks st tb) ∙ a .1 in
+      let k = locks-from st tb (m .seen) in
+      let b = next-ok k (waits-from st tb) (subst (λ (x : Marks). T (x .ok)) f t) in
+      let g : placedAll st tb ≡ waits-from st tb (k .seen) = f ∙ b .1 in
       let c1 = writes-clean tb [] (st .channels) clean-start (a .0) in
       let c2 = walk-clean (lockTest (st .channels) tb) writes (listOf (st .locks)) (c1 .0) (b .0) in
       let c3 = walk-clean (waitTest tb) (writes ++ listOf (st .locks)) (listOf (st .waiting)) (c2 .0) (subst (λ (x : Marks). T (x .ok)) g t) in
@@ -307,7 +296,7 @@ module _ (st : State) (tb : List ℕ) where
 
   pub ends : T (all (λ i. ltb i 64) (ids (stateIn st tb))) → T (distinct (ids (stateIn st tb))) → Stored tb (writeItems (map channelIn (st .channels)))
       → T (all (lockTest (st .channels) tb) (listOf (st .locks))) → T (all (waitTest tb) (listOf (st .waiting))) → T (placedAll st tb .ok)
-  unfolding first locks waits writes
+  unfolding write-walks locks-from waits-from writes
   ends a d s l w =
       let L = listOf (st .locks) in
       let W = listOf (st .waiting) in
@@ -322,22 +311,23 @@ module _ (st : State) (tb : List ℕ) where
       let t2 = walk-ends (lockTest (st .channels) tb) writes L (c1 .0) a2 d2 l in
       let c2 = walk-clean (lockTest (st .channels) tb) writes L (c1 .0) t2 in
       let t3 = walk-ends (waitTest tb) (writes ++ L) W (c2 .0) a3 d3 w in
-      let e : waits (locks (first .seen) .seen) ≡ placedAll st tb =
-      next-go (locks (first .seen)) waits (test-true (locks (first .seen) .ok) t2) ∙ next-go first (λ x. next (locks x) waits) (test-true (first .ok) t1) ∙ sym all-walks in
+      let m = write-walks st tb in
+      let k = locks-from st tb (m .seen) in
+      let e : waits-from st tb (k .seen) ≡ placedAll st tb = next-go k (waits-from st tb) (test-true (k .ok) t2) ∙ next-go m (after-writes st tb) (test-true (m .ok) t1) ∙ all-walks st tb in
       subst (λ (x : Marks). T (x .ok)) e t3
 
   -- ---- the test
 
-  pub record Passed : Type 0 where
+  pub record Checks : Type 0 where
     pub long : T (eqb (length tb) 1472)
     pub shapeOK : T (shaped st)
     pub placesOK : T (placedAll st tb .ok)
     pub orderOK : T (falling tb 255 (listOf (st .waiting)))
     pub restOK : T (restIdle tb (placedAll st tb .seen) 64)
 
-  passed : T (soundTest st tb) → Passed
+  checks : T (soundTest st tb) → Checks
   unfolding soundTest
-  passed t =
+  checks t =
       let a = eqb (length tb) 1472 in
       let b = shaped st in
       let d = placedAll st tb .ok in
@@ -354,9 +344,9 @@ module _ (st : State) (tb : List ℕ) where
         restOK = and-right (a && b && d && e) f t;
       }
 
-  unpassed : Passed → T (soundTest st tb)
+  test-of : Checks → T (soundTest st tb)
   unfolding soundTest
-  unpassed p =
+  test-of p =
       let a = eqb (length tb) 1472 in
       let b = shaped st in
       let d = placedAll st tb .ok in
@@ -366,15 +356,15 @@ module _ (st : State) (tb : List ℕ) where
       (and-both (a && b && d) e (and-both (a && b) d (and-both a b (p .long) (p .shapeOK)) (p .placesOK)) (p .orderOK))
       (p .restOK)
 
-  module _ (p : Passed) where
-    passed-four : length (st .channels) ≡ 4
-    passed-four = eqb→eq (length (st .channels)) 4 (shape st (p .shapeOK) .four)
+  module _ (p : Checks) where
+    checks-four : length (st .channels) ≡ 4
+    checks-four = eqb→eq (length (st .channels)) 4 (shape st (p .shapeOK) .four)
 
     four-in : length (map channelIn (st .channels)) ≡ 4
-    four-in = length-map (st .channels) channelIn ∙ passed-four
+    four-in = length-map (st .channels) channelIn ∙ checks-four
 
-    passed-parts : Parts (stateIn st tb)
-    passed-parts =
+    checks-parts : Parts (stateIn st tb)
+    checks-parts =
         let s = shape st (p .shapeOK) in
         let f = found (p .placesOK) in
         record {
@@ -390,17 +380,17 @@ module _ (st : State) (tb : List ℕ) where
           lastOK = s .lastOK;
         }
 
-    passed-struct : st ≡ structOf (stateIn st tb)
-    passed-struct =
+    checks-struct : st ≡ structOf (stateIn st tb)
+    checks-struct =
         let s = shape st (p .shapeOK) in
         let a = goods-in (st .channels) (s .channelsOK) .1 in
         let b : st .locks ≡ queueOf (map (λ (l : Lock). l .id) (map (lockIn tb) (listOf (st .locks)))) = tidy-queue (st .locks) (s .locksOK) ∙ ap queueOf (sym (lock-ids tb (listOf (st .locks)))) in
         let d : st .waiting ≡ queueOf (map (λ (r : Request). r .id) (map (requestIn tb) (listOf (st .waiting)))) = tidy-queue (st .waiting) (s .waitingOK) ∙ ap queueOf (sym (wait-ids tb (listOf (st .waiting)))) in
         λ i. record { channels = a i; locks = b i; waiting = d i; opens = st .opens; last = st .last }
 
-    passed-stored : Stored tb (items (stateIn st tb))
+    checks-stored : Stored tb (items (stateIn st tb))
     unfolding items
-    passed-stored =
+    checks-stored =
         let f = found (p .placesOK) in
         let l = stored-locks tb (st .channels) (listOf (st .locks)) (f .locksOK) .1 in
         let w = stored-waits tb (map channelIn (st .channels)) four-in (listOf (st .waiting)) (f .waitingOK) .1 in
@@ -408,15 +398,15 @@ module _ (st : State) (tb : List ℕ) where
         stored-append tb (writeItems (s .channels) ++ map lockItem (s .locks)) (map waitItem (s .waiting))
         (stored-append tb (writeItems (s .channels)) (map lockItem (s .locks)) (f .writesOK) l) w
 
-    passed-table : tb ≡ tableOf (stateIn st tb)
+    checks-table : tb ≡ tableOf (stateIn st tb)
     unfolding tableOf
-    passed-table =
+    checks-table =
         let f = found (p .placesOK) in
-        stored-table tb (items (stateIn st tb)) (eqb→eq (length tb) 1472 (p .long)) passed-stored
+        stored-table tb (items (stateIn st tb)) (eqb→eq (length tb) 1472 (p .long)) checks-stored
         (λ i h n. rest-zero tb (placedAll st tb .seen) 64 (p .restOK) i h (rw (f .clean .mean i h) (rw (keys-items (stateIn st tb)) at n)))
 
-    passed-held : Held st tb
-    passed-held = record { four = passed-four; sane = unparts (stateIn st tb) passed-parts; struct = passed-struct; table = passed-table }
+    checks-held : Held st tb
+    checks-held = record { four = checks-four; sane = unparts (stateIn st tb) checks-parts; struct = checks-struct; table = checks-table }
 
   module _ (h : Held st tb) where
     held : Parts (stateIn st tb)
@@ -458,8 +448,8 @@ module _ (st : State) (tb : List ℕ) where
         (locks-stored tb (st .channels) (listOf (st .locks)) (held .locksOK) (stored-right tb ws ls a))
         (waits-stored tb (map channelIn (st .channels)) (length-map (st .channels) channelIn ∙ h .four) (listOf (st .waiting)) (held .waitingOK) (stored-right tb (ws ++ ls) rs held-stored))
 
-    held-passed : Passed
-    held-passed =
+    held-checks : Checks
+    held-checks =
         let f = found held-places in
         let l = parts-long (stateIn st tb) held in
         let e : length tb ≡ 1472 = ap length (h .table) ∙ length-tableOf (stateIn st tb) l in
@@ -477,8 +467,8 @@ module _ (st : State) (tb : List ℕ) where
   -- the test and the definition agree
   pub decides : Decides (soundTest st tb) (Held st tb)
   decides = record {
-    only = λ e. passed-held (passed (yes-T (soundTest st tb) e));
-    always = λ h. test-true (soundTest st tb) (unpassed (held-passed h));
+    only = λ e. checks-held (checks (yes-T (soundTest st tb) e));
+    always = λ h. test-true (soundTest st tb) (test-of (held-checks h));
   }
 
   pub deciding : {r : Bool} → r ≡ soundTest st tb → Decides r (Held st tb)

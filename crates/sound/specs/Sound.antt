@@ -1,20 +1,23 @@
--- The test of a state handed in by anyone, as the code makes it; proofs/Laws.antt shows that it decides `Held`.
+-- The test of a state handed in by anyone, as the code makes it. proofs/Laws.antt shows that it decides `Held` (`decides`).
 -- Assumes nothing.
 --
---   Decides r P            the answer r is true where P holds, and only there
---   tidy q                 a queue: at most 64 ids, zeros behind them
---   good c, shaped st      a channel: its queue tidy, and sound by itself; a struct: all its channels and queues
---   same xs ys             two lists have the same elements
---   spare seen i           an id that the table has, and that was not seen
---   placed p seen is       a walk over ids: each is spare and passes the test p, and is marked as seen; it stops at one that fails
---   next m f               the next walk, with the marks of the walk before, unless that one stopped
---   writeTest, lockTest, waitTest     what the entry of an id in each place is asked
---   kindTest k             the same by the name of the place
---   placedWrites, placedAll           the walks over all places: writes by channel, locks, waiting requests
---   falling tb p is        the precedences of waiting requests, of which none is above the one before; the first is at most p
---   restIdle tb seen n     of the ids below n, those not seen have an entry of zeros
+--   Decides r P                    the answer r is true where P holds, and only there
+--   soundTest st tb                the whole test: the table's length, the struct, the outstanding ids, their order, the idle ids
+--   tidy q                         a queue: at most 64 ids, zeros behind them
+--   good c                         a channel: its queue tidy, and sound by itself
+--   shaped st                      a struct: its channels good, its queues tidy
+--   same xs ys                     two lists have the same elements
+--   spare seen i                   an id that the table has, and that was not seen
+--   placed p seen is               a walk over ids: each is spare and passes the test p, and is marked; it stops at one that fails
+--   next m f                       the walk f with the marks of the walk m, unless m stopped
+--   writeTest, lockTest, waitTest  what the entry of an id is asked in each place
+--   kindTest k                     the same by the name of the place
+--   placedWrites, placedAll        the walks over the writes of each channel; over all places
+--   falling tb p is                no waiting request has a precedence above the one before it; the first is at most p
+--   restIdle tb seen n             of the ids below n, those not seen have an entry of zeros
 --
--- Lengths of arrays and the ranges of numbers are part of the tests, though the types of the code see to them.
+-- The types of the code see to the lengths of arrays and the ranges of numbers. They are part of the tests all the same, so
+-- that a test says all that it stands for.
 use Prim.Native.Nat.{ℕ, zero, suc}
 use mathlib.Core.Path.{_≡_}
 use mathlib.Core.Bool.{Bool, true, false, not, _&&_, _||_}

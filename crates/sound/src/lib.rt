@@ -5,19 +5,18 @@ use channel::Channel;
 use queue::Queue;
 use store::State;
 ghost use mathlib.Core.Path.{_≡_};
-ghost use mathlib.Core.Bool.{true, _&&_, _||_, not};
+ghost use mathlib.Core.Bool.{_&&_};
 ghost use mathlib.Core.List.{map as each};
-ghost use Prim.Native.Nat.{_+_, _≤_, _<_};
+ghost use Prim.Native.Nat.{_≤_, _<_};
 ghost use lib.Dec.{T, eqb, ltb};
 ghost use lib.ListN.{length, drop, getD, replicate};
 ghost use Rattle.memory.specs.Splice.{block};
 ghost use Rattle.queue.specs.Queue.{listOf};
 ghost use Rattle.channel.specs.Channel.{channelIn};
-ghost use Rattle.table.specs.Entry.{idle, writeEntry, lockEntry, waitEntry};
+ghost use Rattle.table.specs.Entry.{lockEntry, waitEntry};
 ghost use Rattle.machine.specs.Lists.{if_then_else_, all};
-ghost use Rattle.machine.specs.State.{fresh};
 ghost use Rattle.machine.specs.Maps.{named};
-ghost use Rattle.machine.specs.Sound.{soundChannel, soundLock, soundRequest};
+ghost use Rattle.machine.specs.Sound.{soundChannel};
 ghost use Rattle.store.specs.Store.{lockIn, requestIn, Held};
 ghost use Rattle.sound.specs.Sound.{Decides, isZero, tidy as tidyM, good as goodM, shaped as shapedM, same as sameM, spare as spareM, placed, writeTest, lockTest, waitTest, kindTest, placedWrites, placedAll, falling as fallingM, restIdle};
 
@@ -36,6 +35,7 @@ enum Kind {
 
 // ---- the struct by itself
 
+// From `from` on every byte is 0.
 fn zeros(ids: [u8; 64], from: usize) -> bool
     requires { ⌜ from ≤ 64 ⌝ }
     ensures { λ r. ⌜ r ≡ all isZero (drop from ids) ⌝ }
@@ -50,10 +50,11 @@ fn zeros(ids: [u8; 64], from: usize) -> bool
     true
 }
 
+// At most 64 ids, zeros behind them.
 fn tidy(q: Queue) -> bool
     ensures { λ r. ⌜ r ≡ tidyM q ⌝ }
 {
-    if q.n > 64 {
+    if q.n > State::REQUESTS {
         return false;
     }
     let ids = q.ids;
@@ -132,6 +133,7 @@ fn same(table: &[u8], id: u8, want: [u8; 23]) -> bool
     true
 }
 
+// Whether the entry is that of a write with this key.
 fn is_write(table: &[u8], id: u8, key: u16) -> bool
     requires { ⌜ (id < 64) × (length (now table) ≡ 1472) ⌝ }
     ensures { λ r. ⌜ r ≡ writeTest key (now (table .entry)) id ⌝ }
@@ -143,6 +145,7 @@ fn is_write(table: &[u8], id: u8, key: u16) -> bool
     same(table, id, want)
 }
 
+// Whether the entry is that of the lock which can be read from it.
 fn is_lock(table: &[u8], id: u8) -> bool
     requires { ⌜ (id < 64) × (length (now table) ≡ 1472) ⌝ }
     ensures { λ r. ⌜ r ≡ sameM (block 23 (now (table .entry)) id) (lockEntry (lockIn (now (table .entry)) id)) ⌝ }
@@ -179,6 +182,7 @@ fn locked(cs: [Channel; 4], key: u16, map: u8) -> bool
     true
 }
 
+// A lock names channels, all of them locked and with its key, which is not 0.
 fn is_sound_lock(cs: [Channel; 4], table: &[u8], id: u8) -> bool
     requires { ⌜ (id < 64) × (length (now table) ≡ 1472) ⌝ }
     ensures { λ r. ⌜ r ≡ lockTest cs (now (table .entry)) id ⌝ }
@@ -188,7 +192,7 @@ fn is_sound_lock(cs: [Channel; 4], table: &[u8], id: u8) -> bool
     if map == 0 {
         return false;
     }
-    if map > 15 {
+    if map > State::TOP {
         return false;
     }
     if key == 0 {
@@ -203,7 +207,7 @@ fn low(combos: &[u8]) -> bool
 {
     let mut i: usize = 0;
     while i < combos.len() {
-        if combos[i] > 15 {
+        if combos[i] > State::TOP {
             return false;
         }
         i += 1;
@@ -217,7 +221,7 @@ fn flag(on: bool) -> u8
     if on { 1 } else { 0 }
 }
 
-// Whether the entry, which has at most 16 combinations, is all that is stored of a waiting request.
+// Whether the entry, of at most 16 combinations, is that of the waiting request which can be read from it.
 fn is_wait(table: &[u8], id: u8) -> bool
     requires { ⌜ (id < 64) × (length (now table) ≡ 1472) × (getD (block 23 (now table) id) 6 0 ≤ 16) ⌝ }
     ensures { λ r. ⌜ r ≡ sameM (block 23 (now (table .entry)) id) (waitEntry (requestIn (now (table .entry)) id)) ⌝ }
@@ -235,20 +239,22 @@ fn is_wait(table: &[u8], id: u8) -> bool
     same(table, id, want)
 }
 
+// A waiting request has 1 to 16 combinations, each at most 15.
 fn is_sound_wait(table: &[u8], id: u8) -> bool
     requires { ⌜ (id < 64) × (length (now table) ≡ 1472) ⌝ }
     ensures { λ r. ⌜ r ≡ waitTest (now (table .entry)) id ⌝ }
 {
-    let n = table::count(table, id);
+    let n = table::count(table, id) as usize;
     if n == 0 {
         return false;
     }
-    if n > 16 {
+    if n > State::COMBOS {
         return false;
     }
     low(table::combos(table, id)) && is_wait(table, id)
 }
 
+// Whether the entry is what the id's place asks for.
 fn kept(cs: [Channel; 4], table: &[u8], id: u8, kind: Kind) -> bool
     requires { ⌜ (id < 64) × (length (now table) ≡ 1472) ⌝ }
     ensures { λ r. ⌜ r ≡ kindTest kind cs (now (table .entry)) id ⌝ }
@@ -262,10 +268,11 @@ fn kept(cs: [Channel; 4], table: &[u8], id: u8, kind: Kind) -> bool
 
 // ---- the ids
 
+// Whether the table has the id, and it was not seen.
 fn spare(seen: [u8; 64], id: u8) -> bool
     ensures { λ r. ⌜ r ≡ spareM seen id ⌝ }
 {
-    if id >= 64 {
+    if id >= State::REQUESTS {
         return false;
     }
     let at = id as usize;
@@ -329,6 +336,7 @@ fn place_writes(cs: [Channel; 4], table: &[u8]) -> Marks
     }
 }
 
+// The ids of all places, one after another.
 fn place_all(s: State, table: &[u8]) -> Marks
     requires { ⌜ T (shapedM s) × (length (now table) ≡ 1472) ⌝ }
     ensures { λ r. ⌜ r ≡ placedAll s (now (table .entry)) ⌝ }
@@ -375,7 +383,7 @@ fn rest_idle(table: &[u8], seen: [u8; 64]) -> bool
     ensures { λ r. ⌜ r ≡ restIdle (now (table .entry)) seen 64 ⌝ }
 {
     let zero = [0u8; 23];
-    let mut i: u8 = 64;
+    let mut i = State::REQUESTS;
     while i > 0 {
         i -= 1;
         let at = i as usize;

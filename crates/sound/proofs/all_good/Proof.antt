@@ -1,7 +1,6 @@
 -- `all_good` meets its contract: the test of the channels left is the test of all. Assumes nothing.
 use Prim.Native.Nat.{_-_, _≤_}
 use mathlib.Core.Path.{_≡_, sym, _∙_}
-use native.Mathlib.Omega.{arith}
 use borrow.Author.Tests.{not-true, not-false, eq-eqb}
 use lib.ListN.{length}
 use Rattle.sound.specs.Sound.{good}
@@ -9,9 +8,6 @@ use Rattle.sound.proofs.Turns.{Passed, passed-start, passed-stop, passe
 use borrow.Author.Needs.{needs}
 use Rattle.sound.proofs.all_good.Statement.{statement}
 use Rattle.sound.proofs.all_good.Tie as tie
-use Rattle.sound.proofs.all_good.Reads as reads
-use Rattle.sound.proofs.all_good.Lts as lts
-use Rattle.sound.proofs.good.Reads as good-reads
 
 abbrev Inv-loop : tie.InvT-loop
 Inv-loop cs i₀ i = (i ≤ 4) × Passed good 0 cs i

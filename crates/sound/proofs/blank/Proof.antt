@@ -1,5 +1,4 @@
 -- `blank` meets its contract: each return is a case of the definition; the ranges are those of the types. Assumes nothing.
-use native.Mathlib.Omega.{arith}
 use borrow.Author.Tests.{le-leb, eq-eqb, ne-eqb}
 use Prim.Native.Nat.{_≤_}
 use mathlib.Core.Path.{_≡_}
@@ -9,8 +8,6 @@ use Rattle.sound.proofs.Cases.{none-written}
 use borrow.Author.Needs.{needs}
 use Rattle.sound.proofs.blank.Statement.{statement}
 use Rattle.sound.proofs.blank.Tie as tie
-use Rattle.sound.proofs.blank.Reads as reads
-use Rattle.sound.proofs.blank.Lts as lts
 
 returns : tie.Need-returns
 unfolding soundChannel

@@ -2,18 +2,11 @@
 use Prim.Native.Nat.{_<_}
 use mathlib.Core.Path.{_≡_}
 use lib.ListN.{length, length-map}
-use native.Mathlib.Omega.{arith}
 use borrow.Author.Tests.{eq-eqb, ne-eqb, lt-ltb, le-ltb}
 use Rattle.machine.specs.Sound.{soundLock}
 use Rattle.sound.specs.Sound.{lockTest}
 use Rattle.sound.proofs.is_sound_lock.Statement.{statement}
 use Rattle.sound.proofs.is_sound_lock.Tie as tie
-use Rattle.sound.proofs.is_sound_lock.Reads as reads
-use Rattle.sound.proofs.is_sound_lock.Lts as lts
-use Rattle.sound.proofs.is_lock.Reads as is-lock-reads
-use Rattle.sound.proofs.locked.Reads as locked-reads
-use Rattle.table.proofs.key.Reads as key-reads
-use Rattle.table.proofs.map.Reads as map-reads
 use borrow.Author.Needs.{needs}
 
 key-requires : tie.Need-key-requires

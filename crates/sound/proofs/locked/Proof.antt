@@ -11,10 +11,6 @@ use Rattle.sound.proofs.Turns.{Tested, tested-start, tested-stop, teste
 use borrow.Author.Needs.{needs}
 use Rattle.sound.proofs.locked.Statement.{statement}
 use Rattle.sound.proofs.locked.Tie as tie
-use Rattle.sound.proofs.locked.Reads as reads
-use Rattle.sound.proofs.locked.Lts as lts
-use Rattle.channel.proofs.names.Reads as names-reads
-use Rattle.sound.proofs.owned.Reads as owned-reads
 
 abbrev Inv-loop : tie.InvT-loop
 Inv-loop key map cs i₀ i = Tested (λ c. c .locked && eqb (c .key) key) map cs i

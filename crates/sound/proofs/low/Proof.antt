@@ -1,15 +1,12 @@
 -- `low` meets its contract: the test of the combinations left is the test of all. Assumes nothing.
 use Prim.Native.Nat.{_-_, _≤_, _<_}
 use borrow.Author.Tests.{lt-ltb, le-ltb}
-use native.Mathlib.Omega.{arith}
 use lib.ListN.{length, getD}
 use lib.Dec.{ltb}
 use Rattle.sound.proofs.Turns.{Passed, passed-start, passed-stop, passed-more, passed-end}
 use borrow.Author.Needs.{needs}
 use Rattle.sound.proofs.low.Statement.{statement}
 use Rattle.sound.proofs.low.Tie as tie
-use Rattle.sound.proofs.low.Reads as reads
-use Rattle.sound.proofs.low.Lts as lts
 
 abbrev Inv-loop : tie.InvT-loop
 Inv-loop combos i₀ i = Passed (λ m. ltb m 16) 0 combos i

@@ -1,9 +1,6 @@
 -- `owned` meets its contract: the code's two tests are the definition's two. Assumes nothing.
-use borrow.Author.Needs.{needs}
 use Rattle.sound.proofs.owned.Statement.{statement}
 use Rattle.sound.proofs.owned.Tie as tie
-use Rattle.sound.proofs.owned.Reads as reads
-use Rattle.sound.proofs.owned.Lts as lts
 
 returns : tie.Need-returns
 returns c = rw (c .before .if1 .taken)

@@ -8,9 +8,6 @@ use Rattle.sound.proofs.Turns.{Walked, walked-stop, walked-more, walked
 use Rattle.sound.proofs.Cases.{spare-small, and-true}
 use Rattle.sound.proofs.place.Statement.{statement}
 use Rattle.sound.proofs.place.Tie as tie
-use Rattle.sound.proofs.place.Reads as reads
-use Rattle.sound.proofs.place.Lts as lts
-use Rattle.sound.proofs.fits.Reads as fits-reads
 use borrow.Author.Needs.{needs}
 
 abbrev Inv-loop : tie.InvT-loop

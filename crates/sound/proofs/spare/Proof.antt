@@ -4,8 +4,6 @@ use Rattle.sound.specs.Sound.{spare}
 use borrow.Author.Needs.{needs}
 use Rattle.sound.proofs.spare.Statement.{statement}
 use Rattle.sound.proofs.spare.Tie as tie
-use Rattle.sound.proofs.spare.Reads as reads
-use Rattle.sound.proofs.spare.Lts as lts
 
 returns : tie.Need-returns
 unfolding spare

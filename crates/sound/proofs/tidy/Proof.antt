@@ -6,9 +6,6 @@ use Rattle.sound.specs.Sound.{tidy}
 use borrow.Author.Needs.{needs}
 use Rattle.sound.proofs.tidy.Statement.{statement}
 use Rattle.sound.proofs.tidy.Tie as tie
-use Rattle.sound.proofs.tidy.Reads as reads
-use Rattle.sound.proofs.tidy.Lts as lts
-use Rattle.sound.proofs.zeros.Reads as zeros-reads
 
 returns : tie.Need-returns
 unfolding tidy
