@@ -23,8 +23,8 @@ use Rattle.machine.proofs.Tests.{and-left, and-right, and-both, test-true, test
 use Rattle.machine.proofs.Lists.{pigeon, Sub, sub-refl, sub-nil, sub-append, sub-all, sub-distinct}
 use Rattle.machine.proofs.Sound.{Parts, unparts}
 use Rattle.store.specs.declared.State.{State}
-use Rattle.store.specs.Store.{structOf, writeItem, lockItem, waitItem, writeItems, items, tableOf, lockIn, requestIn, stateIn, Held}
-use Rattle.store.proofs.Table.{keys, lookup-none}
+use Rattle.store.specs.Store.{structOf, writeItem, lockItem, waitItem, writeItems, items, tableOf, lockIn, requestIn, stateIn, Held, keys}
+use Rattle.store.proofs.Table.{lookup-none}
 use Rattle.store.proofs.Store.{keys-items, parts-long, length-tableOf, block-tableOf, held-parts}
 use Rattle.sound.specs.declared.Marks.{Marks}
 use Rattle.sound.specs.Sound.{Decides, isZero, tidy, good, shaped, same, placed, next, writeTest, lockTest, waitTest, placedWrites, placedAll, falling, restIdle, soundTest}
