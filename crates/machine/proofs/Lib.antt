@@ -6,6 +6,7 @@ pub mod Choosing
 pub mod Sound
 pub mod Granting
 pub mod Settling
+pub mod Looking
 pub mod Refusals
 pub mod Commands
 pub mod Allocating
