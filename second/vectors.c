@@ -537,19 +537,21 @@ static void put_wish(const struct Wish *w)
     const char *board = CHANNELS == 4 ? "" : "-of-8";
     unsigned count = CHANNELS == 4 ? w->count : 1;
 
-    printf("\n-- %s\npub %s%s :\n    Computes\n", w->why, w->name, board);
+    printf("\n-- %s\nabbrev pub %s%s-vectors : List Vector\n%s%s-vectors =\n", w->why,
+           w->name, board, w->name, board);
     for (unsigned i = 0; i < count; i++) {
         find(w);
         put_remark();
-        printf("    %s(vector\n    ", i == 0 ? "(" : "∷ ");
+        printf("    %svector\n    ", i == 0 ? "" : "∷ ");
         put_state(&before);
         printf("\n    ");
         put_call();
         printf("\n    ");
         put_outcome();
-        printf(")\n");
+        printf("\n");
     }
-    printf("    ∷ [])\nunfolding machine\n%s%s = refl\n", w->name, board);
+    printf("    ∷ []\n\npub %s%s : Computes %s%s-vectors\nunfolding machine\n%s%s = refl\n",
+           w->name, board, w->name, board, w->name, board);
 }
 
 /* ---- Logs ---- */
@@ -600,7 +602,7 @@ static void put_log(const char *name)
     int c;
 
     arbiter_fresh(&after);
-    printf("\npub %s :\n    Answers\n    (", name);
+    printf("\nabbrev pub %s-lines : Talk\n%s-lines =\n    ", name, name);
     do {
         c = getchar();
         if (c != EOF && c != '\n') {
@@ -621,7 +623,8 @@ static void put_log(const char *name)
         }
         length = 0;
     } while (c != EOF);
-    printf("[])\nunfolding machine bytes page\n%s = refl\n", name);
+    printf("[]\n\npub %s : Answers %s-lines\nunfolding machine bytes page\n%s = refl\n", name, name,
+           name);
 }
 
 int main(int count, char **argument)

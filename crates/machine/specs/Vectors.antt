@@ -66,9 +66,9 @@ gets a rs s = record { answer = a; replies = rs; next = s }
 
 -- ---- Logs: second/generate, one of each style and two of the mix
 
-pub mixed :
-    Answers
-    (("0A1C000002000000", "A002000000FF" ∷ [])
+abbrev pub mixed-lines : Talk
+mixed-lines =
+    ("0A1C000002000000", "A002000000FF" ∷ [])
     ∷ ("F03440000000000B07040C0B0B040D010E0108", "A000070001FF" ∷ [])
     ∷ ("0A09000702000100", "C0090A00070001" ∷ "A000070001FF" ∷ [])
     ∷ ("F30A000100000100", "A000000001FF" ∷ [])
@@ -104,13 +104,15 @@ pub mixed :
     ∷ ("041D010303000200", "A000030002FF" ∷ [])
     ∷ ("F218410400000500", "A00000000500" ∷ [])
     ∷ ("20080003FE00020101", "C0082000010002" ∷ "A000010002FF" ∷ [])
-    ∷ [])
+    ∷ []
+
+pub mixed : Answers mixed-lines
 unfolding machine bytes page
 mixed = refl
 
-pub mixed-again :
-    Answers
-    (("F0300100FE000000", "A000000001FF" ∷ [])
+abbrev pub mixed-again-lines : Talk
+mixed-again-lines =
+    ("F0300100FE000000", "A000000001FF" ∷ [])
     ∷ ("0A18870003000000", "A000000000FF" ∷ [])
     ∷ ("0A1101D9FD000200", "A0FB000002FF" ∷ [])
     ∷ ("20360100FF0000030E0109", "A0000E0002FF" ∷ [])
@@ -146,13 +148,15 @@ pub mixed-again :
     ∷ ("0A04000DFD000400", "C0040AF6080004" ∷ "C03D200008000A" ∷ "A0F6080004FF" ∷ [])
     ∷ ("0A340008FD000A00", "C0340A0008000A" ∷ "A00008000AFF" ∷ [])
     ∷ ("20050004030005010C", "A100000005FF" ∷ [])
-    ∷ [])
+    ∷ []
+
+pub mixed-again : Answers mixed-again-lines
 unfolding machine bytes page
 mixed-again = refl
 
-pub of-locks :
-    Answers
-    (("F02C37000300000101", "A000010001FF" ∷ [])
+abbrev pub of-locks-lines : Talk
+of-locks-lines =
+    ("F02C37000300000101", "A000010001FF" ∷ [])
     ∷ ("202A0101FD0000060B06040D0401", "A000060002FF" ∷ [])
     ∷ ("202C0006FE00000A080B05040504020D02", "A007000000FF" ∷ [])
     ∷ ("093D000003000000", "C03D0900000000" ∷ "A000000000FF" ∷ [])
@@ -188,13 +192,15 @@ pub of-locks :
     ∷ ("093B400FFD000500", "C03703FE000005" ∷ "C01C03FE000005" ∷ "C0270D00000005" ∷ "C03B09000F0005" ∷ "C01E2000010005" ∷ "A0000F0005FF" ∷ [])
     ∷ ("0D3A410101000500", "A100000005FF" ∷ [])
     ∷ ("0D1F0101FE00", "A007000000FF" ∷ [])
-    ∷ [])
+    ∷ []
+
+pub of-locks : Answers of-locks-lines
 unfolding machine bytes page
 of-locks = refl
 
-pub of-nowait :
-    Answers
-    (("F039400003000003030301", "A000030001FF" ∷ [])
+abbrev pub of-nowait-lines : Talk
+of-nowait-lines =
+    ("F039400003000003030301", "A000030001FF" ∷ [])
     ∷ ("0D3A400303000100", "A100000001FF" ∷ [])
     ∷ ("20350107FE000102040E", "A000040001FF" ∷ [])
     ∷ ("09224106FE000100", "A000060001FF" ∷ [])
@@ -230,13 +236,15 @@ pub of-nowait :
     ∷ ("030C4002FD000100", "A100000001FF" ∷ [])
     ∷ ("0A3C0D0CFF000300", "A0000C0003FF" ∷ [])
     ∷ ("20044002FE00000301060C", "C00420F5000000" ∷ "A0F5000000FF" ∷ [])
-    ∷ [])
+    ∷ []
+
+pub of-nowait : Answers of-nowait-lines
 unfolding machine bytes page
 of-nowait = refl
 
-pub of-queues :
-    Answers
-    (("F03031000200000D030203030F0205080F0602000A", "A000030001FF" ∷ [])
+abbrev pub of-queues-lines : Talk
+of-queues-lines =
+    ("F03031000200000D030203030F0205080F0602000A", "A000030001FF" ∷ [])
     ∷ ("0330410200000100", "A100000001FF" ∷ [])
     ∷ ("03380103FD000100", "A100000001FF" ∷ [])
     ∷ ("032BCA02FE000100", "A100000001FF" ∷ [])
@@ -272,13 +280,15 @@ pub of-queues :
     ∷ ("0300000303000100", "A100000001FF" ∷ [])
     ∷ ("0307000801000200", "A100000002FF" ∷ [])
     ∷ ("030D410802000200", "A100000002FF" ∷ [])
-    ∷ [])
+    ∷ []
+
+pub of-queues : Answers of-queues-lines
 unfolding machine bytes page
 of-queues = refl
 
-pub of-many-writes :
-    Answers
-    (("F01C0101FE00000408040A01", "A000080001FF" ∷ [])
+abbrev pub of-many-writes-lines : Talk
+of-many-writes-lines =
+    ("F01C0101FE00000408040A01", "A000080001FF" ∷ [])
     ∷ ("032D8C087F000100", "A100000001FF" ∷ [])
     ∷ ("030E400803000100", "A100000001FF" ∷ [])
     ∷ ("032E0008F3000100", "A100000001FF" ∷ [])
@@ -313,13 +323,15 @@ pub of-many-writes :
     ∷ ("201D0104FD0000010B", "A100000000FF" ∷ [])
     ∷ ("032B000A00000100", "A100000001FF" ∷ [])
     ∷ ("03274008", "A007000000FF" ∷ [])
-    ∷ [])
+    ∷ []
+
+pub of-many-writes : Answers of-many-writes-lines
 unfolding machine bytes page
 of-many-writes = refl
 
-pub of-aborts :
-    Answers
-    (("F001000000000000", "A000000001FF" ∷ [])
+abbrev pub of-aborts-lines : Talk
+of-aborts-lines =
+    ("F001000000000000", "A000000001FF" ∷ [])
     ∷ ("0338010FFD000000", "A0F6000000FF" ∷ [])
     ∷ ("201A22000100000104", "C01A2000040002" ∷ "A000040002FF" ∷ [])
     ∷ ("092A010400000200", "A000040002FF" ∷ [])
@@ -355,13 +367,15 @@ pub of-aborts :
     ∷ ("203C010B64000000", "A000000006FF" ∷ [])
     ∷ ("F32D010AFF000500", "A000000005FF" ∷ [])
     ∷ ("F202010000000000", "A00000000000" ∷ [])
-    ∷ [])
+    ∷ []
+
+pub of-aborts : Answers of-aborts-lines
 unfolding machine bytes page
 of-aborts = refl
 
-pub of-precedences :
-    Answers
-    (("F0274000030000020008", "A000000001FF" ∷ [])
+abbrev pub of-precedences-lines : Talk
+of-precedences-lines =
+    ("F0274000030000020008", "A000000001FF" ∷ [])
     ∷ ("F3160108FE000000", "A000000000FF" ∷ [])
     ∷ ("F32B0101FD000000", "A000000000FF" ∷ [])
     ∷ ("20144100FE000000", "A000000002FF" ∷ [])
@@ -396,13 +410,15 @@ pub of-precedences :
     ∷ ("203001031400050101", "A000010005FF" ∷ [])
     ∷ ("0D180009FE0005000D180009FE000500", "A007000000FF" ∷ [])
     ∷ ("2018F80FF", "A007000000FF" ∷ [])
-    ∷ [])
+    ∷ []
+
+pub of-precedences : Answers of-precedences-lines
 unfolding machine bytes page
 of-precedences = refl
 
-pub of-refusals :
-    Answers
-    (("0D10400003000000", "A002000000FF" ∷ [])
+abbrev pub of-refusals-lines : Talk
+of-refusals-lines =
+    ("0D10400003000000", "A002000000FF" ∷ [])
     ∷ ("20240100FD00", "A007000000FF" ∷ [])
     ∷ ("5603010000000000", "A002000000FF" ∷ [])
     ∷ ("2024400064000004010B0202", "A002000000FF" ∷ [])
@@ -438,13 +454,15 @@ pub of-refusals :
     ∷ ("F10D410002000000", "A002000000FF" ∷ [])
     ∷ ("201240000300001110060A020E0203040F0402080408010C04", "A002000000FF" ∷ [])
     ∷ ("032A417C01000000", "A002000000FF" ∷ [])
-    ∷ [])
+    ∷ []
+
+pub of-refusals : Answers of-refusals-lines
 unfolding machine bytes page
 of-refusals = refl
 
-pub of-malformed-lines :
-    Answers
-    (("F02E01007E0000100102080F0E0801070C0602090B040403", "A000010001FF" ∷ [])
+abbrev pub of-malformed-lines-lines : Talk
+of-malformed-lines-lines =
+    ("F02E01007E0000100102080F0E0801070C0602090B040403", "A000010001FF" ∷ [])
     ∷ ("F00000010100000302050A", "A000020002FF" ∷ [])
     ∷ ("092F0101FE000100", "A000010001FF" ∷ [])
     ∷ ("203B010202000203020101", "A000010002FF" ∷ [])
@@ -476,13 +494,15 @@ pub of-malformed-lines :
     ∷ ("0D09010AFD000200", "A0F6000002FF" ∷ [])
     ∷ ("041E000F0200028B00000000000000000010000000000000040E0A0F060409040E070205010D040B08040E02080704010A0C060804080E04080E01000209080207020401080A0303040A09080D040504020102010B08040804020D0E060C04080108050202010C090D0A04020B0E0208020804080302020200010C01050A0E0C060704030A02020B0E0B010B0803050207020B", "C01E04F6070002" ∷ "A0F6070002FF" ∷ [])
     ∷ ("", "A007000000FF" ∷ [])
-    ∷ [])
+    ∷ []
+
+pub of-malformed-lines : Answers of-malformed-lines-lines
 unfolding machine bytes page
 of-malformed-lines = refl
 
-pub of-lists :
-    Answers
-    (("F0104002FD000000", "A000000001FF" ∷ [])
+abbrev pub of-lists-lines : Talk
+of-lists-lines =
+    ("F0104002FD000000", "A000000001FF" ∷ [])
     ∷ ("0127000002000000", "C0270100000000" ∷ "A000000000FF" ∷ [])
     ∷ ("093A0000FF000100", "C03A0900000001" ∷ "A000000001FF" ∷ [])
     ∷ ("0900000003000000", "C0000900000000" ∷ "A000000000FF" ∷ [])
@@ -518,13 +538,15 @@ pub of-lists :
     ∷ ("F2280008FD000600", "C02803FE000005" ∷ "A00000000601" ∷ [])
     ∷ ("20094108FE00001001010101010101010101010101010108", "A0F5000000FF" ∷ [])
     ∷ ("0D230106FF000900", "A100000009FF" ∷ [])
-    ∷ [])
+    ∷ []
+
+pub of-lists : Answers of-lists-lines
 unfolding machine bytes page
 of-lists = refl
 
-pub of-bytes :
-    Answers
-    (("2041DA024000000B090E08094E0C060706040B", "A004000000FF" ∷ [])
+abbrev pub of-bytes-lines : Talk
+of-bytes-lines =
+    ("2041DA024000000B090E08094E0C060706040B", "A004000000FF" ∷ [])
     ∷ ("08205D001900000E040A0A000F09050C040004050502", "A002000000FF" ∷ [])
     ∷ ("610D510C110000010F", "A002000000FF" ∷ [])
     ∷ ("4CCE0152A00000060F0707090E07", "A004000000FF" ∷ [])
@@ -560,17 +582,19 @@ pub of-bytes :
     ∷ ("E21329E5F6000005070107020C", "A0FD000000FF" ∷ [])
     ∷ ("0403A406ABE9940600090B06060A", "C00304F600E994" ∷ "A0F600E994FF" ∷ [])
     ∷ ("F159900E7A000000", "A000000000FF" ∷ [])
-    ∷ [])
+    ∷ []
+
+pub of-bytes : Answers of-bytes-lines
 unfolding machine bytes page
 of-bytes = refl
 
 -- ---- Calls on a board of four channels
 
 -- READ is done, and the walk follows
-pub reads-settle :
-    Computes
+abbrev pub reads-settle-vectors : List Vector
+reads-settle-vectors =
     -- READ: done, error 0, replies 1
-    ((vector
+    vector
     (stands (free ∷ chan 35086 127 false false [] ∷ free ∷ chan 2 129 true true [] ∷ [])
     ([])
     (wait 47 0 128 false (9 ∷ []) ∷ wait 20 2 126 false (1 ∷ 2 ∷ []) ∷ []) 2 1)
@@ -579,9 +603,9 @@ pub reads-settle :
     (reply 20 32 0 1 2 ∷ [])
     (stands (chan 2 126 false false [] ∷ chan 35086 127 false false [] ∷ free ∷ chan 2 129 true true [] ∷ [])
     ([])
-    (wait 47 0 128 false (9 ∷ []) ∷ []) 2 1)))
+    (wait 47 0 128 false (9 ∷ []) ∷ []) 2 1))
     -- READ: done, error 0, replies 2
-    ∷ (vector
+    ∷ vector
     (stands (free ∷ chan 65535 131 true false [] ∷ chan 65535 129 false false (63 ∷ []) ∷ chan 65535 128 false false [] ∷ [])
     (lock 30 65535 2 ∷ [])
     (wait 22 0 131 false (8 ∷ []) ∷ wait 3 65535 126 false (9 ∷ []) ∷ wait 38 65535 125 true (8 ∷ 1 ∷ []) ∷ []) 2 65534)
@@ -590,9 +614,9 @@ pub reads-settle :
     (reply 22 32 0 8 1 ∷ reply 38 32 0 1 65535 ∷ [])
     (stands (chan 65535 125 false false [] ∷ chan 65535 131 true false [] ∷ chan 65535 129 false false (63 ∷ []) ∷ chan 1 131 false false [] ∷ [])
     (lock 30 65535 2 ∷ [])
-    (wait 3 65535 126 false (9 ∷ []) ∷ []) 2 1)))
+    (wait 3 65535 126 false (9 ∷ []) ∷ []) 2 1))
     -- READ: done, error 0, replies 3
-    ∷ (vector
+    ∷ vector
     (stands (chan 65535 128 true true [] ∷ chan 3 129 false false [] ∷ chan 4 126 false false (47 ∷ []) ∷ chan 4 129 false false (17 ∷ []) ∷ [])
     (lock 40 65535 1 ∷ [])
     (wait 19 0 129 false (1 ∷ 1 ∷ []) ∷ wait 37 3 128 false (8 ∷ []) ∷ wait 55 0 128 true (7 ∷ 8 ∷ 4 ∷ []) ∷ wait 57 3 126 false (2 ∷ []) ∷ []) 1 2)
@@ -601,9 +625,9 @@ pub reads-settle :
     (reply 40 13 244 1 65535 ∷ reply 47 3 254 0 4 ∷ reply 55 32 0 4 5 ∷ [])
     (stands (chan 65535 128 true true [] ∷ chan 3 129 false false [] ∷ chan 5 128 false false [] ∷ chan 4 129 false false (17 ∷ []) ∷ [])
     ([])
-    (wait 19 0 129 false (1 ∷ 1 ∷ []) ∷ wait 37 3 128 false (8 ∷ []) ∷ wait 57 3 126 false (2 ∷ []) ∷ []) 1 5)))
+    (wait 19 0 129 false (1 ∷ 1 ∷ []) ∷ wait 37 3 128 false (8 ∷ []) ∷ wait 57 3 126 false (2 ∷ []) ∷ []) 1 5))
     -- READ: done, error 0, replies 2
-    ∷ (vector
+    ∷ vector
     (stands (chan 2 130 false false (45 ∷ 15 ∷ []) ∷ chan 24747 128 false true (0 ∷ []) ∷ chan 24747 131 true true (57 ∷ 37 ∷ []) ∷ chan 4 127 true true [] ∷ [])
     ([])
     (wait 40 4 127 true (1 ∷ 1 ∷ []) ∷ wait 16 0 127 false (3 ∷ []) ∷ wait 60 2 126 false (12 ∷ []) ∷ wait 38 0 125 false (1 ∷ 4 ∷ []) ∷ []) 65535 1)
@@ -612,9 +636,9 @@ pub reads-settle :
     (reply 26 2 0 2 24747 ∷ reply 40 32 245 0 4 ∷ [])
     (stands (chan 2 130 false false (45 ∷ 15 ∷ []) ∷ chan 24747 128 false true (0 ∷ []) ∷ chan 24747 131 true true (57 ∷ 37 ∷ []) ∷ chan 4 127 true true [] ∷ [])
     ([])
-    (wait 16 0 127 false (3 ∷ []) ∷ wait 60 2 126 false (12 ∷ []) ∷ wait 38 0 125 false (1 ∷ 4 ∷ []) ∷ []) 65535 1)))
+    (wait 16 0 127 false (3 ∷ []) ∷ wait 60 2 126 false (12 ∷ []) ∷ wait 38 0 125 false (1 ∷ 4 ∷ []) ∷ []) 65535 1))
     -- READ: done, error 0, replies 3
-    ∷ (vector
+    ∷ vector
     (stands (free ∷ chan 65535 255 false false [] ∷ chan 4 130 false true (39 ∷ []) ∷ chan 65535 126 false false [] ∷ [])
     ([])
     (wait 35 0 128 false (8 ∷ 4 ∷ []) ∷ wait 22 0 126 true (2 ∷ []) ∷ []) 1 1)
@@ -623,9 +647,9 @@ pub reads-settle :
     (reply 0 2 0 4 4 ∷ reply 35 32 0 8 2 ∷ reply 22 32 245 0 0 ∷ [])
     (stands (free ∷ chan 65535 255 false false [] ∷ chan 4 130 false true (39 ∷ []) ∷ chan 2 128 false false [] ∷ [])
     ([])
-    ([]) 1 2)))
+    ([]) 1 2))
     -- READ: done, error 0, replies 1
-    ∷ (vector
+    ∷ vector
     (stands (chan 24114 130 false true [] ∷ chan 24114 126 true true [] ∷ free ∷ chan 4 125 true false [] ∷ [])
     ([])
     (wait 35 4 127 true (0 ∷ []) ∷ wait 7 0 125 false (15 ∷ 2 ∷ []) ∷ []) 2 0)
@@ -634,16 +658,18 @@ pub reads-settle :
     (reply 35 32 0 0 4 ∷ [])
     (stands (chan 24114 130 false true [] ∷ chan 24114 126 true true [] ∷ free ∷ chan 4 125 true false [] ∷ [])
     ([])
-    (wait 7 0 125 false (15 ∷ 2 ∷ []) ∷ []) 2 0)))
-    ∷ [])
+    (wait 7 0 125 false (15 ∷ 2 ∷ []) ∷ []) 2 0))
+    ∷ []
+
+pub reads-settle : Computes reads-settle-vectors
 unfolding machine
 reads-settle = refl
 
 -- READ answers the front write, which the walk may end
-pub reads-find :
-    Computes
+abbrev pub reads-find-vectors : List Vector
+reads-find-vectors =
     -- READ: done, error 0, replies 3
-    ((vector
+    vector
     (stands (chan 1 126 true false (16 ∷ 45 ∷ []) ∷ chan 1 128 false false (34 ∷ []) ∷ free ∷ chan 1 126 false false [] ∷ [])
     ([])
     (wait 63 0 131 true (2 ∷ []) ∷ wait 44 0 127 true (14 ∷ 4 ∷ 7 ∷ 2 ∷ 2 ∷ 4 ∷ 1 ∷ 1 ∷ 2 ∷ 4 ∷ 11 ∷ 4 ∷ 8 ∷ 4 ∷ 15 ∷ 2 ∷ []) ∷ []) 1 65535)
@@ -652,9 +678,9 @@ pub reads-find :
     (reply 34 3 254 0 1 ∷ reply 63 32 0 2 2 ∷ reply 44 32 0 4 3 ∷ [])
     (stands (chan 1 126 true false (16 ∷ 45 ∷ []) ∷ chan 2 131 false false [] ∷ chan 3 127 false false [] ∷ chan 1 126 false false [] ∷ [])
     ([])
-    ([]) 1 3)))
+    ([]) 1 3))
     -- READ: done, error 0, replies 3
-    ∷ (vector
+    ∷ vector
     (stands (free ∷ chan 3 125 true false (53 ∷ []) ∷ chan 1 126 true false (10 ∷ []) ∷ chan 1 127 true false [] ∷ [])
     (lock 18 3 2 ∷ [])
     (wait 47 1 128 false (1 ∷ 1 ∷ 9 ∷ []) ∷ wait 43 0 127 false (11 ∷ 2 ∷ 7 ∷ []) ∷ wait 55 0 126 false (15 ∷ []) ∷ []) 1 0)
@@ -663,9 +689,9 @@ pub reads-find :
     (reply 19 2 0 2 3 ∷ reply 47 32 0 1 1 ∷ reply 18 13 244 2 3 ∷ [])
     (stands (chan 1 128 false false [] ∷ chan 3 125 true false (53 ∷ []) ∷ chan 1 126 true false (10 ∷ []) ∷ chan 1 127 true false [] ∷ [])
     ([])
-    (wait 43 0 127 false (11 ∷ 2 ∷ 7 ∷ []) ∷ wait 55 0 126 false (15 ∷ []) ∷ []) 1 0)))
+    (wait 43 0 127 false (11 ∷ 2 ∷ 7 ∷ []) ∷ wait 55 0 126 false (15 ∷ []) ∷ []) 1 0))
     -- READ: done, error 0, replies 5
-    ∷ (vector
+    ∷ vector
     (stands (chan 4 126 false false (8 ∷ 5 ∷ []) ∷ chan 65535 126 true false (61 ∷ 17 ∷ []) ∷ chan 65535 127 true true (35 ∷ []) ∷ chan 4 126 false false (15 ∷ 62 ∷ []) ∷ [])
     (lock 43 65535 4 ∷ [])
     (wait 19 4 130 false (4 ∷ 8 ∷ 8 ∷ []) ∷ wait 12 0 126 true (2 ∷ []) ∷ wait 1 0 126 false (15 ∷ 3 ∷ []) ∷ []) 2 65534)
@@ -674,9 +700,9 @@ pub reads-find :
     (reply 51 2 0 1 4 ∷ reply 15 3 254 0 4 ∷ reply 62 3 254 0 4 ∷ reply 19 32 0 8 4 ∷ reply 12 32 245 0 0 ∷ [])
     (stands (chan 4 126 false false (8 ∷ 5 ∷ []) ∷ chan 65535 126 true false (61 ∷ 17 ∷ []) ∷ chan 65535 127 true true (35 ∷ []) ∷ chan 4 130 false false [] ∷ [])
     (lock 43 65535 4 ∷ [])
-    (wait 1 0 126 false (15 ∷ 3 ∷ []) ∷ []) 2 65534)))
+    (wait 1 0 126 false (15 ∷ 3 ∷ []) ∷ []) 2 65534))
     -- READ: done, error 0, replies 2
-    ∷ (vector
+    ∷ vector
     (stands (chan 65535 131 true false [] ∷ free ∷ chan 65535 130 true false (35 ∷ 36 ∷ []) ∷ chan 2 125 false false (29 ∷ []) ∷ [])
     ([])
     (wait 20 2 127 false (4 ∷ []) ∷ wait 9 65535 126 false (15 ∷ []) ∷ wait 25 0 125 true (11 ∷ 8 ∷ []) ∷ wait 17 2 125 false (8 ∷ 5 ∷ 2 ∷ []) ∷ []) 1 65534)
@@ -685,16 +711,18 @@ pub reads-find :
     (reply 25 32 245 0 0 ∷ reply 17 32 0 2 2 ∷ [])
     (stands (chan 65535 131 true false [] ∷ chan 2 125 false false [] ∷ chan 65535 130 true false (35 ∷ 36 ∷ []) ∷ chan 2 125 false false (29 ∷ []) ∷ [])
     ([])
-    (wait 20 2 127 false (4 ∷ []) ∷ wait 9 65535 126 false (15 ∷ []) ∷ []) 1 65534)))
-    ∷ [])
+    (wait 20 2 127 false (4 ∷ []) ∷ wait 9 65535 126 false (15 ∷ []) ∷ []) 1 65534))
+    ∷ []
+
+pub reads-find : Computes reads-find-vectors
 unfolding machine
 reads-find = refl
 
 -- -10, and the walk follows
-pub mismatches-settle :
-    Computes
+abbrev pub mismatches-settle-vectors : List Vector
+mismatches-settle-vectors =
     -- SETPREC: done, error -10, replies 2
-    ((vector
+    vector
     (stands (free ∷ chan 19385 129 false true [] ∷ chan 2 126 false false (47 ∷ 32 ∷ []) ∷ free ∷ [])
     ([])
     (wait 49 19385 128 true (8 ∷ []) ∷ wait 23 0 127 true (8 ∷ 14 ∷ 10 ∷ []) ∷ []) 3 1)
@@ -703,9 +731,9 @@ pub mismatches-settle :
     (reply 49 32 0 8 19385 ∷ reply 23 32 245 0 0 ∷ [])
     (stands (free ∷ chan 19385 131 false true [] ∷ chan 2 126 false false (47 ∷ 32 ∷ []) ∷ chan 19385 128 false false [] ∷ [])
     ([])
-    ([]) 3 1)))
+    ([]) 3 1))
     -- LOCK: done, error -10, replies 3
-    ∷ (vector
+    ∷ vector
     (stands (chan 1 130 false false [] ∷ chan 2 128 false false (42 ∷ 5 ∷ []) ∷ free ∷ free ∷ [])
     ([])
     (wait 14 0 126 false (1 ∷ 4 ∷ 1 ∷ 8 ∷ 3 ∷ 1 ∷ 2 ∷ 8 ∷ 10 ∷ 1 ∷ 9 ∷ 1 ∷ 12 ∷ 3 ∷ 9 ∷ 0 ∷ []) ∷ wait 24 2 125 true (2 ∷ []) ∷ []) 2 0)
@@ -714,9 +742,9 @@ pub mismatches-settle :
     (reply 43 13 246 0 1 ∷ reply 14 32 0 4 3 ∷ reply 24 32 245 0 2 ∷ [])
     (stands (chan 1 130 false false [] ∷ chan 2 128 false false (42 ∷ 5 ∷ []) ∷ chan 3 126 false false [] ∷ free ∷ [])
     ([])
-    ([]) 2 3)))
+    ([]) 2 3))
     -- CLEAR: done, error -10, replies 2
-    ∷ (vector
+    ∷ vector
     (stands (chan 10 130 false false [] ∷ chan 2 255 false false (10 ∷ []) ∷ chan 2 129 true false (46 ∷ []) ∷ free ∷ [])
     ([])
     (wait 48 2 125 true (2 ∷ 0 ∷ []) ∷ wait 34 0 125 false (1 ∷ []) ∷ []) 1 9)
@@ -725,9 +753,9 @@ pub mismatches-settle :
     (reply 44 5 246 0 10 ∷ reply 48 32 0 0 2 ∷ [])
     (stands (chan 10 130 false false [] ∷ chan 2 255 false false (10 ∷ []) ∷ chan 2 129 true false (46 ∷ []) ∷ free ∷ [])
     ([])
-    (wait 34 0 125 false (1 ∷ []) ∷ []) 1 9)))
+    (wait 34 0 125 false (1 ∷ []) ∷ []) 1 9))
     -- LOCK: done, error -10, replies 3
-    ∷ (vector
+    ∷ vector
     (stands (chan 59511 127 false false (11 ∷ []) ∷ free ∷ chan 59511 127 true true (1 ∷ 57 ∷ []) ∷ free ∷ [])
     ([])
     (wait 31 59511 130 true (13 ∷ []) ∷ wait 37 0 129 true (1 ∷ []) ∷ []) 1 1)
@@ -736,9 +764,9 @@ pub mismatches-settle :
     (reply 41 13 246 0 3 ∷ reply 11 3 254 0 59511 ∷ reply 37 32 0 1 2 ∷ [])
     (stands (chan 2 129 false false [] ∷ free ∷ chan 59511 127 true true (1 ∷ 57 ∷ []) ∷ free ∷ [])
     ([])
-    (wait 31 59511 130 true (13 ∷ []) ∷ []) 1 2)))
+    (wait 31 59511 130 true (13 ∷ []) ∷ []) 1 2))
     -- SETPREC: done, error -10, replies 3
-    ∷ (vector
+    ∷ vector
     (stands (chan 1 131 true false [] ∷ chan 2 127 false false [] ∷ chan 2 127 true false (52 ∷ 53 ∷ []) ∷ chan 2 129 false false [] ∷ [])
     (lock 36 1 1 ∷ [])
     (wait 44 0 127 true (2 ∷ 4 ∷ 2 ∷ []) ∷ wait 61 1 125 true (10 ∷ 1 ∷ 4 ∷ 11 ∷ 13 ∷ 15 ∷ 1 ∷ 5 ∷ 3 ∷ 8 ∷ 8 ∷ 4 ∷ 8 ∷ 1 ∷ 8 ∷ 2 ∷ []) ∷ []) 1 0)
@@ -747,9 +775,9 @@ pub mismatches-settle :
     (reply 57 10 246 0 65535 ∷ reply 44 32 245 0 0 ∷ reply 61 32 245 0 1 ∷ [])
     (stands (chan 1 131 true false [] ∷ chan 2 127 false false [] ∷ chan 2 127 true false (52 ∷ 53 ∷ []) ∷ chan 2 129 false false [] ∷ [])
     (lock 36 1 1 ∷ [])
-    ([]) 1 0)))
+    ([]) 1 0))
     -- SETPREC: done, error -10, replies 3
-    ∷ (vector
+    ∷ vector
     (stands (chan 65535 128 false true [] ∷ chan 1 130 false true (23 ∷ 50 ∷ []) ∷ chan 65535 126 false false [] ∷ chan 4 0 false false (51 ∷ []) ∷ [])
     ([])
     (wait 60 0 255 false (0 ∷ []) ∷ wait 27 4 128 true (8 ∷ []) ∷ wait 32 0 128 true (4 ∷ 8 ∷ 7 ∷ 13 ∷ 6 ∷ 4 ∷ 1 ∷ 2 ∷ 1 ∷ 7 ∷ 2 ∷ 1 ∷ 2 ∷ 14 ∷ 4 ∷ 4 ∷ []) ∷ wait 41 1 126 false (14 ∷ 9 ∷ []) ∷ []) 2 65535)
@@ -758,9 +786,9 @@ pub mismatches-settle :
     (reply 60 32 0 0 2 ∷ reply 27 32 245 0 4 ∷ reply 32 32 0 4 3 ∷ [])
     (stands (chan 65535 128 false true [] ∷ chan 1 130 false true (23 ∷ 50 ∷ []) ∷ chan 3 128 false false [] ∷ chan 4 128 false false (51 ∷ []) ∷ [])
     ([])
-    (wait 41 1 126 false (14 ∷ 9 ∷ []) ∷ []) 2 3)))
+    (wait 41 1 126 false (14 ∷ 9 ∷ []) ∷ []) 2 3))
     -- LOCK: done, error -10, replies 5
-    ∷ (vector
+    ∷ vector
     (stands (chan 2 127 true false [] ∷ chan 2 126 false false (14 ∷ 38 ∷ []) ∷ free ∷ chan 2 126 false false [] ∷ [])
     (lock 33 2 1 ∷ [])
     (wait 55 2 127 false (6 ∷ 8 ∷ 12 ∷ []) ∷ wait 58 2 126 true (1 ∷ 2 ∷ []) ∷ []) 1 1)
@@ -769,9 +797,9 @@ pub mismatches-settle :
     (reply 53 13 246 0 2 ∷ reply 14 3 254 0 2 ∷ reply 38 3 254 0 2 ∷ reply 55 32 0 6 2 ∷ reply 58 32 245 0 2 ∷ [])
     (stands (chan 2 127 true false [] ∷ chan 2 127 false false [] ∷ chan 2 127 false false [] ∷ chan 2 126 false false [] ∷ [])
     (lock 33 2 1 ∷ [])
-    ([]) 1 1)))
+    ([]) 1 1))
     -- FREE: done, error -10, replies 3
-    ∷ (vector
+    ∷ vector
     (stands (free ∷ chan 2 129 false false (51 ∷ []) ∷ chan 2 127 false false [] ∷ chan 4 131 false true (23 ∷ 32 ∷ []) ∷ [])
     ([])
     (wait 24 65535 255 false (2 ∷ 2 ∷ []) ∷ wait 59 0 128 false (2 ∷ []) ∷ wait 60 0 127 false (8 ∷ 8 ∷ 5 ∷ []) ∷ wait 15 4 126 false (7 ∷ 4 ∷ 8 ∷ []) ∷ []) 3 1)
@@ -780,16 +808,18 @@ pub mismatches-settle :
     (reply 2 9 246 0 65535 ∷ reply 51 3 254 0 2 ∷ reply 24 32 0 2 65535 ∷ [])
     (stands (free ∷ chan 65535 255 false false [] ∷ chan 2 127 false false [] ∷ chan 4 131 false true (23 ∷ 32 ∷ []) ∷ [])
     ([])
-    (wait 59 0 128 false (2 ∷ []) ∷ wait 60 0 127 false (8 ∷ 8 ∷ 5 ∷ []) ∷ wait 15 4 126 false (7 ∷ 4 ∷ 8 ∷ []) ∷ []) 3 1)))
-    ∷ [])
+    (wait 59 0 128 false (2 ∷ []) ∷ wait 60 0 127 false (8 ∷ 8 ∷ 5 ∷ []) ∷ wait 15 4 126 false (7 ∷ 4 ∷ 8 ∷ []) ∷ []) 3 1))
+    ∷ []
+
+pub mismatches-settle : Computes mismatches-settle-vectors
 unfolding machine
 mismatches-settle = refl
 
 -- CLEAR or UPDATE does nothing, and the walk follows
-pub clears-settle :
-    Computes
+abbrev pub clears-settle-vectors : List Vector
+clears-settle-vectors =
     -- CLEAR: done, error 0, replies 3
-    ((vector
+    vector
     (stands (chan 65535 130 false false [] ∷ chan 65535 255 true false [] ∷ free ∷ free ∷ [])
     (lock 32 65535 2 ∷ [])
     (wait 23 0 126 true (8 ∷ []) ∷ wait 63 0 125 true (15 ∷ 2 ∷ 2 ∷ []) ∷ []) 3 65534)
@@ -798,9 +828,9 @@ pub clears-settle :
     (reply 17 5 0 1 65535 ∷ reply 23 32 0 8 1 ∷ reply 63 32 245 0 0 ∷ [])
     (stands (chan 65535 130 false false [] ∷ chan 65535 255 true false [] ∷ free ∷ chan 1 126 false false [] ∷ [])
     (lock 32 65535 2 ∷ [])
-    ([]) 3 1)))
+    ([]) 3 1))
     -- UPDATE: done, error 0, replies 3
-    ∷ (vector
+    ∷ vector
     (stands (chan 60431 130 true false [] ∷ chan 60431 131 false false [] ∷ chan 1 128 true false (43 ∷ 44 ∷ []) ∷ chan 1 125 false true (3 ∷ []) ∷ [])
     ([])
     (wait 13 0 128 true (0 ∷ 15 ∷ []) ∷ wait 14 60431 127 false (13 ∷ 2 ∷ 2 ∷ []) ∷ wait 4 0 0 true (15 ∷ 1 ∷ 3 ∷ []) ∷ []) 1 0)
@@ -809,9 +839,9 @@ pub clears-settle :
     (reply 49 4 0 2 60431 ∷ reply 13 32 0 0 2 ∷ reply 4 32 245 0 0 ∷ [])
     (stands (chan 60431 130 true false [] ∷ chan 60431 131 false false [] ∷ chan 1 128 true false (43 ∷ 44 ∷ []) ∷ chan 1 125 false true (3 ∷ []) ∷ [])
     ([])
-    (wait 14 60431 127 false (13 ∷ 2 ∷ 2 ∷ []) ∷ []) 1 2)))
+    (wait 14 60431 127 false (13 ∷ 2 ∷ 2 ∷ []) ∷ []) 1 2))
     -- CLEAR: done, error 0, replies 4
-    ∷ (vector
+    ∷ vector
     (stands (free ∷ chan 3 127 false false [] ∷ chan 65535 126 false false [] ∷ chan 65535 131 true false [] ∷ [])
     (lock 43 65535 8 ∷ [])
     (wait 62 0 131 true (11 ∷ 0 ∷ []) ∷ wait 9 2 130 false (2 ∷ []) ∷ wait 30 2 126 false (6 ∷ 4 ∷ 2 ∷ []) ∷ wait 47 0 125 false (4 ∷ 1 ∷ []) ∷ []) 3 2)
@@ -820,9 +850,9 @@ pub clears-settle :
     (reply 33 5 0 12 65535 ∷ reply 62 32 0 0 4 ∷ reply 9 32 0 2 2 ∷ reply 47 32 0 1 5 ∷ [])
     (stands (chan 5 125 false false [] ∷ chan 2 130 false false [] ∷ chan 65535 126 false false [] ∷ chan 65535 131 true false [] ∷ [])
     (lock 43 65535 8 ∷ [])
-    (wait 30 2 126 false (6 ∷ 4 ∷ 2 ∷ []) ∷ []) 3 5)))
+    (wait 30 2 126 false (6 ∷ 4 ∷ 2 ∷ []) ∷ []) 3 5))
     -- UPDATE: done, error 0, replies 4
-    ∷ (vector
+    ∷ vector
     (stands (chan 43615 126 false false [] ∷ chan 2 255 true false (19 ∷ []) ∷ chan 1 125 false false (44 ∷ 50 ∷ []) ∷ free ∷ [])
     ([])
     (wait 49 0 131 false (10 ∷ []) ∷ wait 27 2 131 false (4 ∷ []) ∷ []) 3 65535)
@@ -831,9 +861,9 @@ pub clears-settle :
     (reply 28 4 0 1 43615 ∷ reply 44 3 254 0 1 ∷ reply 50 3 254 0 1 ∷ reply 27 32 0 4 2 ∷ [])
     (stands (chan 43615 126 false false [] ∷ chan 2 255 true false (19 ∷ []) ∷ chan 2 131 false false [] ∷ free ∷ [])
     ([])
-    (wait 49 0 131 false (10 ∷ []) ∷ []) 3 65535)))
+    (wait 49 0 131 false (10 ∷ []) ∷ []) 3 65535))
     -- UPDATE: done, error 0, replies 1
-    ∷ (vector
+    ∷ vector
     (stands (chan 4 131 false false (43 ∷ 54 ∷ []) ∷ chan 1 127 false false [] ∷ chan 65535 130 false false [] ∷ chan 1 127 false false (55 ∷ 7 ∷ []) ∷ [])
     ([])
     (wait 56 4 131 false (1 ∷ 2 ∷ []) ∷ []) 1 0)
@@ -842,9 +872,9 @@ pub clears-settle :
     (reply 56 32 0 2 4 ∷ [])
     (stands (chan 4 131 false false (43 ∷ 54 ∷ []) ∷ chan 4 131 false false [] ∷ chan 65535 130 false false [] ∷ chan 1 127 false false (55 ∷ 7 ∷ []) ∷ [])
     ([])
-    ([]) 1 0)))
+    ([]) 1 0))
     -- CLEAR: done, error 0, replies 4
-    ∷ (vector
+    ∷ vector
     (stands (chan 65535 126 true false (56 ∷ []) ∷ chan 2 131 false false (22 ∷ 38 ∷ []) ∷ chan 65535 127 false false [] ∷ chan 65535 127 false false (32 ∷ []) ∷ [])
     ([])
     (wait 57 2 131 true (12 ∷ 4 ∷ []) ∷ wait 34 0 126 false (1 ∷ 8 ∷ 2 ∷ 1 ∷ 8 ∷ 1 ∷ 1 ∷ 8 ∷ 2 ∷ 4 ∷ 3 ∷ 4 ∷ 1 ∷ 4 ∷ 2 ∷ 4 ∷ []) ∷ wait 10 0 126 false (10 ∷ []) ∷ wait 5 0 125 true (8 ∷ 8 ∷ []) ∷ []) 2 1)
@@ -853,16 +883,18 @@ pub clears-settle :
     (reply 11 5 0 13 65535 ∷ reply 32 3 254 0 65535 ∷ reply 57 32 0 12 2 ∷ reply 5 32 245 0 0 ∷ [])
     (stands (chan 65535 126 true false (56 ∷ []) ∷ chan 2 131 false false (22 ∷ 38 ∷ []) ∷ chan 2 131 false false [] ∷ chan 2 131 false false [] ∷ [])
     ([])
-    (wait 34 0 126 false (1 ∷ 8 ∷ 2 ∷ 1 ∷ 8 ∷ 1 ∷ 1 ∷ 8 ∷ 2 ∷ 4 ∷ 3 ∷ 4 ∷ 1 ∷ 4 ∷ 2 ∷ 4 ∷ []) ∷ wait 10 0 126 false (10 ∷ []) ∷ []) 2 1)))
-    ∷ [])
+    (wait 34 0 126 false (1 ∷ 8 ∷ 2 ∷ 1 ∷ 8 ∷ 1 ∷ 1 ∷ 8 ∷ 2 ∷ 4 ∷ 3 ∷ 4 ∷ 1 ∷ 4 ∷ 2 ∷ 4 ∷ []) ∷ wait 10 0 126 false (10 ∷ []) ∷ []) 2 1))
+    ∷ []
+
+pub clears-settle : Computes clears-settle-vectors
 unfolding machine
 clears-settle = refl
 
 -- "not aborted", and the walk follows
-pub not-aborted-settles :
-    Computes
+abbrev pub not-aborted-settles-vectors : List Vector
+not-aborted-settles-vectors =
     -- ABORT: done, error 0, replies 3
-    ((vector
+    vector
     (stands (chan 3 129 true false [] ∷ chan 3 127 false false [] ∷ chan 3 128 true false (21 ∷ 61 ∷ []) ∷ free ∷ [])
     (lock 59 3 1 ∷ lock 43 3 5 ∷ [])
     (wait 63 0 130 false (11 ∷ 7 ∷ []) ∷ wait 54 0 128 true (4 ∷ 5 ∷ 11 ∷ []) ∷ wait 50 3 125 false (3 ∷ 14 ∷ 13 ∷ []) ∷ []) 2 2)
@@ -871,9 +903,9 @@ pub not-aborted-settles :
     (reply 59 13 244 1 3 ∷ reply 43 13 244 5 3 ∷ reply 54 32 245 0 0 ∷ [])
     (stands (chan 3 129 true false [] ∷ chan 3 127 false false [] ∷ chan 3 128 true false (21 ∷ 61 ∷ []) ∷ free ∷ [])
     ([])
-    (wait 63 0 130 false (11 ∷ 7 ∷ []) ∷ wait 50 3 125 false (3 ∷ 14 ∷ 13 ∷ []) ∷ []) 2 2)))
+    (wait 63 0 130 false (11 ∷ 7 ∷ []) ∷ wait 50 3 125 false (3 ∷ 14 ∷ 13 ∷ []) ∷ []) 2 2))
     -- ABORT: done, error 0, replies 3
-    ∷ (vector
+    ∷ vector
     (stands (chan 2 129 true true (18 ∷ []) ∷ chan 2 130 true false (4 ∷ 56 ∷ []) ∷ chan 65535 125 false false [] ∷ chan 65535 131 false false (32 ∷ []) ∷ [])
     (lock 36 2 2 ∷ [])
     (wait 54 0 131 false (8 ∷ 0 ∷ []) ∷ wait 62 0 128 true (4 ∷ 1 ∷ 9 ∷ []) ∷ wait 21 0 125 true (2 ∷ []) ∷ []) 3 1)
@@ -882,9 +914,9 @@ pub not-aborted-settles :
     (reply 54 32 0 0 3 ∷ reply 62 32 0 4 4 ∷ reply 21 32 245 0 0 ∷ [])
     (stands (chan 2 129 true true (18 ∷ []) ∷ chan 2 130 true false (4 ∷ 56 ∷ []) ∷ chan 4 128 false false [] ∷ chan 65535 131 false false (32 ∷ []) ∷ [])
     (lock 36 2 2 ∷ [])
-    ([]) 3 4)))
+    ([]) 3 4))
     -- ABORT: done, error 0, replies 1
-    ∷ (vector
+    ∷ vector
     (stands (chan 2 129 false false [] ∷ chan 42082 126 false true (21 ∷ []) ∷ chan 2 129 false true (25 ∷ []) ∷ chan 2 128 true false [] ∷ [])
     (lock 61 2 8 ∷ [])
     (wait 38 2 127 true (1 ∷ []) ∷ []) 2 65535)
@@ -893,9 +925,9 @@ pub not-aborted-settles :
     (reply 38 32 245 0 2 ∷ [])
     (stands (chan 2 129 false false [] ∷ chan 42082 126 false true (21 ∷ []) ∷ chan 2 129 false true (25 ∷ []) ∷ chan 2 128 true false [] ∷ [])
     (lock 61 2 8 ∷ [])
-    ([]) 2 65535)))
+    ([]) 2 65535))
     -- ABORT: done, error 0, replies 2
-    ∷ (vector
+    ∷ vector
     (stands (free ∷ chan 65535 127 false false [] ∷ chan 65535 127 true false (1 ∷ 57 ∷ []) ∷ chan 65535 126 true true [] ∷ [])
     ([])
     (wait 29 0 130 true (8 ∷ 4 ∷ 1 ∷ []) ∷ wait 34 65535 130 true (7 ∷ []) ∷ wait 60 65535 125 false (8 ∷ 2 ∷ 3 ∷ []) ∷ []) 65535 1)
@@ -904,9 +936,9 @@ pub not-aborted-settles :
     (reply 29 32 0 1 2 ∷ reply 34 32 245 0 65535 ∷ [])
     (stands (chan 2 130 false false [] ∷ chan 65535 127 false false [] ∷ chan 65535 127 true false (1 ∷ 57 ∷ []) ∷ chan 65535 126 true true [] ∷ [])
     ([])
-    (wait 60 65535 125 false (8 ∷ 2 ∷ 3 ∷ []) ∷ []) 65535 2)))
+    (wait 60 65535 125 false (8 ∷ 2 ∷ 3 ∷ []) ∷ []) 65535 2))
     -- ABORT: done, error 0, replies 4
-    ∷ (vector
+    ∷ vector
     (stands (free ∷ chan 65535 131 false false [] ∷ chan 3 130 true false (2 ∷ 41 ∷ []) ∷ chan 65535 128 false true (54 ∷ 53 ∷ []) ∷ [])
     (lock 60 3 4 ∷ [])
     (wait 59 0 129 true (4 ∷ 2 ∷ 8 ∷ []) ∷ wait 7 0 126 true (2 ∷ 2 ∷ 1 ∷ []) ∷ wait 11 0 126 false (7 ∷ []) ∷ []) 2 65534)
@@ -915,9 +947,9 @@ pub not-aborted-settles :
     (reply 54 3 254 0 65535 ∷ reply 53 3 254 0 65535 ∷ reply 59 32 0 8 1 ∷ reply 7 32 0 1 2 ∷ [])
     (stands (chan 2 126 false false [] ∷ chan 65535 131 false false [] ∷ chan 3 130 true false (2 ∷ 41 ∷ []) ∷ chan 1 129 false false [] ∷ [])
     (lock 60 3 4 ∷ [])
-    (wait 11 0 126 false (7 ∷ []) ∷ []) 2 2)))
+    (wait 11 0 126 false (7 ∷ []) ∷ []) 2 2))
     -- ABORT: done, error 0, replies 4
-    ∷ (vector
+    ∷ vector
     (stands (chan 2 125 false true (58 ∷ []) ∷ chan 2 129 false false [] ∷ chan 3 130 true false [] ∷ chan 3 125 false false (50 ∷ []) ∷ [])
     (lock 33 3 4 ∷ [])
     (wait 18 2 131 false (0 ∷ []) ∷ wait 29 0 131 false (4 ∷ 8 ∷ 1 ∷ 8 ∷ 4 ∷ 2 ∷ 2 ∷ 8 ∷ 4 ∷ 3 ∷ 2 ∷ 13 ∷ 1 ∷ 4 ∷ 3 ∷ 1 ∷ []) ∷ wait 60 11181 129 true (11 ∷ 8 ∷ []) ∷ wait 15 3 128 false (8 ∷ 4 ∷ 2 ∷ []) ∷ []) 1 1)
@@ -926,16 +958,18 @@ pub not-aborted-settles :
     (reply 18 32 0 0 2 ∷ reply 50 3 254 0 3 ∷ reply 29 32 0 8 4 ∷ reply 60 32 245 0 11181 ∷ [])
     (stands (chan 2 125 false true (58 ∷ []) ∷ chan 2 129 false false [] ∷ chan 3 130 true false [] ∷ chan 4 131 false false [] ∷ [])
     (lock 33 3 4 ∷ [])
-    (wait 15 3 128 false (8 ∷ 4 ∷ 2 ∷ []) ∷ []) 1 4)))
-    ∷ [])
+    (wait 15 3 128 false (8 ∷ 4 ∷ 2 ∷ []) ∷ []) 1 4))
+    ∷ []
+
+pub not-aborted-settles : Computes not-aborted-settles-vectors
 unfolding machine
 not-aborted-settles = refl
 
 -- ABORT ends one, and the walk follows
-pub aborted-settles :
-    Computes
+abbrev pub aborted-settles-vectors : List Vector
+aborted-settles-vectors =
     -- ABORT: done, error 0, replies 3
-    ((vector
+    vector
     (stands (chan 10 131 false false (31 ∷ []) ∷ chan 10 125 false false [] ∷ chan 10 125 true true [] ∷ free ∷ [])
     ([])
     (wait 44 65535 128 true (14 ∷ 15 ∷ 4 ∷ 11 ∷ 1 ∷ 8 ∷ 2 ∷ 1 ∷ 10 ∷ 8 ∷ 2 ∷ 11 ∷ 12 ∷ 8 ∷ 4 ∷ 9 ∷ []) ∷ wait 12 0 128 false (2 ∷ []) ∷ wait 59 0 125 false (1 ∷ 15 ∷ []) ∷ []) 2 9)
@@ -944,9 +978,9 @@ pub aborted-settles :
     (reply 59 32 254 0 0 ∷ reply 44 32 0 8 65535 ∷ reply 12 32 0 2 11 ∷ [])
     (stands (chan 10 131 false false (31 ∷ []) ∷ chan 11 128 false false [] ∷ chan 10 125 true true [] ∷ chan 65535 128 false false [] ∷ [])
     ([])
-    ([]) 2 11)))
+    ([]) 2 11))
     -- ABORT: done, error 0, replies 2
-    ∷ (vector
+    ∷ vector
     (stands (chan 10 131 true false [] ∷ free ∷ free ∷ free ∷ [])
     (lock 60 10 1 ∷ [])
     (wait 19 0 128 false (1 ∷ 1 ∷ 4 ∷ []) ∷ wait 49 0 127 false (7 ∷ 4 ∷ 3 ∷ 1 ∷ 1 ∷ 2 ∷ 2 ∷ 2 ∷ 1 ∷ 0 ∷ 1 ∷ 2 ∷ 2 ∷ 8 ∷ 4 ∷ 3 ∷ []) ∷ wait 61 65535 125 false (13 ∷ []) ∷ []) 3 9)
@@ -955,9 +989,9 @@ pub aborted-settles :
     (reply 19 32 254 0 0 ∷ reply 49 32 0 4 11 ∷ [])
     (stands (chan 10 131 true false [] ∷ free ∷ chan 11 127 false false [] ∷ free ∷ [])
     (lock 60 10 1 ∷ [])
-    (wait 61 65535 125 false (13 ∷ []) ∷ []) 3 11)))
+    (wait 61 65535 125 false (13 ∷ []) ∷ []) 3 11))
     -- ABORT: done, error 0, replies 3
-    ∷ (vector
+    ∷ vector
     (stands (chan 3 126 false true [] ∷ chan 65535 127 true false [] ∷ chan 65535 127 true false (62 ∷ 3 ∷ []) ∷ chan 3 127 false false (14 ∷ 34 ∷ []) ∷ [])
     ([])
     (wait 43 0 255 false (5 ∷ 10 ∷ []) ∷ wait 36 65535 128 true (1 ∷ []) ∷ wait 4 0 0 true (15 ∷ []) ∷ []) 3 65534)
@@ -966,9 +1000,9 @@ pub aborted-settles :
     (reply 43 32 254 0 0 ∷ reply 36 32 0 1 65535 ∷ reply 4 32 245 0 0 ∷ [])
     (stands (chan 65535 128 false false [] ∷ chan 65535 127 true false [] ∷ chan 65535 127 true false (62 ∷ 3 ∷ []) ∷ chan 3 127 false false (14 ∷ 34 ∷ []) ∷ [])
     ([])
-    ([]) 3 65534)))
+    ([]) 3 65534))
     -- ABORT: done, error 0, replies 2
-    ∷ (vector
+    ∷ vector
     (stands (free ∷ chan 2 0 true true [] ∷ chan 2 128 false false [] ∷ chan 2 131 false false [] ∷ [])
     ([])
     (wait 36 0 130 false (10 ∷ 13 ∷ 2 ∷ []) ∷ wait 12 0 129 false (5 ∷ []) ∷ wait 21 0 125 true (2 ∷ 1 ∷ 2 ∷ []) ∷ wait 18 4 125 false (1 ∷ 12 ∷ []) ∷ []) 1 1)
@@ -977,16 +1011,18 @@ pub aborted-settles :
     (reply 21 32 254 0 0 ∷ reply 12 32 0 5 3 ∷ [])
     (stands (chan 3 129 false false [] ∷ chan 2 0 true true [] ∷ chan 3 129 false false [] ∷ chan 2 131 false false [] ∷ [])
     ([])
-    (wait 36 0 130 false (10 ∷ 13 ∷ 2 ∷ []) ∷ wait 18 4 125 false (1 ∷ 12 ∷ []) ∷ []) 1 3)))
-    ∷ [])
+    (wait 36 0 130 false (10 ∷ 13 ∷ 2 ∷ []) ∷ wait 18 4 125 false (1 ∷ 12 ∷ []) ∷ []) 1 3))
+    ∷ []
+
+pub aborted-settles : Computes aborted-settles-vectors
 unfolding machine
 aborted-settles = refl
 
 -- ALLOCATE is answered -11, and the walk follows
-pub failed-settles :
-    Computes
+abbrev pub failed-settles-vectors : List Vector
+failed-settles-vectors =
     -- ALLOCATE: done, error -11, replies 3
-    ((vector
+    vector
     (stands (chan 19744 131 true true [] ∷ chan 3 125 true true [] ∷ chan 19744 127 false false (40 ∷ 34 ∷ []) ∷ free ∷ [])
     (lock 18 19744 1 ∷ lock 41 19744 1 ∷ [])
     (wait 23 0 127 false (8 ∷ 1 ∷ 1 ∷ []) ∷ wait 14 3 126 true (3 ∷ 1 ∷ []) ∷ []) 1 65534)
@@ -995,9 +1031,9 @@ pub failed-settles :
     (reply 53 32 245 0 0 ∷ reply 23 32 0 8 65535 ∷ reply 14 32 245 0 3 ∷ [])
     (stands (chan 19744 131 true true [] ∷ chan 3 125 true true [] ∷ chan 19744 127 false false (40 ∷ 34 ∷ []) ∷ chan 65535 127 false false [] ∷ [])
     (lock 18 19744 1 ∷ lock 41 19744 1 ∷ [])
-    ([]) 1 65535)))
+    ([]) 1 65535))
     -- ALLOCATE: done, error -11, replies 3
-    ∷ (vector
+    ∷ vector
     (stands (chan 2 130 true true [] ∷ chan 3 130 false false [] ∷ chan 14961 0 false false [] ∷ chan 2 130 false false [] ∷ [])
     ([])
     (wait 36 0 131 true (4 ∷ 2 ∷ 5 ∷ 1 ∷ 12 ∷ 7 ∷ 4 ∷ 4 ∷ 4 ∷ 8 ∷ 4 ∷ 1 ∷ 1 ∷ 3 ∷ 9 ∷ 15 ∷ []) ∷ wait 58 3 128 true (1 ∷ 2 ∷ 4 ∷ []) ∷ wait 14 0 0 false (8 ∷ 11 ∷ 14 ∷ []) ∷ []) 1 1)
@@ -1006,9 +1042,9 @@ pub failed-settles :
     (reply 37 32 245 0 0 ∷ reply 36 32 0 4 4 ∷ reply 58 32 245 0 3 ∷ [])
     (stands (chan 2 130 true true [] ∷ chan 3 130 false false [] ∷ chan 4 131 false false [] ∷ chan 2 130 false false [] ∷ [])
     ([])
-    (wait 14 0 0 false (8 ∷ 11 ∷ 14 ∷ []) ∷ []) 1 4)))
+    (wait 14 0 0 false (8 ∷ 11 ∷ 14 ∷ []) ∷ []) 1 4))
     -- ALLOCATE: done, error -11, replies 4
-    ∷ (vector
+    ∷ vector
     (stands (chan 4 125 false false [] ∷ chan 4 129 false false [] ∷ chan 2 126 false false [] ∷ chan 4 130 true false [] ∷ [])
     ([])
     (wait 6 0 255 true (1 ∷ 8 ∷ []) ∷ wait 38 0 130 true (4 ∷ 12 ∷ 3 ∷ 14 ∷ 11 ∷ 4 ∷ 14 ∷ 5 ∷ 4 ∷ 1 ∷ 4 ∷ 4 ∷ 1 ∷ 4 ∷ 1 ∷ 8 ∷ []) ∷ wait 5 0 127 true (4 ∷ []) ∷ []) 1 1)
@@ -1017,9 +1053,9 @@ pub failed-settles :
     (reply 62 32 245 0 0 ∷ reply 6 32 0 1 3 ∷ reply 38 32 0 4 5 ∷ reply 5 32 245 0 0 ∷ [])
     (stands (chan 3 255 false false [] ∷ chan 4 129 false false [] ∷ chan 5 130 false false [] ∷ chan 4 130 true false [] ∷ [])
     ([])
-    ([]) 1 5)))
+    ([]) 1 5))
     -- ALLOCATE: done, error -11, replies 2
-    ∷ (vector
+    ∷ vector
     (stands (chan 2 129 false false [] ∷ chan 2 255 false false (38 ∷ []) ∷ chan 12638 125 true false (8 ∷ []) ∷ free ∷ [])
     ([])
     (wait 29 0 129 false (8 ∷ []) ∷ wait 58 2 125 false (4 ∷ 11 ∷ []) ∷ wait 28 2 0 false (8 ∷ 2 ∷ 12 ∷ []) ∷ []) 1 1)
@@ -1028,9 +1064,9 @@ pub failed-settles :
     (reply 39 32 245 0 0 ∷ reply 29 32 0 8 3 ∷ [])
     (stands (chan 2 129 false false [] ∷ chan 2 255 false false (38 ∷ []) ∷ chan 12638 125 true false (8 ∷ []) ∷ chan 3 129 false false [] ∷ [])
     ([])
-    (wait 58 2 125 false (4 ∷ 11 ∷ []) ∷ wait 28 2 0 false (8 ∷ 2 ∷ 12 ∷ []) ∷ []) 1 3)))
+    (wait 58 2 125 false (4 ∷ 11 ∷ []) ∷ wait 28 2 0 false (8 ∷ 2 ∷ 12 ∷ []) ∷ []) 1 3))
     -- ALLOCATE: done, error -11, replies 5
-    ∷ (vector
+    ∷ vector
     (stands (chan 5337 127 false false (50 ∷ 63 ∷ []) ∷ chan 5337 131 false true [] ∷ chan 5337 127 false false (12 ∷ 45 ∷ []) ∷ chan 2 130 false false [] ∷ [])
     ([])
     (wait 16 3 130 false (8 ∷ 4 ∷ 9 ∷ []) ∷ wait 51 5337 128 true (6 ∷ []) ∷ []) 2 1)
@@ -1039,9 +1075,9 @@ pub failed-settles :
     (reply 0 32 245 0 3 ∷ reply 12 3 254 0 5337 ∷ reply 45 3 254 0 5337 ∷ reply 16 32 0 4 3 ∷ reply 51 32 245 0 5337 ∷ [])
     (stands (chan 5337 127 false false (50 ∷ 63 ∷ []) ∷ chan 5337 131 false true [] ∷ chan 3 130 false false [] ∷ chan 2 130 false false [] ∷ [])
     ([])
-    ([]) 2 1)))
+    ([]) 2 1))
     -- ALLOCATE: done, error -11, replies 4
-    ∷ (vector
+    ∷ vector
     (stands (chan 3 129 false false (37 ∷ []) ∷ free ∷ chan 3 129 false false (54 ∷ []) ∷ chan 3 127 false false [] ∷ [])
     ([])
     (wait 30 0 255 false (12 ∷ []) ∷ wait 51 0 129 true (6 ∷ 15 ∷ []) ∷ wait 48 2 125 true (2 ∷ 2 ∷ 4 ∷ []) ∷ []) 1 2)
@@ -1050,16 +1086,18 @@ pub failed-settles :
     (reply 54 3 254 0 3 ∷ reply 30 32 0 12 4 ∷ reply 51 32 245 0 0 ∷ reply 48 32 0 2 2 ∷ [])
     (stands (chan 3 129 false false (37 ∷ []) ∷ chan 2 125 false false [] ∷ chan 4 255 false false [] ∷ chan 4 255 false false [] ∷ [])
     ([])
-    ([]) 1 4)))
-    ∷ [])
+    ([]) 1 4))
+    ∷ []
+
+pub failed-settles : Computes failed-settles-vectors
 unfolding machine
 failed-settles = refl
 
 -- OPEN is answered -11, and nothing is settled
-pub failed-open-does-not :
-    Computes
+abbrev pub failed-open-does-not-vectors : List Vector
+failed-open-does-not-vectors =
     -- OPEN: done, error -11, replies 0
-    ((vector
+    vector
     (stands (chan 2 127 true false (22 ∷ []) ∷ chan 1 127 false false (6 ∷ 35 ∷ []) ∷ chan 43240 131 true true [] ∷ chan 1 125 false false (37 ∷ 61 ∷ []) ∷ [])
     (lock 15 43240 4 ∷ [])
     (wait 57 0 131 true (4 ∷ 0 ∷ []) ∷ wait 28 2 130 true (2 ∷ []) ∷ wait 23 1 128 true (6 ∷ 2 ∷ 11 ∷ []) ∷ []) 1 0)
@@ -1068,9 +1106,9 @@ pub failed-open-does-not :
     ([])
     (stands (chan 2 127 true false (22 ∷ []) ∷ chan 1 127 false false (6 ∷ 35 ∷ []) ∷ chan 43240 131 true true [] ∷ chan 1 125 false false (37 ∷ 61 ∷ []) ∷ [])
     (lock 15 43240 4 ∷ [])
-    (wait 57 0 131 true (4 ∷ 0 ∷ []) ∷ wait 28 2 130 true (2 ∷ []) ∷ wait 23 1 128 true (6 ∷ 2 ∷ 11 ∷ []) ∷ []) 1 0)))
+    (wait 57 0 131 true (4 ∷ 0 ∷ []) ∷ wait 28 2 130 true (2 ∷ []) ∷ wait 23 1 128 true (6 ∷ 2 ∷ 11 ∷ []) ∷ []) 1 0))
     -- OPEN: done, error -11, replies 0
-    ∷ (vector
+    ∷ vector
     (stands (free ∷ chan 1 127 true true [] ∷ chan 4 129 true false [] ∷ free ∷ [])
     (lock 16 4 4 ∷ lock 7 4 4 ∷ [])
     (wait 57 0 125 false (4 ∷ 9 ∷ 3 ∷ []) ∷ []) 3 0)
@@ -1079,9 +1117,9 @@ pub failed-open-does-not :
     ([])
     (stands (free ∷ chan 1 127 true true [] ∷ chan 4 129 true false [] ∷ free ∷ [])
     (lock 16 4 4 ∷ lock 7 4 4 ∷ [])
-    (wait 57 0 125 false (4 ∷ 9 ∷ 3 ∷ []) ∷ []) 3 0)))
+    (wait 57 0 125 false (4 ∷ 9 ∷ 3 ∷ []) ∷ []) 3 0))
     -- OPEN: done, error -11, replies 0
-    ∷ (vector
+    ∷ vector
     (stands (chan 65535 125 true false (53 ∷ 62 ∷ []) ∷ chan 65535 130 false false [] ∷ chan 65535 130 true false [] ∷ chan 4 130 false false [] ∷ [])
     ([])
     (wait 63 10 131 false (4 ∷ []) ∷ wait 61 65535 130 true (15 ∷ []) ∷ wait 46 4 127 false (0 ∷ 1 ∷ 14 ∷ []) ∷ wait 12 0 127 false (5 ∷ 9 ∷ 10 ∷ []) ∷ []) 2 9)
@@ -1090,9 +1128,9 @@ pub failed-open-does-not :
     ([])
     (stands (chan 65535 125 true false (53 ∷ 62 ∷ []) ∷ chan 65535 130 false false [] ∷ chan 65535 130 true false [] ∷ chan 4 130 false false [] ∷ [])
     ([])
-    (wait 63 10 131 false (4 ∷ []) ∷ wait 61 65535 130 true (15 ∷ []) ∷ wait 46 4 127 false (0 ∷ 1 ∷ 14 ∷ []) ∷ wait 12 0 127 false (5 ∷ 9 ∷ 10 ∷ []) ∷ []) 2 9)))
+    (wait 63 10 131 false (4 ∷ []) ∷ wait 61 65535 130 true (15 ∷ []) ∷ wait 46 4 127 false (0 ∷ 1 ∷ 14 ∷ []) ∷ wait 12 0 127 false (5 ∷ 9 ∷ 10 ∷ []) ∷ []) 2 9))
     -- OPEN: done, error -11, replies 0
-    ∷ (vector
+    ∷ vector
     (stands (chan 65535 128 false false (23 ∷ []) ∷ chan 3 127 false false [] ∷ chan 65535 128 false true [] ∷ chan 3 128 false true (36 ∷ []) ∷ [])
     ([])
     (wait 8 0 130 true (2 ∷ []) ∷ wait 57 65535 130 true (4 ∷ 4 ∷ 1 ∷ []) ∷ wait 48 0 126 false (2 ∷ []) ∷ []) 2 65535)
@@ -1101,9 +1139,9 @@ pub failed-open-does-not :
     ([])
     (stands (chan 65535 128 false false (23 ∷ []) ∷ chan 3 127 false false [] ∷ chan 65535 128 false true [] ∷ chan 3 128 false true (36 ∷ []) ∷ [])
     ([])
-    (wait 8 0 130 true (2 ∷ []) ∷ wait 57 65535 130 true (4 ∷ 4 ∷ 1 ∷ []) ∷ wait 48 0 126 false (2 ∷ []) ∷ []) 2 65535)))
+    (wait 8 0 130 true (2 ∷ []) ∷ wait 57 65535 130 true (4 ∷ 4 ∷ 1 ∷ []) ∷ wait 48 0 126 false (2 ∷ []) ∷ []) 2 65535))
     -- OPEN: done, error -11, replies 0
-    ∷ (vector
+    ∷ vector
     (stands (chan 65535 129 false false [] ∷ chan 65535 125 false false (29 ∷ []) ∷ chan 3 126 false false (7 ∷ []) ∷ chan 65535 125 true false (57 ∷ 8 ∷ []) ∷ [])
     (lock 18 65535 8 ∷ lock 33 65535 8 ∷ [])
     (wait 12 0 130 false (2 ∷ 0 ∷ []) ∷ wait 20 0 128 true (9 ∷ []) ∷ wait 37 65535 128 false (4 ∷ []) ∷ []) 3 65534)
@@ -1112,9 +1150,9 @@ pub failed-open-does-not :
     ([])
     (stands (chan 65535 129 false false [] ∷ chan 65535 125 false false (29 ∷ []) ∷ chan 3 126 false false (7 ∷ []) ∷ chan 65535 125 true false (57 ∷ 8 ∷ []) ∷ [])
     (lock 18 65535 8 ∷ lock 33 65535 8 ∷ [])
-    (wait 12 0 130 false (2 ∷ 0 ∷ []) ∷ wait 20 0 128 true (9 ∷ []) ∷ wait 37 65535 128 false (4 ∷ []) ∷ []) 3 65534)))
+    (wait 12 0 130 false (2 ∷ 0 ∷ []) ∷ wait 20 0 128 true (9 ∷ []) ∷ wait 37 65535 128 false (4 ∷ []) ∷ []) 3 65534))
     -- OPEN: done, error -11, replies 0
-    ∷ (vector
+    ∷ vector
     (stands (chan 2 126 true false (26 ∷ []) ∷ chan 2 128 true false [] ∷ chan 65535 127 false false [] ∷ free ∷ [])
     (lock 47 2 3 ∷ [])
     (wait 4 2 130 true (8 ∷ 5 ∷ []) ∷ []) 3 1)
@@ -1123,16 +1161,18 @@ pub failed-open-does-not :
     ([])
     (stands (chan 2 126 true false (26 ∷ []) ∷ chan 2 128 true false [] ∷ chan 65535 127 false false [] ∷ free ∷ [])
     (lock 47 2 3 ∷ [])
-    (wait 4 2 130 true (8 ∷ 5 ∷ []) ∷ []) 3 1)))
-    ∷ [])
+    (wait 4 2 130 true (8 ∷ 5 ∷ []) ∷ []) 3 1))
+    ∷ []
+
+pub failed-open-does-not : Computes failed-open-does-not-vectors
 unfolding machine
 failed-open-does-not = refl
 
 -- ALLOCATE is answered as outstanding, and granted by the walk of its own call
-pub walk-grants-its-own :
-    Computes
+abbrev pub walk-grants-its-own-vectors : List Vector
+walk-grants-its-own-vectors =
     -- ALLOCATE: outstanding, error 0, replies 4
-    ((vector
+    vector
     (stands (free ∷ chan 3 125 true false [] ∷ free ∷ chan 26025 125 false false (50 ∷ 54 ∷ []) ∷ [])
     ([])
     (wait 43 2 128 false (7 ∷ 9 ∷ []) ∷ wait 31 0 126 false (1 ∷ 14 ∷ 2 ∷ []) ∷ wait 0 26025 125 false (1 ∷ 13 ∷ 5 ∷ []) ∷ []) 65535 1)
@@ -1141,9 +1181,9 @@ pub walk-grants-its-own :
     (reply 31 32 0 1 4 ∷ reply 50 3 254 0 26025 ∷ reply 54 3 254 0 26025 ∷ reply 44 32 0 8 3 ∷ [])
     (stands (chan 4 126 false false [] ∷ chan 3 125 true false [] ∷ free ∷ chan 3 127 false false [] ∷ [])
     ([])
-    (wait 43 2 128 false (7 ∷ 9 ∷ []) ∷ wait 0 26025 125 false (1 ∷ 13 ∷ 5 ∷ []) ∷ []) 65535 4)))
+    (wait 43 2 128 false (7 ∷ 9 ∷ []) ∷ wait 0 26025 125 false (1 ∷ 13 ∷ 5 ∷ []) ∷ []) 65535 4))
     -- ALLOCATE: outstanding, error 0, replies 4
-    ∷ (vector
+    ∷ vector
     (stands (chan 65535 127 false true [] ∷ chan 65535 127 false false (56 ∷ 35 ∷ []) ∷ chan 4 126 true false (32 ∷ []) ∷ chan 4 126 false false (9 ∷ 23 ∷ []) ∷ [])
     ([])
     (wait 49 4 131 false (2 ∷ 4 ∷ 8 ∷ []) ∷ wait 38 4 128 false (8 ∷ 2 ∷ 13 ∷ []) ∷ []) 3 2)
@@ -1152,9 +1192,9 @@ pub walk-grants-its-own :
     (reply 9 3 254 0 4 ∷ reply 23 3 254 0 4 ∷ reply 38 32 0 8 4 ∷ reply 18 32 0 1 3 ∷ [])
     (stands (chan 3 130 false false [] ∷ chan 65535 127 false false (56 ∷ 35 ∷ []) ∷ chan 4 126 true false (32 ∷ []) ∷ chan 4 128 false false [] ∷ [])
     ([])
-    (wait 49 4 131 false (2 ∷ 4 ∷ 8 ∷ []) ∷ []) 3 3)))
+    (wait 49 4 131 false (2 ∷ 4 ∷ 8 ∷ []) ∷ []) 3 3))
     -- ALLOCATE: outstanding, error 0, replies 4
-    ∷ (vector
+    ∷ vector
     (stands (chan 2 126 true true [] ∷ chan 2 129 false false [] ∷ free ∷ free ∷ [])
     (lock 9 2 1 ∷ [])
     (wait 11 2 255 true (8 ∷ 2 ∷ []) ∷ wait 3 0 130 true (4 ∷ 4 ∷ []) ∷ wait 5 0 129 true (4 ∷ []) ∷ []) 65535 1)
@@ -1163,9 +1203,9 @@ pub walk-grants-its-own :
     (reply 11 32 0 8 2 ∷ reply 2 32 0 2 4 ∷ reply 3 32 0 4 3 ∷ reply 5 32 245 0 0 ∷ [])
     (stands (chan 2 126 true true [] ∷ chan 4 131 false false [] ∷ chan 3 130 false false [] ∷ chan 2 255 false false [] ∷ [])
     (lock 9 2 1 ∷ [])
-    ([]) 65535 3)))
+    ([]) 65535 3))
     -- ALLOCATE: outstanding, error 0, replies 3
-    ∷ (vector
+    ∷ vector
     (stands (chan 65535 125 true false [] ∷ chan 2 125 true false [] ∷ free ∷ chan 2 127 false false [] ∷ [])
     (lock 28 65535 1 ∷ [])
     (wait 0 0 128 true (4 ∷ []) ∷ wait 62 65535 0 true (7 ∷ 1 ∷ 2 ∷ []) ∷ []) 2 65534)
@@ -1174,9 +1214,9 @@ pub walk-grants-its-own :
     (reply 0 32 0 4 1 ∷ reply 7 32 0 8 65535 ∷ reply 62 32 245 0 65535 ∷ [])
     (stands (chan 65535 125 true false [] ∷ chan 2 125 true false [] ∷ chan 1 128 false false [] ∷ chan 65535 130 false false [] ∷ [])
     (lock 28 65535 1 ∷ [])
-    ([]) 2 1)))
+    ([]) 2 1))
     -- ALLOCATE: outstanding, error 0, replies 4
-    ∷ (vector
+    ∷ vector
     (stands (chan 2 129 false false (47 ∷ []) ∷ chan 65535 126 true false [] ∷ chan 65535 128 false false [] ∷ chan 1 127 true false [] ∷ [])
     (lock 9 1 8 ∷ [])
     (wait 20 0 131 false (8 ∷ 8 ∷ []) ∷ wait 3 65535 131 false (4 ∷ 14 ∷ 9 ∷ []) ∷ wait 41 0 128 false (6 ∷ 8 ∷ 3 ∷ []) ∷ wait 48 65535 125 false (4 ∷ 4 ∷ 8 ∷ []) ∷ []) 65535 65535)
@@ -1185,9 +1225,9 @@ pub walk-grants-its-own :
     (reply 9 13 244 8 1 ∷ reply 3 32 0 4 65535 ∷ reply 47 3 254 0 2 ∷ reply 51 32 0 1 1 ∷ [])
     (stands (chan 1 130 false false [] ∷ chan 65535 126 true false [] ∷ chan 65535 131 false false [] ∷ chan 1 127 true false [] ∷ [])
     ([])
-    (wait 20 0 131 false (8 ∷ 8 ∷ []) ∷ wait 41 0 128 false (6 ∷ 8 ∷ 3 ∷ []) ∷ wait 48 65535 125 false (4 ∷ 4 ∷ 8 ∷ []) ∷ []) 65535 65535)))
+    (wait 20 0 131 false (8 ∷ 8 ∷ []) ∷ wait 41 0 128 false (6 ∷ 8 ∷ 3 ∷ []) ∷ wait 48 65535 125 false (4 ∷ 4 ∷ 8 ∷ []) ∷ []) 65535 65535))
     -- ALLOCATE: outstanding, error 0, replies 2
-    ∷ (vector
+    ∷ vector
     (stands (chan 53945 0 true false (30 ∷ []) ∷ chan 3 0 false false (57 ∷ 33 ∷ []) ∷ chan 3 128 false false [] ∷ free ∷ [])
     ([])
     (wait 2 2 130 true (8 ∷ 6 ∷ []) ∷ wait 38 0 126 false (13 ∷ 14 ∷ []) ∷ []) 1 1)
@@ -1196,16 +1236,18 @@ pub walk-grants-its-own :
     (reply 2 32 0 8 2 ∷ reply 54 32 0 4 4 ∷ [])
     (stands (chan 53945 0 true false (30 ∷ []) ∷ chan 3 0 false false (57 ∷ 33 ∷ []) ∷ chan 4 129 false false [] ∷ chan 2 130 false false [] ∷ [])
     ([])
-    (wait 38 0 126 false (13 ∷ 14 ∷ []) ∷ []) 1 4)))
-    ∷ [])
+    (wait 38 0 126 false (13 ∷ 14 ∷ []) ∷ []) 1 4))
+    ∷ []
+
+pub walk-grants-its-own : Computes walk-grants-its-own-vectors
 unfolding machine
 walk-grants-its-own = refl
 
 -- ALLOCATE is answered as outstanding, and dropped by the walk of its own call
-pub walk-drops-its-own :
-    Computes
+abbrev pub walk-drops-its-own-vectors : List Vector
+walk-drops-its-own-vectors =
     -- ALLOCATE: outstanding, error 0, replies 2
-    ((vector
+    vector
     (stands (chan 2 125 false false [] ∷ free ∷ chan 1 125 true false [] ∷ chan 1 126 false false (57 ∷ 56 ∷ []) ∷ [])
     ([])
     (wait 43 0 128 true (11 ∷ 1 ∷ []) ∷ []) 1 0)
@@ -1214,9 +1256,9 @@ pub walk-drops-its-own :
     (reply 43 32 0 1 3 ∷ reply 32 32 245 0 2 ∷ [])
     (stands (chan 3 128 false false [] ∷ free ∷ chan 1 125 true false [] ∷ chan 1 126 false false (57 ∷ 56 ∷ []) ∷ [])
     ([])
-    ([]) 1 3)))
+    ([]) 1 3))
     -- ALLOCATE: outstanding, error 0, replies 2
-    ∷ (vector
+    ∷ vector
     (stands (chan 3 127 false false (7 ∷ []) ∷ chan 3 126 false false (19 ∷ []) ∷ free ∷ chan 16310 127 true false [] ∷ [])
     ([])
     (wait 38 0 131 false (3 ∷ 1 ∷ 4 ∷ []) ∷ wait 26 0 127 false (1 ∷ []) ∷ wait 24 0 125 false (4 ∷ 15 ∷ []) ∷ wait 42 0 0 false (4 ∷ 4 ∷ []) ∷ []) 3 2)
@@ -1225,9 +1267,9 @@ pub walk-drops-its-own :
     (reply 38 32 0 4 4 ∷ reply 14 32 245 0 0 ∷ [])
     (stands (chan 3 127 false false (7 ∷ []) ∷ chan 3 126 false false (19 ∷ []) ∷ chan 4 131 false false [] ∷ chan 16310 127 true false [] ∷ [])
     ([])
-    (wait 26 0 127 false (1 ∷ []) ∷ wait 24 0 125 false (4 ∷ 15 ∷ []) ∷ wait 42 0 0 false (4 ∷ 4 ∷ []) ∷ []) 3 4)))
+    (wait 26 0 127 false (1 ∷ []) ∷ wait 24 0 125 false (4 ∷ 15 ∷ []) ∷ wait 42 0 0 false (4 ∷ 4 ∷ []) ∷ []) 3 4))
     -- ALLOCATE: outstanding, error 0, replies 4
-    ∷ (vector
+    ∷ vector
     (stands (chan 53067 130 false true (50 ∷ []) ∷ free ∷ chan 53067 126 true false [] ∷ chan 3 131 true false (34 ∷ 29 ∷ []) ∷ [])
     (lock 6 53067 4 ∷ [])
     (wait 32 0 131 true (1 ∷ 13 ∷ []) ∷ wait 51 53067 127 true (11 ∷ 11 ∷ []) ∷ wait 49 0 125 false (6 ∷ 7 ∷ 4 ∷ []) ∷ wait 13 0 125 false (11 ∷ []) ∷ []) 2 1)
@@ -1236,9 +1278,9 @@ pub walk-drops-its-own :
     (reply 50 3 254 0 53067 ∷ reply 32 32 0 1 2 ∷ reply 45 32 245 0 0 ∷ reply 51 32 245 0 53067 ∷ [])
     (stands (chan 2 131 false false [] ∷ free ∷ chan 53067 126 true false [] ∷ chan 3 131 true false (34 ∷ 29 ∷ []) ∷ [])
     (lock 6 53067 4 ∷ [])
-    (wait 49 0 125 false (6 ∷ 7 ∷ 4 ∷ []) ∷ wait 13 0 125 false (11 ∷ []) ∷ []) 2 2)))
+    (wait 49 0 125 false (6 ∷ 7 ∷ 4 ∷ []) ∷ wait 13 0 125 false (11 ∷ []) ∷ []) 2 2))
     -- ALLOCATE: outstanding, error 0, replies 3
-    ∷ (vector
+    ∷ vector
     (stands (chan 3 127 true false (51 ∷ []) ∷ chan 2 127 false true [] ∷ chan 3 131 true false (57 ∷ []) ∷ chan 3 128 true true (54 ∷ []) ∷ [])
     ([])
     (wait 50 2 130 false (2 ∷ 1 ∷ 1 ∷ []) ∷ wait 62 2 128 false (1 ∷ []) ∷ wait 10 0 127 true (0 ∷ []) ∷ []) 3 1)
@@ -1247,16 +1289,18 @@ pub walk-drops-its-own :
     (reply 50 32 0 2 2 ∷ reply 49 32 245 0 2 ∷ reply 10 32 0 0 4 ∷ [])
     (stands (chan 3 127 true false (51 ∷ []) ∷ chan 2 130 false false [] ∷ chan 3 131 true false (57 ∷ []) ∷ chan 3 128 true true (54 ∷ []) ∷ [])
     ([])
-    (wait 62 2 128 false (1 ∷ []) ∷ []) 3 4)))
-    ∷ [])
+    (wait 62 2 128 false (1 ∷ []) ∷ []) 3 4))
+    ∷ []
+
+pub walk-drops-its-own : Computes walk-drops-its-own-vectors
 unfolding machine
 walk-drops-its-own = refl
 
 -- WRITE is answered as outstanding, and aborted by a steal of its own call
-pub walk-aborts-its-own :
-    Computes
+abbrev pub walk-aborts-its-own-vectors : List Vector
+walk-aborts-its-own-vectors =
     -- WRITE: outstanding, error 0, replies 3
-    ((vector
+    vector
     (stands (chan 65535 129 true false (31 ∷ []) ∷ chan 65535 128 false false [] ∷ chan 1 128 false true [] ∷ chan 1 131 true false (6 ∷ 17 ∷ []) ∷ [])
     (lock 40 1 8 ∷ lock 55 1 8 ∷ [])
     (wait 57 1 131 false (8 ∷ 2 ∷ []) ∷ wait 27 2 128 true (15 ∷ 8 ∷ []) ∷ wait 1 2 126 false (7 ∷ 8 ∷ []) ∷ []) 2 65535)
@@ -1265,9 +1309,9 @@ pub walk-aborts-its-own :
     (reply 32 3 254 0 65535 ∷ reply 57 32 0 2 1 ∷ reply 27 32 245 0 2 ∷ [])
     (stands (chan 65535 129 true false (31 ∷ []) ∷ chan 1 131 false false [] ∷ chan 1 128 false true [] ∷ chan 1 131 true false (6 ∷ 17 ∷ []) ∷ [])
     (lock 40 1 8 ∷ lock 55 1 8 ∷ [])
-    (wait 1 2 126 false (7 ∷ 8 ∷ []) ∷ []) 2 65535)))
+    (wait 1 2 126 false (7 ∷ 8 ∷ []) ∷ []) 2 65535))
     -- WRITE: outstanding, error 0, replies 9
-    ∷ (vector
+    ∷ vector
     (stands (chan 10 127 false false (18 ∷ 46 ∷ []) ∷ chan 10 130 false false (55 ∷ 58 ∷ []) ∷ chan 3 125 false false (41 ∷ 24 ∷ []) ∷ chan 10 125 true false (57 ∷ 42 ∷ []) ∷ [])
     (lock 33 10 8 ∷ [])
     (wait 40 65535 130 false (2 ∷ 4 ∷ []) ∷ wait 43 3 129 false (1 ∷ []) ∷ wait 50 0 126 true (8 ∷ []) ∷ wait 48 3 0 true (8 ∷ 2 ∷ 13 ∷ []) ∷ []) 3 9)
@@ -1276,9 +1320,9 @@ pub walk-aborts-its-own :
     (reply 41 3 254 0 3 ∷ reply 24 3 254 0 3 ∷ reply 40 32 0 4 65535 ∷ reply 18 3 254 0 10 ∷ reply 46 3 254 0 10 ∷ reply 59 3 254 0 10 ∷ reply 43 32 0 1 3 ∷ reply 33 13 244 8 10 ∷ reply 48 32 245 0 3 ∷ [])
     (stands (chan 3 129 false false [] ∷ chan 10 130 false false (55 ∷ 58 ∷ []) ∷ chan 65535 130 false false [] ∷ chan 10 125 true false (57 ∷ 42 ∷ []) ∷ [])
     ([])
-    (wait 50 0 126 true (8 ∷ []) ∷ []) 3 9)))
+    (wait 50 0 126 true (8 ∷ []) ∷ []) 3 9))
     -- WRITE: outstanding, error 0, replies 5
-    ∷ (vector
+    ∷ vector
     (stands (chan 4 127 false false [] ∷ chan 65535 130 false false [] ∷ chan 10 130 false false (28 ∷ 13 ∷ []) ∷ chan 10 128 false false [] ∷ [])
     ([])
     (wait 56 0 255 false (5 ∷ 15 ∷ []) ∷ wait 41 4 131 true (2 ∷ 10 ∷ []) ∷ wait 32 0 131 false (9 ∷ 4 ∷ []) ∷ wait 36 65535 127 false (14 ∷ 12 ∷ []) ∷ []) 2 9)
@@ -1287,9 +1331,9 @@ pub walk-aborts-its-own :
     (reply 0 3 254 0 4 ∷ reply 28 3 254 0 10 ∷ reply 13 3 254 0 10 ∷ reply 56 32 0 5 11 ∷ reply 41 32 0 2 4 ∷ [])
     (stands (chan 11 255 false false [] ∷ chan 4 131 false false [] ∷ chan 11 255 false false [] ∷ chan 10 128 false false [] ∷ [])
     ([])
-    (wait 32 0 131 false (9 ∷ 4 ∷ []) ∷ wait 36 65535 127 false (14 ∷ 12 ∷ []) ∷ []) 2 11)))
+    (wait 32 0 131 false (9 ∷ 4 ∷ []) ∷ wait 36 65535 127 false (14 ∷ 12 ∷ []) ∷ []) 2 11))
     -- WRITE: outstanding, error 0, replies 4
-    ∷ (vector
+    ∷ vector
     (stands (chan 65535 0 false false [] ∷ chan 65535 127 true true [] ∷ chan 65535 131 false false [] ∷ chan 65535 128 false false (14 ∷ []) ∷ [])
     ([])
     (wait 15 0 130 true (14 ∷ 8 ∷ []) ∷ wait 32 0 129 true (2 ∷ 8 ∷ []) ∷ wait 37 65535 127 false (8 ∷ 5 ∷ 1 ∷ []) ∷ []) 1 65534)
@@ -1298,16 +1342,18 @@ pub walk-aborts-its-own :
     (reply 14 3 254 0 65535 ∷ reply 15 32 0 8 1 ∷ reply 26 3 254 0 65535 ∷ reply 37 32 0 1 65535 ∷ [])
     (stands (chan 65535 127 false false [] ∷ chan 65535 127 true true [] ∷ chan 65535 131 false false [] ∷ chan 1 130 false false [] ∷ [])
     ([])
-    (wait 32 0 129 true (2 ∷ 8 ∷ []) ∷ []) 1 1)))
-    ∷ [])
+    (wait 32 0 129 true (2 ∷ 8 ∷ []) ∷ []) 1 1))
+    ∷ []
+
+pub walk-aborts-its-own : Computes walk-aborts-its-own-vectors
 unfolding machine
 walk-aborts-its-own = refl
 
 -- LOCK is answered as outstanding, and replied -12 by the walk of its own call
-pub walk-steals-its-own :
-    Computes
+abbrev pub walk-steals-its-own-vectors : List Vector
+walk-steals-its-own-vectors =
     -- LOCK: outstanding, error 0, replies 3
-    ((vector
+    vector
     (stands (chan 65535 127 false true [] ∷ chan 4 126 false true [] ∷ chan 65535 128 false false [] ∷ chan 65535 126 false false (25 ∷ []) ∷ [])
     ([])
     (wait 31 0 131 true (1 ∷ 2 ∷ 2 ∷ []) ∷ wait 9 0 129 true (13 ∷ 13 ∷ 8 ∷ []) ∷ wait 29 3 125 true (8 ∷ 4 ∷ []) ∷ wait 32 4 125 false (8 ∷ 2 ∷ 8 ∷ []) ∷ []) 2 2)
@@ -1316,9 +1362,9 @@ pub walk-steals-its-own :
     (reply 31 32 0 2 5 ∷ reply 2 13 244 12 65535 ∷ reply 29 32 245 0 3 ∷ [])
     (stands (chan 65535 127 false true [] ∷ chan 5 131 false false [] ∷ chan 65535 128 true false [] ∷ chan 65535 126 true false (25 ∷ []) ∷ [])
     ([])
-    (wait 9 0 129 true (13 ∷ 13 ∷ 8 ∷ []) ∷ wait 32 4 125 false (8 ∷ 2 ∷ 8 ∷ []) ∷ []) 2 5)))
+    (wait 9 0 129 true (13 ∷ 13 ∷ 8 ∷ []) ∷ wait 32 4 125 false (8 ∷ 2 ∷ 8 ∷ []) ∷ []) 2 5))
     -- LOCK: outstanding, error 0, replies 1
-    ∷ (vector
+    ∷ vector
     (stands (free ∷ chan 62073 128 true false [] ∷ chan 4 127 false false (37 ∷ []) ∷ chan 3 126 false false (34 ∷ []) ∷ [])
     (lock 33 62073 2 ∷ [])
     (wait 36 4 131 false (5 ∷ 8 ∷ 4 ∷ []) ∷ wait 12 62073 129 false (2 ∷ 4 ∷ 8 ∷ []) ∷ []) 3 2)
@@ -1327,9 +1373,9 @@ pub walk-steals-its-own :
     (reply 35 13 244 8 3 ∷ [])
     (stands (free ∷ chan 62073 128 true false [] ∷ chan 4 127 false false (37 ∷ []) ∷ chan 3 126 true false (34 ∷ []) ∷ [])
     (lock 33 62073 2 ∷ [])
-    (wait 36 4 131 false (5 ∷ 8 ∷ 4 ∷ []) ∷ wait 12 62073 129 false (2 ∷ 4 ∷ 8 ∷ []) ∷ []) 3 2)))
+    (wait 36 4 131 false (5 ∷ 8 ∷ 4 ∷ []) ∷ wait 12 62073 129 false (2 ∷ 4 ∷ 8 ∷ []) ∷ []) 3 2))
     -- LOCK: outstanding, error 0, replies 3
-    ∷ (vector
+    ∷ vector
     (stands (free ∷ chan 65535 125 false false (47 ∷ 22 ∷ []) ∷ chan 3 125 true false (16 ∷ 53 ∷ []) ∷ chan 2 127 true false [] ∷ [])
     (lock 29 2 8 ∷ lock 57 3 4 ∷ [])
     (wait 41 0 126 false (4 ∷ []) ∷ wait 42 65535 125 false (0 ∷ 8 ∷ 4 ∷ []) ∷ []) 1 1)
@@ -1338,9 +1384,9 @@ pub walk-steals-its-own :
     (reply 57 13 244 4 3 ∷ reply 44 13 244 4 3 ∷ reply 42 32 0 0 65535 ∷ [])
     (stands (free ∷ chan 65535 125 false false (47 ∷ 22 ∷ []) ∷ chan 3 125 true false (16 ∷ 53 ∷ []) ∷ chan 2 127 true false [] ∷ [])
     (lock 29 2 8 ∷ [])
-    (wait 41 0 126 false (4 ∷ []) ∷ []) 1 1)))
+    (wait 41 0 126 false (4 ∷ []) ∷ []) 1 1))
     -- LOCK: outstanding, error 0, replies 3
-    ∷ (vector
+    ∷ vector
     (stands (chan 3 255 false false (20 ∷ 32 ∷ []) ∷ chan 3 130 true true (38 ∷ []) ∷ chan 3 129 true false (10 ∷ []) ∷ chan 3 131 false true (55 ∷ []) ∷ [])
     (lock 50 3 6 ∷ [])
     (wait 46 0 131 false (8 ∷ 4 ∷ 8 ∷ []) ∷ wait 7 3 128 true (2 ∷ 7 ∷ []) ∷ []) 1 2)
@@ -1349,16 +1395,18 @@ pub walk-steals-its-own :
     (reply 50 13 244 6 3 ∷ reply 33 13 244 6 3 ∷ reply 7 32 245 0 3 ∷ [])
     (stands (chan 3 255 false false (20 ∷ 32 ∷ []) ∷ chan 3 130 true true (38 ∷ []) ∷ chan 3 129 true false (10 ∷ []) ∷ chan 3 131 false true (55 ∷ []) ∷ [])
     ([])
-    (wait 46 0 131 false (8 ∷ 4 ∷ 8 ∷ []) ∷ []) 1 2)))
-    ∷ [])
+    (wait 46 0 131 false (8 ∷ 4 ∷ 8 ∷ []) ∷ []) 1 2))
+    ∷ []
+
+pub walk-steals-its-own : Computes walk-steals-its-own-vectors
 unfolding machine
 walk-steals-its-own = refl
 
 -- outstanding, and the walk follows
-pub outstanding-settles :
-    Computes
+abbrev pub outstanding-settles-vectors : List Vector
+outstanding-settles-vectors =
     -- ALLOCATE: outstanding, error 0, replies 1
-    ((vector
+    vector
     (stands (chan 65535 126 false false [] ∷ chan 4 126 false false [] ∷ chan 4 130 true false [] ∷ chan 65535 131 true false (20 ∷ 52 ∷ []) ∷ [])
     (lock 21 65535 8 ∷ [])
     (wait 30 0 131 true (4 ∷ 4 ∷ 12 ∷ 1 ∷ 7 ∷ 14 ∷ 2 ∷ 15 ∷ 9 ∷ 1 ∷ 3 ∷ 14 ∷ 8 ∷ 4 ∷ 1 ∷ 1 ∷ []) ∷ wait 56 65535 128 false (8 ∷ []) ∷ wait 27 0 125 false (8 ∷ 5 ∷ 11 ∷ []) ∷ []) 3 9)
@@ -1367,9 +1415,9 @@ pub outstanding-settles :
     (reply 30 32 0 1 10 ∷ [])
     (stands (chan 10 131 false false [] ∷ chan 4 126 false false [] ∷ chan 4 130 true false [] ∷ chan 65535 131 true false (20 ∷ 52 ∷ []) ∷ [])
     (lock 21 65535 8 ∷ [])
-    (wait 56 65535 128 false (8 ∷ []) ∷ wait 46 0 126 false (5 ∷ 1 ∷ 1 ∷ []) ∷ wait 27 0 125 false (8 ∷ 5 ∷ 11 ∷ []) ∷ []) 3 10)))
+    (wait 56 65535 128 false (8 ∷ []) ∷ wait 46 0 126 false (5 ∷ 1 ∷ 1 ∷ []) ∷ wait 27 0 125 false (8 ∷ 5 ∷ 11 ∷ []) ∷ []) 3 10))
     -- ALLOCATE: outstanding, error 0, replies 2
-    ∷ (vector
+    ∷ vector
     (stands (free ∷ free ∷ chan 1552 131 true false [] ∷ chan 2 126 true false [] ∷ [])
     ([])
     (wait 62 0 131 true (1 ∷ 8 ∷ []) ∷ wait 1 0 130 false (8 ∷ []) ∷ wait 18 0 129 false (1 ∷ 14 ∷ []) ∷ wait 22 3 129 true (6 ∷ []) ∷ []) 3 2)
@@ -1378,9 +1426,9 @@ pub outstanding-settles :
     (reply 62 32 0 1 4 ∷ reply 22 32 245 0 3 ∷ [])
     (stands (chan 4 131 false false [] ∷ free ∷ chan 1552 131 true false [] ∷ chan 2 126 true false [] ∷ [])
     ([])
-    (wait 1 0 130 false (8 ∷ []) ∷ wait 18 0 129 false (1 ∷ 14 ∷ []) ∷ wait 32 0 0 false (5 ∷ 11 ∷ 4 ∷ []) ∷ []) 3 4)))
+    (wait 1 0 130 false (8 ∷ []) ∷ wait 18 0 129 false (1 ∷ 14 ∷ []) ∷ wait 32 0 0 false (5 ∷ 11 ∷ 4 ∷ []) ∷ []) 3 4))
     -- ALLOCATE: outstanding, error 0, replies 3
-    ∷ (vector
+    ∷ vector
     (stands (chan 24578 125 false false [] ∷ chan 24578 127 true false (50 ∷ 31 ∷ []) ∷ chan 4 126 true true (29 ∷ []) ∷ free ∷ [])
     (lock 25 4 4 ∷ lock 48 4 4 ∷ [])
     (wait 34 24578 128 false (11 ∷ 4 ∷ []) ∷ wait 3 0 126 true (1 ∷ 4 ∷ 3 ∷ []) ∷ []) 2 0)
@@ -1389,9 +1437,9 @@ pub outstanding-settles :
     (reply 25 13 244 4 4 ∷ reply 48 13 244 4 4 ∷ reply 3 32 0 1 2 ∷ [])
     (stands (chan 2 126 false false [] ∷ chan 24578 127 true false (50 ∷ 31 ∷ []) ∷ chan 4 126 true true (29 ∷ []) ∷ free ∷ [])
     ([])
-    (wait 34 24578 128 false (11 ∷ 4 ∷ []) ∷ wait 10 1 127 false (5 ∷ 6 ∷ 11 ∷ []) ∷ []) 2 2)))
+    (wait 34 24578 128 false (11 ∷ 4 ∷ []) ∷ wait 10 1 127 false (5 ∷ 6 ∷ 11 ∷ []) ∷ []) 2 2))
     -- WRITE: outstanding, error 0, replies 4
-    ∷ (vector
+    ∷ vector
     (stands (chan 3 129 true true (12 ∷ 39 ∷ []) ∷ chan 3 129 false false [] ∷ chan 3 127 false false (49 ∷ []) ∷ chan 3 131 true false [] ∷ [])
     ([])
     (wait 13 0 131 true (1 ∷ []) ∷ wait 25 1 131 false (2 ∷ 1 ∷ 13 ∷ []) ∷ wait 50 0 129 false (8 ∷ 4 ∷ 11 ∷ []) ∷ wait 14 65535 126 true (14 ∷ 14 ∷ []) ∷ []) 2 0)
@@ -1400,16 +1448,18 @@ pub outstanding-settles :
     (reply 25 32 0 2 1 ∷ reply 49 3 254 0 3 ∷ reply 50 32 0 4 2 ∷ reply 14 32 245 0 65535 ∷ [])
     (stands (chan 3 129 true true (12 ∷ 39 ∷ 17 ∷ []) ∷ chan 1 131 false false [] ∷ chan 2 129 false false [] ∷ chan 3 131 true false [] ∷ [])
     ([])
-    (wait 13 0 131 true (1 ∷ []) ∷ []) 2 2)))
-    ∷ [])
+    (wait 13 0 131 true (1 ∷ []) ∷ []) 2 2))
+    ∷ []
+
+pub outstanding-settles : Computes outstanding-settles-vectors
 unfolding machine
 outstanding-settles = refl
 
 -- one walk grants two or more
-pub many-granted :
-    Computes
+abbrev pub many-granted-vectors : List Vector
+many-granted-vectors =
     -- STOP: done, error -10, replies 5
-    ((vector
+    vector
     (stands (chan 4 0 false false (13 ∷ []) ∷ chan 4 128 false false (14 ∷ []) ∷ free ∷ chan 3 126 true false [] ∷ [])
     ([])
     (wait 42 4 131 true (1 ∷ []) ∷ wait 27 0 130 false (2 ∷ 1 ∷ []) ∷ wait 49 3 126 true (8 ∷ 12 ∷ []) ∷ []) 1 2)
@@ -1418,9 +1468,9 @@ pub many-granted :
     (reply 13 3 254 0 4 ∷ reply 42 32 0 1 4 ∷ reply 14 3 254 0 4 ∷ reply 27 32 0 2 5 ∷ reply 49 32 245 0 3 ∷ [])
     (stands (chan 4 131 false false [] ∷ chan 5 130 false false [] ∷ free ∷ chan 3 126 true false [] ∷ [])
     ([])
-    ([]) 1 5)))
+    ([]) 1 5))
     -- FLUSH: done, error -10, replies 5
-    ∷ (vector
+    ∷ vector
     (stands (chan 2 127 true false [] ∷ chan 3 127 true false [] ∷ free ∷ chan 36046 127 false true (21 ∷ 60 ∷ []) ∷ [])
     (lock 33 2 1 ∷ lock 47 2 1 ∷ [])
     (wait 50 0 126 true (2 ∷ 8 ∷ 4 ∷ []) ∷ wait 29 0 126 false (2 ∷ 14 ∷ 6 ∷ []) ∷ wait 51 0 125 false (5 ∷ 5 ∷ 7 ∷ 14 ∷ 4 ∷ 4 ∷ 1 ∷ 9 ∷ 0 ∷ 8 ∷ 4 ∷ 1 ∷ 1 ∷ 11 ∷ 1 ∷ 7 ∷ []) ∷ []) 3 1)
@@ -1429,9 +1479,9 @@ pub many-granted :
     (reply 21 3 254 0 36046 ∷ reply 60 3 254 0 36046 ∷ reply 19 8 246 8 36046 ∷ reply 50 32 0 4 4 ∷ reply 51 32 0 0 5 ∷ [])
     (stands (chan 2 127 true false [] ∷ chan 3 127 true false [] ∷ chan 4 126 false false [] ∷ chan 36046 127 false true [] ∷ [])
     (lock 33 2 1 ∷ lock 47 2 1 ∷ [])
-    (wait 29 0 126 false (2 ∷ 14 ∷ 6 ∷ []) ∷ []) 3 5)))
+    (wait 29 0 126 false (2 ∷ 14 ∷ 6 ∷ []) ∷ []) 3 5))
     -- RESET: done, error -10, replies 2
-    ∷ (vector
+    ∷ vector
     (stands (chan 3 131 false false (41 ∷ 55 ∷ []) ∷ chan 3 125 false false (49 ∷ []) ∷ chan 65535 125 false true [] ∷ chan 3 127 false false [] ∷ [])
     ([])
     (wait 22 0 131 false (8 ∷ 1 ∷ 12 ∷ []) ∷ wait 29 3 129 false (1 ∷ 15 ∷ 8 ∷ 1 ∷ 15 ∷ 2 ∷ 0 ∷ 5 ∷ 2 ∷ 15 ∷ 8 ∷ 1 ∷ 6 ∷ 8 ∷ 8 ∷ 13 ∷ []) ∷ wait 35 3 129 false (8 ∷ 7 ∷ []) ∷ wait 25 3 127 false (8 ∷ 1 ∷ []) ∷ []) 2 2)
@@ -1440,9 +1490,9 @@ pub many-granted :
     (reply 22 32 0 8 4 ∷ reply 29 32 0 0 3 ∷ [])
     (stands (chan 3 131 false false (41 ∷ 55 ∷ []) ∷ chan 3 125 false false (49 ∷ []) ∷ chan 65535 125 false true [] ∷ chan 4 131 false false [] ∷ [])
     ([])
-    (wait 35 3 129 false (8 ∷ 7 ∷ []) ∷ wait 25 3 127 false (8 ∷ 1 ∷ []) ∷ []) 2 4)))
+    (wait 35 3 129 false (8 ∷ 7 ∷ []) ∷ wait 25 3 127 false (8 ∷ 1 ∷ []) ∷ []) 2 4))
     -- FREE: done, error -10, replies 4
-    ∷ (vector
+    ∷ vector
     (stands (free ∷ chan 2 0 false false [] ∷ chan 65535 125 true false (51 ∷ 26 ∷ []) ∷ free ∷ [])
     (lock 23 65535 4 ∷ [])
     (wait 7 65535 131 true (14 ∷ 0 ∷ []) ∷ wait 17 0 130 true (7 ∷ 15 ∷ []) ∷ wait 44 0 129 false (15 ∷ 1 ∷ 5 ∷ []) ∷ []) 1 65534)
@@ -1451,9 +1501,9 @@ pub many-granted :
     (reply 0 9 246 0 65535 ∷ reply 7 32 0 0 65535 ∷ reply 23 13 244 4 65535 ∷ reply 44 32 0 1 1 ∷ [])
     (stands (chan 1 129 false false [] ∷ chan 2 0 false false [] ∷ chan 65535 125 true false (51 ∷ 26 ∷ []) ∷ free ∷ [])
     ([])
-    (wait 17 0 130 true (7 ∷ 15 ∷ []) ∷ []) 1 1)))
+    (wait 17 0 130 true (7 ∷ 15 ∷ []) ∷ []) 1 1))
     -- FLUSH: done, error -10, replies 6
-    ∷ (vector
+    ∷ vector
     (stands (chan 65535 130 false false (21 ∷ []) ∷ chan 65535 127 false true [] ∷ chan 65535 125 false false (45 ∷ []) ∷ free ∷ [])
     ([])
     (wait 12 0 131 false (14 ∷ 2 ∷ 8 ∷ []) ∷ wait 49 0 128 true (4 ∷ 10 ∷ 4 ∷ []) ∷ wait 16 0 128 true (14 ∷ 1 ∷ 9 ∷ []) ∷ wait 30 0 126 true (15 ∷ []) ∷ []) 3 65534)
@@ -1462,9 +1512,9 @@ pub many-granted :
     (reply 28 8 246 0 65535 ∷ reply 12 32 0 8 1 ∷ reply 45 3 254 0 65535 ∷ reply 49 32 0 4 2 ∷ reply 16 32 245 0 0 ∷ reply 30 32 245 0 0 ∷ [])
     (stands (chan 65535 130 false false (21 ∷ []) ∷ chan 65535 127 false true [] ∷ chan 2 128 false false [] ∷ chan 1 131 false false [] ∷ [])
     ([])
-    ([]) 3 2)))
+    ([]) 3 2))
     -- ALLOCATE: done, error 0, replies 3
-    ∷ (vector
+    ∷ vector
     (stands (free ∷ free ∷ chan 2 127 true false [] ∷ chan 4 129 false false (54 ∷ []) ∷ [])
     (lock 45 2 4 ∷ [])
     (wait 62 4 129 true (7 ∷ 1 ∷ []) ∷ []) 3 1)
@@ -1473,9 +1523,9 @@ pub many-granted :
     (reply 54 3 254 0 4 ∷ reply 29 32 0 10 3 ∷ reply 62 32 0 1 4 ∷ [])
     (stands (chan 4 129 false false [] ∷ chan 3 131 false false [] ∷ chan 2 127 true false [] ∷ chan 3 131 false false [] ∷ [])
     (lock 45 2 4 ∷ [])
-    ([]) 3 3)))
+    ([]) 3 3))
     -- CLOSE: done, error 0, replies 5
-    ∷ (vector
+    ∷ vector
     (stands (chan 3 131 true false [] ∷ chan 65535 125 false false (36 ∷ []) ∷ chan 3 131 false false (63 ∷ []) ∷ chan 65535 127 true false (33 ∷ []) ∷ [])
     (lock 2 65535 8 ∷ [])
     (wait 48 0 255 true (2 ∷ 4 ∷ 4 ∷ []) ∷ wait 26 3 128 true (0 ∷ 0 ∷ 8 ∷ []) ∷ wait 21 65535 128 false (3 ∷ []) ∷ wait 19 65535 126 false (2 ∷ 13 ∷ []) ∷ []) 3 65534)
@@ -1484,9 +1534,9 @@ pub many-granted :
     (reply 63 3 254 0 3 ∷ reply 48 32 0 4 1 ∷ reply 26 32 0 0 3 ∷ reply 36 3 254 0 65535 ∷ reply 21 32 0 3 65535 ∷ [])
     (stands (chan 65535 128 false false [] ∷ chan 65535 128 false false [] ∷ chan 1 255 false false [] ∷ chan 65535 127 true false (33 ∷ []) ∷ [])
     (lock 2 65535 8 ∷ [])
-    (wait 19 65535 126 false (2 ∷ 13 ∷ []) ∷ []) 2 1)))
+    (wait 19 65535 126 false (2 ∷ 13 ∷ []) ∷ []) 2 1))
     -- STOP: done, error -10, replies 3
-    ∷ (vector
+    ∷ vector
     (stands (free ∷ chan 65535 125 false false [] ∷ chan 4 128 true false [] ∷ chan 4 128 false false [] ∷ [])
     ([])
     (wait 34 65535 129 true (1 ∷ 10 ∷ []) ∷ wait 38 0 128 false (11 ∷ 2 ∷ []) ∷ wait 51 0 126 false (1 ∷ 1 ∷ 2 ∷ []) ∷ []) 2 65534)
@@ -1495,16 +1545,18 @@ pub many-granted :
     (reply 58 6 246 0 63288 ∷ reply 34 32 0 1 65535 ∷ reply 38 32 0 2 1 ∷ [])
     (stands (chan 65535 129 false false [] ∷ chan 1 128 false false [] ∷ chan 4 128 true false [] ∷ chan 4 128 false false [] ∷ [])
     ([])
-    (wait 51 0 126 false (1 ∷ 1 ∷ 2 ∷ []) ∷ []) 2 1)))
-    ∷ [])
+    (wait 51 0 126 false (1 ∷ 1 ∷ 2 ∷ []) ∷ []) 2 1))
+    ∷ []
+
+pub many-granted : Computes many-granted-vectors
 unfolding machine
 many-granted = refl
 
 -- the event ends a write, and the walk follows
-pub events-settle :
-    Computes
+abbrev pub events-settle-vectors : List Vector
+events-settle-vectors =
     -- event: done, error 0, replies 2
-    ((vector
+    vector
     (stands (chan 4 130 false false (54 ∷ 18 ∷ []) ∷ chan 65535 125 false false (1 ∷ 53 ∷ []) ∷ chan 65535 128 false false (31 ∷ 32 ∷ []) ∷ free ∷ [])
     ([])
     (wait 33 4 126 true (4 ∷ []) ∷ []) 3 65535)
@@ -1513,9 +1565,9 @@ pub events-settle :
     (reply 54 3 0 1 4 ∷ reply 33 32 245 0 4 ∷ [])
     (stands (chan 4 130 false false (18 ∷ []) ∷ chan 65535 125 false false (1 ∷ 53 ∷ []) ∷ chan 65535 128 false false (31 ∷ 32 ∷ []) ∷ free ∷ [])
     ([])
-    ([]) 3 65535)))
+    ([]) 3 65535))
     -- event: done, error 0, replies 5
-    ∷ (vector
+    ∷ vector
     (stands (chan 10 125 false false [] ∷ chan 10 131 false false (37 ∷ []) ∷ free ∷ free ∷ [])
     ([])
     (wait 17 0 131 true (8 ∷ 11 ∷ 7 ∷ []) ∷ wait 62 0 128 false (2 ∷ 13 ∷ 4 ∷ []) ∷ wait 0 3 127 true (2 ∷ 2 ∷ 1 ∷ []) ∷ wait 15 0 126 true (15 ∷ 1 ∷ []) ∷ []) 1 9)
@@ -1524,9 +1576,9 @@ pub events-settle :
     (reply 37 3 0 2 10 ∷ reply 17 32 0 8 11 ∷ reply 62 32 0 4 12 ∷ reply 0 32 0 1 3 ∷ reply 15 32 245 0 0 ∷ [])
     (stands (chan 3 127 false false [] ∷ chan 10 131 false false [] ∷ chan 12 128 false false [] ∷ chan 11 131 false false [] ∷ [])
     ([])
-    ([]) 1 12)))
+    ([]) 1 12))
     -- event: done, error 0, replies 2
-    ∷ (vector
+    ∷ vector
     (stands (chan 2 127 false false [] ∷ chan 2 127 false false [] ∷ free ∷ chan 2 130 false false (30 ∷ []) ∷ [])
     ([])
     (wait 26 0 128 false (1 ∷ []) ∷ wait 17 2 127 false (2 ∷ 12 ∷ 1 ∷ []) ∷ []) 1 1)
@@ -1535,9 +1587,9 @@ pub events-settle :
     (reply 30 3 0 8 2 ∷ reply 26 32 0 1 3 ∷ [])
     (stands (chan 3 128 false false [] ∷ chan 2 127 false false [] ∷ free ∷ chan 2 130 false false [] ∷ [])
     ([])
-    (wait 17 2 127 false (2 ∷ 12 ∷ 1 ∷ []) ∷ []) 1 3)))
+    (wait 17 2 127 false (2 ∷ 12 ∷ 1 ∷ []) ∷ []) 1 3))
     -- event: done, error 0, replies 4
-    ∷ (vector
+    ∷ vector
     (stands (chan 65535 126 true false (27 ∷ 4 ∷ []) ∷ chan 2 125 true false [] ∷ free ∷ chan 2 128 false false (26 ∷ []) ∷ [])
     (lock 51 2 2 ∷ [])
     (wait 33 2 131 false (9 ∷ 1 ∷ 4 ∷ []) ∷ wait 59 1 131 true (10 ∷ 15 ∷ 15 ∷ []) ∷ wait 6 0 129 false (8 ∷ 0 ∷ []) ∷ wait 14 0 126 false (11 ∷ 1 ∷ 8 ∷ []) ∷ []) 3 65535)
@@ -1546,16 +1598,18 @@ pub events-settle :
     (reply 27 3 0 1 65535 ∷ reply 33 32 0 4 2 ∷ reply 51 13 244 2 2 ∷ reply 6 32 0 0 3 ∷ [])
     (stands (chan 65535 126 true false (4 ∷ []) ∷ chan 2 125 true false [] ∷ chan 2 131 false false [] ∷ chan 2 128 false false (26 ∷ []) ∷ [])
     ([])
-    (wait 59 1 131 true (10 ∷ 15 ∷ 15 ∷ []) ∷ wait 14 0 126 false (11 ∷ 1 ∷ 8 ∷ []) ∷ []) 3 3)))
-    ∷ [])
+    (wait 59 1 131 true (10 ∷ 15 ∷ 15 ∷ []) ∷ wait 14 0 126 false (11 ∷ 1 ∷ 8 ∷ []) ∷ []) 3 3))
+    ∷ []
+
+pub events-settle : Computes events-settle-vectors
 unfolding machine
 events-settle = refl
 
 -- the event finds nothing, and the walk follows
-pub empty-events-settle :
-    Computes
+abbrev pub empty-events-settle-vectors : List Vector
+empty-events-settle-vectors =
     -- event: done, error 0, replies 3
-    ((vector
+    vector
     (stands (chan 10 130 true false [] ∷ free ∷ chan 4 125 true true [] ∷ chan 4 129 true false (54 ∷ 50 ∷ []) ∷ [])
     (lock 21 10 1 ∷ [])
     (wait 43 0 131 true (10 ∷ 1 ∷ []) ∷ wait 57 10 129 false (2 ∷ 8 ∷ 5 ∷ []) ∷ wait 38 0 129 true (2 ∷ 8 ∷ 3 ∷ []) ∷ wait 4 10 125 true (0 ∷ 4 ∷ []) ∷ []) 3 9)
@@ -1564,9 +1618,9 @@ pub empty-events-settle :
     (reply 57 32 0 2 10 ∷ reply 38 32 245 0 0 ∷ reply 4 32 0 0 10 ∷ [])
     (stands (chan 10 130 true false [] ∷ chan 10 129 false false [] ∷ chan 4 125 true true [] ∷ chan 4 129 true false (54 ∷ 50 ∷ []) ∷ [])
     (lock 21 10 1 ∷ [])
-    (wait 43 0 131 true (10 ∷ 1 ∷ []) ∷ []) 3 9)))
+    (wait 43 0 131 true (10 ∷ 1 ∷ []) ∷ []) 3 9))
     -- event: done, error 0, replies 3
-    ∷ (vector
+    ∷ vector
     (stands (free ∷ free ∷ chan 57976 130 true false [] ∷ free ∷ [])
     ([])
     (wait 21 2 130 false (1 ∷ 1 ∷ 1 ∷ []) ∷ wait 12 0 129 false (6 ∷ 0 ∷ 5 ∷ 4 ∷ 2 ∷ 4 ∷ 11 ∷ 8 ∷ 8 ∷ 8 ∷ 12 ∷ 1 ∷ 8 ∷ 1 ∷ 5 ∷ 12 ∷ []) ∷ wait 57 2 127 false (1 ∷ []) ∷ wait 35 0 126 true (2 ∷ 4 ∷ []) ∷ []) 2 65534)
@@ -1575,9 +1629,9 @@ pub empty-events-settle :
     (reply 21 32 0 1 2 ∷ reply 12 32 0 0 65535 ∷ reply 35 32 0 2 1 ∷ [])
     (stands (chan 2 130 false false [] ∷ chan 1 126 false false [] ∷ chan 57976 130 true false [] ∷ free ∷ [])
     ([])
-    (wait 57 2 127 false (1 ∷ []) ∷ []) 2 1)))
+    (wait 57 2 127 false (1 ∷ []) ∷ []) 2 1))
     -- event: done, error 0, replies 4
-    ∷ (vector
+    ∷ vector
     (stands (chan 2 128 true false [] ∷ chan 2 125 false true (8 ∷ 40 ∷ []) ∷ chan 2 130 false true [] ∷ chan 2 125 false false [] ∷ [])
     ([])
     (wait 5 65535 130 true (2 ∷ 3 ∷ 8 ∷ []) ∷ wait 11 2 129 true (1 ∷ []) ∷ wait 38 65535 126 false (1 ∷ []) ∷ wait 17 0 125 true (4 ∷ 8 ∷ 4 ∷ []) ∷ []) 2 1)
@@ -1586,9 +1640,9 @@ pub empty-events-settle :
     (reply 8 3 254 0 2 ∷ reply 40 3 254 0 2 ∷ reply 5 32 0 2 65535 ∷ reply 17 32 245 0 0 ∷ [])
     (stands (chan 2 128 true false [] ∷ chan 65535 130 false false [] ∷ chan 2 130 false true [] ∷ chan 2 125 false false [] ∷ [])
     ([])
-    (wait 11 2 129 true (1 ∷ []) ∷ wait 38 65535 126 false (1 ∷ []) ∷ []) 2 1)))
+    (wait 11 2 129 true (1 ∷ []) ∷ wait 38 65535 126 false (1 ∷ []) ∷ []) 2 1))
     -- event: done, error 0, replies 1
-    ∷ (vector
+    ∷ vector
     (stands (free ∷ chan 3586 126 false false [] ∷ chan 4 125 true false [] ∷ chan 1 125 true false (24 ∷ 57 ∷ []) ∷ [])
     ([])
     (wait 41 3586 128 true (1 ∷ 7 ∷ []) ∷ wait 23 1 125 false (8 ∷ 1 ∷ []) ∷ []) 2 65535)
@@ -1597,16 +1651,18 @@ pub empty-events-settle :
     (reply 41 32 0 1 3586 ∷ [])
     (stands (chan 3586 128 false false [] ∷ chan 3586 126 false false [] ∷ chan 4 125 true false [] ∷ chan 1 125 true false (24 ∷ 57 ∷ []) ∷ [])
     ([])
-    (wait 23 1 125 false (8 ∷ 1 ∷ []) ∷ []) 2 65535)))
-    ∷ [])
+    (wait 23 1 125 false (8 ∷ 1 ∷ []) ∷ []) 2 65535))
+    ∷ []
+
+pub empty-events-settle : Computes empty-events-settle-vectors
 unfolding machine
 empty-events-settle = refl
 
 -- OPEN or CLOSE is done, and the walk follows
-pub opens-settle :
-    Computes
+abbrev pub opens-settle-vectors : List Vector
+opens-settle-vectors =
     -- OPEN: done, error 0, replies 2
-    ((vector
+    vector
     (stands (chan 2 129 false true [] ∷ chan 2 127 true false [] ∷ chan 64786 129 false false [] ∷ chan 10 130 false true [] ∷ [])
     ([])
     (wait 56 2 127 false (4 ∷ 2 ∷ 0 ∷ []) ∷ wait 47 0 125 false (1 ∷ 4 ∷ 6 ∷ 13 ∷ 4 ∷ 4 ∷ 3 ∷ 0 ∷ 8 ∷ 8 ∷ 8 ∷ 5 ∷ 0 ∷ 2 ∷ 11 ∷ 8 ∷ []) ∷ []) 3 9)
@@ -1615,9 +1671,9 @@ pub opens-settle :
     (reply 56 32 0 0 2 ∷ reply 47 32 0 0 12 ∷ [])
     (stands (chan 11 130 false false [] ∷ chan 2 127 true false [] ∷ chan 11 130 false false [] ∷ chan 10 130 false true [] ∷ [])
     ([])
-    ([]) 4 12)))
+    ([]) 4 12))
     -- CLOSE: done, error 0, replies 1
-    ∷ (vector
+    ∷ vector
     (stands (chan 54079 128 false false [] ∷ chan 54079 130 true false [] ∷ chan 3 129 false false (24 ∷ []) ∷ free ∷ [])
     ([])
     (wait 10 0 129 true (14 ∷ 1 ∷ []) ∷ []) 2 2)
@@ -1626,9 +1682,9 @@ pub opens-settle :
     (reply 10 32 0 1 4 ∷ [])
     (stands (chan 4 129 false false [] ∷ free ∷ chan 3 129 false false (24 ∷ []) ∷ free ∷ [])
     ([])
-    ([]) 1 4)))
+    ([]) 1 4))
     -- CLOSE: done, error 0, replies 4
-    ∷ (vector
+    ∷ vector
     (stands (chan 65535 131 false false [] ∷ chan 2 128 false true (49 ∷ 59 ∷ []) ∷ chan 2 130 false false (6 ∷ []) ∷ chan 65535 255 false false [] ∷ [])
     ([])
     (wait 1 0 129 false (2 ∷ []) ∷ []) 2 1)
@@ -1637,9 +1693,9 @@ pub opens-settle :
     (reply 49 3 254 0 2 ∷ reply 59 3 254 0 2 ∷ reply 6 3 254 0 2 ∷ reply 1 32 0 2 2 ∷ [])
     (stands (chan 65535 131 false false [] ∷ chan 2 129 false false [] ∷ free ∷ chan 65535 255 false false [] ∷ [])
     ([])
-    ([]) 1 2)))
+    ([]) 1 2))
     -- CLOSE: done, error 0, replies 2
-    ∷ (vector
+    ∷ vector
     (stands (chan 51886 130 false true (58 ∷ 44 ∷ []) ∷ chan 51886 127 false false [] ∷ chan 2 126 false false [] ∷ chan 2 128 false false [] ∷ [])
     ([])
     (wait 40 2 129 true (8 ∷ 12 ∷ []) ∷ wait 45 51886 127 true (9 ∷ []) ∷ wait 38 2 126 false (1 ∷ 2 ∷ 1 ∷ []) ∷ []) 65535 1)
@@ -1648,16 +1704,18 @@ pub opens-settle :
     (reply 40 32 0 8 2 ∷ reply 45 32 245 0 51886 ∷ [])
     (stands (chan 51886 130 false true (58 ∷ 44 ∷ []) ∷ chan 51886 127 false false [] ∷ free ∷ chan 2 129 false false [] ∷ [])
     ([])
-    (wait 38 2 126 false (1 ∷ 2 ∷ 1 ∷ []) ∷ []) 65534 1)))
-    ∷ [])
+    (wait 38 2 126 false (1 ∷ 2 ∷ 1 ∷ []) ∷ []) 65534 1))
+    ∷ []
+
+pub opens-settle : Computes opens-settle-vectors
 unfolding machine
 opens-settle = refl
 
 -- a new key for the call and one for the walk
-pub new-keys :
-    Computes
+abbrev pub new-keys-vectors : List Vector
+new-keys-vectors =
     -- ALLOCATE: done, error 0, replies 1
-    ((vector
+    vector
     (stands (chan 31387 125 false false [] ∷ chan 3 127 false true [] ∷ chan 3 125 true false [] ∷ chan 3 130 false false [] ∷ [])
     ([])
     (wait 29 0 128 true (1 ∷ 8 ∷ 5 ∷ []) ∷ wait 39 3 126 false (8 ∷ []) ∷ wait 47 0 125 false (10 ∷ []) ∷ []) 1 1)
@@ -1666,9 +1724,9 @@ pub new-keys :
     (reply 29 32 0 1 4 ∷ [])
     (stands (chan 4 128 false false [] ∷ chan 3 127 false true [] ∷ chan 3 125 true false [] ∷ chan 3 130 false false [] ∷ [])
     ([])
-    (wait 39 3 126 false (8 ∷ []) ∷ wait 47 0 125 false (10 ∷ []) ∷ []) 1 4)))
+    (wait 39 3 126 false (8 ∷ []) ∷ wait 47 0 125 false (10 ∷ []) ∷ []) 1 4))
     -- ALLOCATE: outstanding, error 0, replies 3
-    ∷ (vector
+    ∷ vector
     (stands (chan 7943 127 true false (21 ∷ []) ∷ free ∷ chan 2 131 true false [] ∷ chan 2 131 false true [] ∷ [])
     (lock 17 7943 1 ∷ [])
     (wait 19 0 130 true (0 ∷ []) ∷ wait 49 0 129 false (4 ∷ 8 ∷ 1 ∷ []) ∷ wait 20 7943 128 false (1 ∷ 7 ∷ []) ∷ wait 40 10 125 true (1 ∷ 4 ∷ []) ∷ []) 1 9)
@@ -1677,9 +1735,9 @@ pub new-keys :
     (reply 19 32 0 0 11 ∷ reply 17 13 244 1 7943 ∷ reply 40 32 245 0 10 ∷ [])
     (stands (chan 7943 127 true false (21 ∷ []) ∷ free ∷ chan 2 131 true false [] ∷ chan 2 131 false true [] ∷ [])
     ([])
-    (wait 49 0 129 false (4 ∷ 8 ∷ 1 ∷ []) ∷ wait 20 7943 128 false (1 ∷ 7 ∷ []) ∷ wait 15 0 128 false (11 ∷ 4 ∷ []) ∷ []) 1 11)))
+    (wait 49 0 129 false (4 ∷ 8 ∷ 1 ∷ []) ∷ wait 20 7943 128 false (1 ∷ 7 ∷ []) ∷ wait 15 0 128 false (11 ∷ 4 ∷ []) ∷ []) 1 11))
     -- OPEN: done, error 0, replies 2
-    ∷ (vector
+    ∷ vector
     (stands (chan 3 126 false false [] ∷ chan 3 129 true false [] ∷ chan 3 127 true false [] ∷ chan 3 128 false true [] ∷ [])
     (lock 12 3 2 ∷ lock 25 3 6 ∷ [])
     (wait 13 0 128 false (2 ∷ 6 ∷ 1 ∷ []) ∷ wait 0 0 0 true (0 ∷ []) ∷ []) 0 2)
@@ -1688,9 +1746,9 @@ pub new-keys :
     (reply 13 32 0 1 5 ∷ reply 0 32 0 0 6 ∷ [])
     (stands (chan 5 128 false false [] ∷ chan 3 129 true false [] ∷ chan 3 127 true false [] ∷ chan 3 128 false true [] ∷ [])
     (lock 12 3 2 ∷ lock 25 3 6 ∷ [])
-    ([]) 1 6)))
+    ([]) 1 6))
     -- ALLOCATE: done, error 0, replies 4
-    ∷ (vector
+    ∷ vector
     (stands (chan 2 0 false false (49 ∷ 22 ∷ []) ∷ free ∷ chan 2 125 true false [] ∷ chan 65535 131 false false (18 ∷ 14 ∷ []) ∷ [])
     ([])
     (wait 30 65535 130 false (4 ∷ []) ∷ wait 1 0 127 true (4 ∷ 1 ∷ 12 ∷ []) ∷ []) 2 65534)
@@ -1699,16 +1757,18 @@ pub new-keys :
     (reply 29 32 0 2 1 ∷ reply 49 3 254 0 2 ∷ reply 22 3 254 0 2 ∷ reply 1 32 0 1 3 ∷ [])
     (stands (chan 3 127 false false [] ∷ chan 1 130 false false [] ∷ chan 2 125 true false [] ∷ chan 65535 131 false false (18 ∷ 14 ∷ []) ∷ [])
     ([])
-    (wait 30 65535 130 false (4 ∷ []) ∷ []) 2 3)))
-    ∷ [])
+    (wait 30 65535 130 false (4 ∷ []) ∷ []) 2 3))
+    ∷ []
+
+pub new-keys : Computes new-keys-vectors
 unfolding machine
 new-keys = refl
 
 -- refused with 2, 3 or 4: nothing is settled
-pub refusals-settle-nothing :
-    Computes
+abbrev pub refusals-settle-nothing-vectors : List Vector
+refusals-settle-nothing-vectors =
     -- ABORT: done, error 4, replies 0
-    ((vector
+    vector
     (stands (chan 4 130 false false [] ∷ chan 65535 255 true false (8 ∷ []) ∷ chan 65535 125 true true (6 ∷ []) ∷ chan 65535 125 false true [] ∷ [])
     (lock 30 65535 2 ∷ lock 4 65535 2 ∷ [])
     (wait 10 65535 130 false (10 ∷ []) ∷ wait 54 65535 129 true (2 ∷ 8 ∷ []) ∷ wait 63 65535 126 true (7 ∷ []) ∷ []) 2 65534)
@@ -1717,9 +1777,9 @@ pub refusals-settle-nothing :
     ([])
     (stands (chan 4 130 false false [] ∷ chan 65535 255 true false (8 ∷ []) ∷ chan 65535 125 true true (6 ∷ []) ∷ chan 65535 125 false true [] ∷ [])
     (lock 30 65535 2 ∷ lock 4 65535 2 ∷ [])
-    (wait 10 65535 130 false (10 ∷ []) ∷ wait 54 65535 129 true (2 ∷ 8 ∷ []) ∷ wait 63 65535 126 true (7 ∷ []) ∷ []) 2 65534)))
+    (wait 10 65535 130 false (10 ∷ []) ∷ wait 54 65535 129 true (2 ∷ 8 ∷ []) ∷ wait 63 65535 126 true (7 ∷ []) ∷ []) 2 65534))
     -- FREE: done, error 2, replies 0
-    ∷ (vector
+    ∷ vector
     (stands (free ∷ chan 65535 129 false false [] ∷ chan 4 126 false false [] ∷ free ∷ [])
     ([])
     (wait 36 4 131 true (1 ∷ 4 ∷ []) ∷ wait 58 65535 129 false (6 ∷ 8 ∷ []) ∷ []) 0 65535)
@@ -1728,9 +1788,9 @@ pub refusals-settle-nothing :
     ([])
     (stands (free ∷ chan 65535 129 false false [] ∷ chan 4 126 false false [] ∷ free ∷ [])
     ([])
-    (wait 36 4 131 true (1 ∷ 4 ∷ []) ∷ wait 58 65535 129 false (6 ∷ 8 ∷ []) ∷ []) 0 65535)))
+    (wait 36 4 131 true (1 ∷ 4 ∷ []) ∷ wait 58 65535 129 false (6 ∷ 8 ∷ []) ∷ []) 0 65535))
     -- ABORT: done, error 4, replies 0
-    ∷ (vector
+    ∷ vector
     (stands (chan 12811 125 false false [] ∷ free ∷ chan 2 127 true false [] ∷ free ∷ [])
     ([])
     (wait 52 0 129 false (8 ∷ 2 ∷ []) ∷ []) 2 0)
@@ -1739,9 +1799,9 @@ pub refusals-settle-nothing :
     ([])
     (stands (chan 12811 125 false false [] ∷ free ∷ chan 2 127 true false [] ∷ free ∷ [])
     ([])
-    (wait 52 0 129 false (8 ∷ 2 ∷ []) ∷ []) 2 0)))
+    (wait 52 0 129 false (8 ∷ 2 ∷ []) ∷ []) 2 0))
     -- ABORT: done, error 4, replies 0
-    ∷ (vector
+    ∷ vector
     (stands (chan 10 128 false false (1 ∷ 44 ∷ []) ∷ free ∷ chan 4 126 false false [] ∷ chan 4 129 false false (24 ∷ []) ∷ [])
     ([])
     (wait 60 0 130 true (4 ∷ 7 ∷ 2 ∷ []) ∷ wait 27 10 127 false (4 ∷ 12 ∷ 5 ∷ []) ∷ wait 31 0 125 false (8 ∷ 2 ∷ 1 ∷ []) ∷ []) 2 9)
@@ -1750,9 +1810,9 @@ pub refusals-settle-nothing :
     ([])
     (stands (chan 10 128 false false (1 ∷ 44 ∷ []) ∷ free ∷ chan 4 126 false false [] ∷ chan 4 129 false false (24 ∷ []) ∷ [])
     ([])
-    (wait 60 0 130 true (4 ∷ 7 ∷ 2 ∷ []) ∷ wait 27 10 127 false (4 ∷ 12 ∷ 5 ∷ []) ∷ wait 31 0 125 false (8 ∷ 2 ∷ 1 ∷ []) ∷ []) 2 9)))
+    (wait 60 0 130 true (4 ∷ 7 ∷ 2 ∷ []) ∷ wait 27 10 127 false (4 ∷ 12 ∷ 5 ∷ []) ∷ wait 31 0 125 false (8 ∷ 2 ∷ 1 ∷ []) ∷ []) 2 9))
     -- CLOSE: done, error 2, replies 0
-    ∷ (vector
+    ∷ vector
     (stands (free ∷ free ∷ chan 37782 127 false false (18 ∷ []) ∷ chan 2 131 false false (30 ∷ 46 ∷ []) ∷ [])
     ([])
     (wait 60 0 125 false (4 ∷ 1 ∷ []) ∷ []) 0 1)
@@ -1761,9 +1821,9 @@ pub refusals-settle-nothing :
     ([])
     (stands (free ∷ free ∷ chan 37782 127 false false (18 ∷ []) ∷ chan 2 131 false false (30 ∷ 46 ∷ []) ∷ [])
     ([])
-    (wait 60 0 125 false (4 ∷ 1 ∷ []) ∷ []) 0 1)))
+    (wait 60 0 125 false (4 ∷ 1 ∷ []) ∷ []) 0 1))
     -- CLOSE: done, error 2, replies 0
-    ∷ (vector
+    ∷ vector
     (stands (chan 3 127 false false (30 ∷ 2 ∷ []) ∷ chan 3 125 false true [] ∷ chan 65535 129 false false (58 ∷ []) ∷ chan 3 127 true false [] ∷ [])
     ([])
     (wait 34 3 129 false (14 ∷ 15 ∷ []) ∷ wait 53 0 125 true (1 ∷ []) ∷ wait 42 10 125 true (4 ∷ 2 ∷ 1 ∷ []) ∷ []) 0 9)
@@ -1772,16 +1832,18 @@ pub refusals-settle-nothing :
     ([])
     (stands (chan 3 127 false false (30 ∷ 2 ∷ []) ∷ chan 3 125 false true [] ∷ chan 65535 129 false false (58 ∷ []) ∷ chan 3 127 true false [] ∷ [])
     ([])
-    (wait 34 3 129 false (14 ∷ 15 ∷ []) ∷ wait 53 0 125 true (1 ∷ []) ∷ wait 42 10 125 true (4 ∷ 2 ∷ 1 ∷ []) ∷ []) 0 9)))
-    ∷ [])
+    (wait 34 3 129 false (14 ∷ 15 ∷ []) ∷ wait 53 0 125 true (1 ∷ []) ∷ wait 42 10 125 true (4 ∷ 2 ∷ 1 ∷ []) ∷ []) 0 9))
+    ∷ []
+
+pub refusals-settle-nothing : Computes refusals-settle-nothing-vectors
 unfolding machine
 refusals-settle-nothing = refl
 
 -- refused with -1, -3, -4 or -5: nothing is settled
-pub form-settles-nothing :
-    Computes
+abbrev pub form-settles-nothing-vectors : List Vector
+form-settles-nothing-vectors =
     -- command F4: done, error -3, replies 1
-    ((vector
+    vector
     (stands (free ∷ chan 1 126 false false [] ∷ chan 1 129 false false [] ∷ chan 65535 125 false false (9 ∷ []) ∷ [])
     ([])
     (wait 10 1 255 false (8 ∷ []) ∷ wait 35 1 128 false (4 ∷ 13 ∷ []) ∷ []) 1 0)
@@ -1790,9 +1852,9 @@ pub form-settles-nothing :
     (reply 5 244 253 0 1 ∷ [])
     (stands (free ∷ chan 1 126 false false [] ∷ chan 1 129 false false [] ∷ chan 65535 125 false false (9 ∷ []) ∷ [])
     ([])
-    (wait 10 1 255 false (8 ∷ []) ∷ wait 35 1 128 false (4 ∷ 13 ∷ []) ∷ []) 1 0)))
+    (wait 10 1 255 false (8 ∷ []) ∷ wait 35 1 128 false (4 ∷ 13 ∷ []) ∷ []) 1 0))
     -- command 0C: done, error -3, replies 0
-    ∷ (vector
+    ∷ vector
     (stands (chan 10423 131 true false (10 ∷ 2 ∷ []) ∷ chan 4 131 false false (38 ∷ 24 ∷ []) ∷ chan 1 128 true false [] ∷ chan 1 130 true false (52 ∷ []) ∷ [])
     ([])
     (wait 56 0 131 true (2 ∷ 12 ∷ 1 ∷ []) ∷ wait 3 0 129 true (8 ∷ 15 ∷ 9 ∷ []) ∷ []) 3 65535)
@@ -1801,9 +1863,9 @@ pub form-settles-nothing :
     ([])
     (stands (chan 10423 131 true false (10 ∷ 2 ∷ []) ∷ chan 4 131 false false (38 ∷ 24 ∷ []) ∷ chan 1 128 true false [] ∷ chan 1 130 true false (52 ∷ []) ∷ [])
     ([])
-    (wait 56 0 131 true (2 ∷ 12 ∷ 1 ∷ []) ∷ wait 3 0 129 true (8 ∷ 15 ∷ 9 ∷ []) ∷ []) 3 65535)))
+    (wait 56 0 131 true (2 ∷ 12 ∷ 1 ∷ []) ∷ wait 3 0 129 true (8 ∷ 15 ∷ 9 ∷ []) ∷ []) 3 65535))
     -- command 0C: done, error -3, replies 1
-    ∷ (vector
+    ∷ vector
     (stands (chan 65535 255 true false [] ∷ free ∷ free ∷ chan 2 127 false false [] ∷ [])
     (lock 33 65535 1 ∷ lock 28 65535 1 ∷ [])
     (wait 27 0 130 false (1 ∷ 11 ∷ []) ∷ wait 24 0 129 true (1 ∷ []) ∷ []) 3 1)
@@ -1812,9 +1874,9 @@ pub form-settles-nothing :
     (reply 59 12 253 0 2 ∷ [])
     (stands (chan 65535 255 true false [] ∷ free ∷ free ∷ chan 2 127 false false [] ∷ [])
     (lock 33 65535 1 ∷ lock 28 65535 1 ∷ [])
-    (wait 27 0 130 false (1 ∷ 11 ∷ []) ∷ wait 24 0 129 true (1 ∷ []) ∷ []) 3 1)))
+    (wait 27 0 130 false (1 ∷ 11 ∷ []) ∷ wait 24 0 129 true (1 ∷ []) ∷ []) 3 1))
     -- command F4: done, error -3, replies 1
-    ∷ (vector
+    ∷ vector
     (stands (free ∷ chan 2 129 true false (26 ∷ []) ∷ chan 2 126 true false [] ∷ free ∷ [])
     ([])
     (wait 52 4 129 false (1 ∷ 1 ∷ 8 ∷ []) ∷ []) 3 1)
@@ -1823,9 +1885,9 @@ pub form-settles-nothing :
     (reply 23 244 253 0 4 ∷ [])
     (stands (free ∷ chan 2 129 true false (26 ∷ []) ∷ chan 2 126 true false [] ∷ free ∷ [])
     ([])
-    (wait 52 4 129 false (1 ∷ 1 ∷ 8 ∷ []) ∷ []) 3 1)))
+    (wait 52 4 129 false (1 ∷ 1 ∷ 8 ∷ []) ∷ []) 3 1))
     -- command F4: done, error -3, replies 0
-    ∷ (vector
+    ∷ vector
     (stands (free ∷ chan 50356 130 false false [] ∷ chan 50356 255 true false (1 ∷ []) ∷ chan 2 125 true false [] ∷ [])
     (lock 19 2 8 ∷ lock 18 2 8 ∷ [])
     (wait 58 2 131 false (0 ∷ []) ∷ wait 43 2 130 false (8 ∷ 2 ∷ 4 ∷ []) ∷ []) 2 1)
@@ -1834,9 +1896,9 @@ pub form-settles-nothing :
     ([])
     (stands (free ∷ chan 50356 130 false false [] ∷ chan 50356 255 true false (1 ∷ []) ∷ chan 2 125 true false [] ∷ [])
     (lock 19 2 8 ∷ lock 18 2 8 ∷ [])
-    (wait 58 2 131 false (0 ∷ []) ∷ wait 43 2 130 false (8 ∷ 2 ∷ 4 ∷ []) ∷ []) 2 1)))
+    (wait 58 2 131 false (0 ∷ []) ∷ wait 43 2 130 false (8 ∷ 2 ∷ 4 ∷ []) ∷ []) 2 1))
     -- command F4: done, error -3, replies 1
-    ∷ (vector
+    ∷ vector
     (stands (free ∷ free ∷ chan 3 130 false false [] ∷ chan 2 130 false false [] ∷ [])
     ([])
     (wait 40 3 128 false (4 ∷ 1 ∷ []) ∷ wait 59 0 128 false (8 ∷ []) ∷ wait 14 2 127 true (4 ∷ []) ∷ wait 5 0 0 false (1 ∷ 1 ∷ 4 ∷ []) ∷ []) 3 1)
@@ -1845,16 +1907,18 @@ pub form-settles-nothing :
     (reply 55 244 253 0 65535 ∷ [])
     (stands (free ∷ free ∷ chan 3 130 false false [] ∷ chan 2 130 false false [] ∷ [])
     ([])
-    (wait 40 3 128 false (4 ∷ 1 ∷ []) ∷ wait 59 0 128 false (8 ∷ []) ∷ wait 14 2 127 true (4 ∷ []) ∷ wait 5 0 0 false (1 ∷ 1 ∷ 4 ∷ []) ∷ []) 3 1)))
-    ∷ [])
+    (wait 40 3 128 false (4 ∷ 1 ∷ []) ∷ wait 59 0 128 false (8 ∷ []) ∷ wait 14 2 127 true (4 ∷ []) ∷ wait 5 0 0 false (1 ∷ 1 ∷ 4 ∷ []) ∷ []) 3 1))
+    ∷ []
+
+pub form-settles-nothing : Computes form-settles-nothing-vectors
 unfolding machine
 form-settles-nothing = refl
 
 -- OPEN at open count 65,535
-pub no-more-opens :
-    Computes
+abbrev pub no-more-opens-vectors : List Vector
+no-more-opens-vectors =
     -- OPEN: done, error -1, replies 0
-    ((vector
+    vector
     (stands (chan 10 125 false false (62 ∷ []) ∷ chan 10 255 false false (41 ∷ 53 ∷ []) ∷ chan 65535 125 true false [] ∷ chan 10 130 false false [] ∷ [])
     ([])
     (wait 48 2 131 false (1 ∷ 13 ∷ []) ∷ wait 22 65535 130 true (8 ∷ []) ∷ wait 58 2 128 false (1 ∷ []) ∷ []) 65535 9)
@@ -1863,9 +1927,9 @@ pub no-more-opens :
     ([])
     (stands (chan 10 125 false false (62 ∷ []) ∷ chan 10 255 false false (41 ∷ 53 ∷ []) ∷ chan 65535 125 true false [] ∷ chan 10 130 false false [] ∷ [])
     ([])
-    (wait 48 2 131 false (1 ∷ 13 ∷ []) ∷ wait 22 65535 130 true (8 ∷ []) ∷ wait 58 2 128 false (1 ∷ []) ∷ []) 65535 9)))
+    (wait 48 2 131 false (1 ∷ 13 ∷ []) ∷ wait 22 65535 130 true (8 ∷ []) ∷ wait 58 2 128 false (1 ∷ []) ∷ []) 65535 9))
     -- OPEN: done, error -1, replies 0
-    ∷ (vector
+    ∷ vector
     (stands (chan 65535 129 true false [] ∷ chan 65535 125 true false (62 ∷ []) ∷ chan 65535 129 false false (17 ∷ 15 ∷ []) ∷ chan 3 126 false true (16 ∷ 33 ∷ []) ∷ [])
     ([])
     (wait 58 0 128 false (1 ∷ 2 ∷ 14 ∷ []) ∷ wait 43 0 128 true (4 ∷ 1 ∷ []) ∷ []) 65535 65534)
@@ -1874,16 +1938,18 @@ pub no-more-opens :
     ([])
     (stands (chan 65535 129 true false [] ∷ chan 65535 125 true false (62 ∷ []) ∷ chan 65535 129 false false (17 ∷ 15 ∷ []) ∷ chan 3 126 false true (16 ∷ 33 ∷ []) ∷ [])
     ([])
-    (wait 58 0 128 false (1 ∷ 2 ∷ 14 ∷ []) ∷ wait 43 0 128 true (4 ∷ 1 ∷ []) ∷ []) 65535 65534)))
-    ∷ [])
+    (wait 58 0 128 false (1 ∷ 2 ∷ 14 ∷ []) ∷ wait 43 0 128 true (4 ∷ 1 ∷ []) ∷ []) 65535 65534))
+    ∷ []
+
+pub no-more-opens : Computes no-more-opens-vectors
 unfolding machine
 no-more-opens = refl
 
 -- a reply list of 63 records
-pub short-lists :
-    Computes
+abbrev pub short-lists-vectors : List Vector
+short-lists-vectors =
     -- OPEN: done, error 5, replies 0
-    ((vector
+    vector
     (stands (chan 1 131 false false (63 ∷ []) ∷ free ∷ chan 9462 128 false false [] ∷ free ∷ [])
     ([])
     (wait 14 9462 128 false (4 ∷ 1 ∷ []) ∷ wait 43 3 125 false (10 ∷ []) ∷ []) 2 65535)
@@ -1892,9 +1958,9 @@ pub short-lists :
     ([])
     (stands (chan 1 131 false false (63 ∷ []) ∷ free ∷ chan 9462 128 false false [] ∷ free ∷ [])
     ([])
-    (wait 14 9462 128 false (4 ∷ 1 ∷ []) ∷ wait 43 3 125 false (10 ∷ []) ∷ []) 2 65535)))
+    (wait 14 9462 128 false (4 ∷ 1 ∷ []) ∷ wait 43 3 125 false (10 ∷ []) ∷ []) 2 65535))
     -- READ: done, error 5, replies 0
-    ∷ (vector
+    ∷ vector
     (stands (chan 10 0 true false (13 ∷ []) ∷ chan 10 131 false false (9 ∷ 28 ∷ []) ∷ chan 4 0 false false (26 ∷ 34 ∷ []) ∷ chan 22540 131 false false [] ∷ [])
     ([])
     (wait 18 4 129 true (4 ∷ 9 ∷ 12 ∷ []) ∷ wait 14 0 125 false (2 ∷ 13 ∷ []) ∷ []) 3 9)
@@ -1903,16 +1969,18 @@ pub short-lists :
     ([])
     (stands (chan 10 0 true false (13 ∷ []) ∷ chan 10 131 false false (9 ∷ 28 ∷ []) ∷ chan 4 0 false false (26 ∷ 34 ∷ []) ∷ chan 22540 131 false false [] ∷ [])
     ([])
-    (wait 18 4 129 true (4 ∷ 9 ∷ 12 ∷ []) ∷ wait 14 0 125 false (2 ∷ 13 ∷ []) ∷ []) 3 9)))
-    ∷ [])
+    (wait 18 4 129 true (4 ∷ 9 ∷ 12 ∷ []) ∷ wait 14 0 125 false (2 ∷ 13 ∷ []) ∷ []) 3 9))
+    ∷ []
+
+pub short-lists : Computes short-lists-vectors
 unfolding machine
 short-lists = refl
 
 -- a state that is not sound
-pub unsound-states :
-    Computes
+abbrev pub unsound-states-vectors : List Vector
+unsound-states-vectors =
     -- OPEN: done, error 1, replies 0
-    ((vector
+    vector
     (stands (chan 65535 129 false true (14 ∷ 63 ∷ []) ∷ chan 0 129 false false [] ∷ chan 3 131 false false [] ∷ chan 1 130 false false [] ∷ [])
     ([])
     (wait 10 1 126 true (8 ∷ []) ∷ []) 2 0)
@@ -1921,9 +1989,9 @@ pub unsound-states :
     ([])
     (stands (chan 65535 129 false true (14 ∷ 63 ∷ []) ∷ chan 0 129 false false [] ∷ chan 3 131 false false [] ∷ chan 1 130 false false [] ∷ [])
     ([])
-    (wait 10 1 126 true (8 ∷ []) ∷ []) 2 0)))
+    (wait 10 1 126 true (8 ∷ []) ∷ []) 2 0))
     -- READ: done, error 1, replies 0
-    ∷ (vector
+    ∷ vector
     (stands (chan 0 129 false false [] ∷ chan 10 255 false false [] ∷ chan 2 127 false false (17 ∷ 58 ∷ []) ∷ chan 65535 125 false true (27 ∷ 40 ∷ []) ∷ [])
     ([])
     (wait 63 2 131 true (8 ∷ 2 ∷ 1 ∷ []) ∷ wait 31 2 131 false (8 ∷ []) ∷ wait 11 0 126 true (2 ∷ 4 ∷ 0 ∷ []) ∷ []) 1 9)
@@ -1932,9 +2000,9 @@ pub unsound-states :
     ([])
     (stands (chan 0 129 false false [] ∷ chan 10 255 false false [] ∷ chan 2 127 false false (17 ∷ 58 ∷ []) ∷ chan 65535 125 false true (27 ∷ 40 ∷ []) ∷ [])
     ([])
-    (wait 63 2 131 true (8 ∷ 2 ∷ 1 ∷ []) ∷ wait 31 2 131 false (8 ∷ []) ∷ wait 11 0 126 true (2 ∷ 4 ∷ 0 ∷ []) ∷ []) 1 9)))
+    (wait 63 2 131 true (8 ∷ 2 ∷ 1 ∷ []) ∷ wait 31 2 131 false (8 ∷ []) ∷ wait 11 0 126 true (2 ∷ 4 ∷ 0 ∷ []) ∷ []) 1 9))
     -- OPEN: done, error 1, replies 0
-    ∷ (vector
+    ∷ vector
     (stands (free ∷ chan 4 128 false false [] ∷ chan 9208 0 true false [] ∷ chan 1 129 true false (42 ∷ 11 ∷ []) ∷ [])
     (lock 5 9208 0 ∷ [])
     (wait 57 0 131 false (5 ∷ 10 ∷ []) ∷ wait 29 9208 129 true (7 ∷ 0 ∷ []) ∷ wait 43 0 128 true (1 ∷ 1 ∷ 0 ∷ 12 ∷ 14 ∷ 2 ∷ 2 ∷ 6 ∷ 5 ∷ 6 ∷ 5 ∷ 4 ∷ 12 ∷ 10 ∷ 8 ∷ 10 ∷ []) ∷ []) 65535 0)
@@ -1943,9 +2011,9 @@ pub unsound-states :
     ([])
     (stands (free ∷ chan 4 128 false false [] ∷ chan 9208 0 true false [] ∷ chan 1 129 true false (42 ∷ 11 ∷ []) ∷ [])
     (lock 5 9208 0 ∷ [])
-    (wait 57 0 131 false (5 ∷ 10 ∷ []) ∷ wait 29 9208 129 true (7 ∷ 0 ∷ []) ∷ wait 43 0 128 true (1 ∷ 1 ∷ 0 ∷ 12 ∷ 14 ∷ 2 ∷ 2 ∷ 6 ∷ 5 ∷ 6 ∷ 5 ∷ 4 ∷ 12 ∷ 10 ∷ 8 ∷ 10 ∷ []) ∷ []) 65535 0)))
+    (wait 57 0 131 false (5 ∷ 10 ∷ []) ∷ wait 29 9208 129 true (7 ∷ 0 ∷ []) ∷ wait 43 0 128 true (1 ∷ 1 ∷ 0 ∷ 12 ∷ 14 ∷ 2 ∷ 2 ∷ 6 ∷ 5 ∷ 6 ∷ 5 ∷ 4 ∷ 12 ∷ 10 ∷ 8 ∷ 10 ∷ []) ∷ []) 65535 0))
     -- ALLOCATE: done, error 1, replies 0
-    ∷ (vector
+    ∷ vector
     (stands (chan 10 0 true false [] ∷ free ∷ free ∷ chan 4 126 true false (7 ∷ 16 ∷ []) ∷ [])
     (lock 19 4 0 ∷ [])
     (wait 13 0 131 true (2 ∷ 4 ∷ []) ∷ []) 1 9)
@@ -1954,9 +2022,9 @@ pub unsound-states :
     ([])
     (stands (chan 10 0 true false [] ∷ free ∷ free ∷ chan 4 126 true false (7 ∷ 16 ∷ []) ∷ [])
     (lock 19 4 0 ∷ [])
-    (wait 13 0 131 true (2 ∷ 4 ∷ []) ∷ []) 1 9)))
+    (wait 13 0 131 true (2 ∷ 4 ∷ []) ∷ []) 1 9))
     -- ABORT: done, error 1, replies 0
-    ∷ (vector
+    ∷ vector
     (stands (chan 10 129 false false [] ∷ chan 10 127 true false [] ∷ free ∷ chan 2 127 false false [] ∷ [])
     ([])
     (wait 31 0 126 false (3 ∷ 7 ∷ []) ∷ wait 57 0 131 true (2 ∷ 8 ∷ 1 ∷ []) ∷ wait 14 0 128 true (4 ∷ []) ∷ wait 34 2 131 true (0 ∷ 4 ∷ []) ∷ []) 65535 9)
@@ -1965,9 +2033,9 @@ pub unsound-states :
     ([])
     (stands (chan 10 129 false false [] ∷ chan 10 127 true false [] ∷ free ∷ chan 2 127 false false [] ∷ [])
     ([])
-    (wait 31 0 126 false (3 ∷ 7 ∷ []) ∷ wait 57 0 131 true (2 ∷ 8 ∷ 1 ∷ []) ∷ wait 14 0 128 true (4 ∷ []) ∷ wait 34 2 131 true (0 ∷ 4 ∷ []) ∷ []) 65535 9)))
+    (wait 31 0 126 false (3 ∷ 7 ∷ []) ∷ wait 57 0 131 true (2 ∷ 8 ∷ 1 ∷ []) ∷ wait 14 0 128 true (4 ∷ []) ∷ wait 34 2 131 true (0 ∷ 4 ∷ []) ∷ []) 65535 9))
     -- ALLOCATE: done, error 1, replies 0
-    ∷ (vector
+    ∷ vector
     (stands (chan 2 126 false false [] ∷ chan 4 131 false false [] ∷ chan 2 128 false false (8 ∷ []) ∷ chan 65535 126 false false [] ∷ [])
     (lock 24 65535 8 ∷ [])
     (wait 2 0 125 true (3 ∷ []) ∷ []) 3 1)
@@ -1976,9 +2044,9 @@ pub unsound-states :
     ([])
     (stands (chan 2 126 false false [] ∷ chan 4 131 false false [] ∷ chan 2 128 false false (8 ∷ []) ∷ chan 65535 126 false false [] ∷ [])
     (lock 24 65535 8 ∷ [])
-    (wait 2 0 125 true (3 ∷ []) ∷ []) 3 1)))
+    (wait 2 0 125 true (3 ∷ []) ∷ []) 3 1))
     -- ABORT: done, error 1, replies 0
-    ∷ (vector
+    ∷ vector
     (stands (chan 65535 128 false false (7 ∷ 48 ∷ []) ∷ chan 65535 131 true false (44 ∷ []) ∷ free ∷ chan 0 129 false false [] ∷ [])
     ([])
     (wait 57 0 129 true (4 ∷ []) ∷ wait 19 0 127 true (4 ∷ 14 ∷ []) ∷ wait 38 0 125 false (1 ∷ 5 ∷ 8 ∷ []) ∷ []) 1 65534)
@@ -1987,9 +2055,9 @@ pub unsound-states :
     ([])
     (stands (chan 65535 128 false false (7 ∷ 48 ∷ []) ∷ chan 65535 131 true false (44 ∷ []) ∷ free ∷ chan 0 129 false false [] ∷ [])
     ([])
-    (wait 57 0 129 true (4 ∷ []) ∷ wait 19 0 127 true (4 ∷ 14 ∷ []) ∷ wait 38 0 125 false (1 ∷ 5 ∷ 8 ∷ []) ∷ []) 1 65534)))
+    (wait 57 0 129 true (4 ∷ []) ∷ wait 19 0 127 true (4 ∷ 14 ∷ []) ∷ wait 38 0 125 false (1 ∷ 5 ∷ 8 ∷ []) ∷ []) 1 65534))
     -- ABORT: done, error 1, replies 0
-    ∷ (vector
+    ∷ vector
     (stands (chan 0 128 false true [] ∷ free ∷ chan 3 126 false true [] ∷ chan 3 131 true false [] ∷ [])
     ([])
     (wait 29 34933 130 false (6 ∷ 8 ∷ []) ∷ []) 2 0)
@@ -1998,18 +2066,20 @@ pub unsound-states :
     ([])
     (stands (chan 0 128 false true [] ∷ free ∷ chan 3 126 false true [] ∷ chan 3 131 true false [] ∷ [])
     ([])
-    (wait 29 34933 130 false (6 ∷ 8 ∷ []) ∷ []) 2 0)))
-    ∷ [])
+    (wait 29 34933 130 false (6 ∷ 8 ∷ []) ∷ []) 2 0))
+    ∷ []
+
+pub unsound-states : Computes unsound-states-vectors
 unfolding machine
 unsound-states = refl
 
 -- ---- Calls on a board of eight channels
 
 -- READ is done, and the walk follows
-pub reads-settle-of-8 :
-    Computes
+abbrev pub reads-settle-of-8-vectors : List Vector
+reads-settle-of-8-vectors =
     -- READ: done, error 0, replies 2
-    ((vector
+    vector
     (stands (free ∷ chan 65535 127 false true [] ∷ chan 2 130 false false (44 ∷ []) ∷ chan 2 129 true false (46 ∷ []) ∷ chan 1 130 false false [] ∷ chan 65535 127 false false (0 ∷ 59 ∷ []) ∷ chan 65535 125 false false (47 ∷ 17 ∷ []) ∷ chan 2 125 false false [] ∷ [])
     ([])
     (wait 48 65535 131 false (244 ∷ 64 ∷ 2 ∷ 2 ∷ 32 ∷ 27 ∷ 161 ∷ 8 ∷ 1 ∷ 193 ∷ 17 ∷ 151 ∷ 97 ∷ 4 ∷ 1 ∷ 211 ∷ []) ∷ wait 2 65535 126 false (8 ∷ []) ∷ []) 3 65535)
@@ -2018,16 +2088,18 @@ pub reads-settle-of-8 :
     (reply 39 2 0 4 2 ∷ reply 48 32 0 1 65535 ∷ [])
     (stands (chan 65535 131 false false [] ∷ chan 65535 127 false true [] ∷ chan 2 130 false false (44 ∷ []) ∷ chan 2 129 true false (46 ∷ []) ∷ chan 1 130 false false [] ∷ chan 65535 127 false false (0 ∷ 59 ∷ []) ∷ chan 65535 125 false false (47 ∷ 17 ∷ []) ∷ chan 2 125 false false [] ∷ [])
     ([])
-    (wait 2 65535 126 false (8 ∷ []) ∷ []) 3 65535)))
-    ∷ [])
+    (wait 2 65535 126 false (8 ∷ []) ∷ []) 3 65535))
+    ∷ []
+
+pub reads-settle-of-8 : Computes reads-settle-of-8-vectors
 unfolding machine
 reads-settle-of-8 = refl
 
 -- READ answers the front write, which the walk may end
-pub reads-find-of-8 :
-    Computes
+abbrev pub reads-find-of-8-vectors : List Vector
+reads-find-of-8-vectors =
     -- READ: done, error 0, replies 3
-    ((vector
+    vector
     (stands (chan 39561 125 true false (45 ∷ []) ∷ chan 2 127 false false [] ∷ chan 1 129 true false [] ∷ free ∷ free ∷ chan 2 128 false false [] ∷ chan 2 129 false false (19 ∷ 23 ∷ []) ∷ chan 2 129 false false (54 ∷ []) ∷ [])
     ([])
     (wait 52 0 131 true (64 ∷ 72 ∷ []) ∷ wait 42 2 126 false (232 ∷ 4 ∷ []) ∷ []) 3 0)
@@ -2036,16 +2108,18 @@ pub reads-find-of-8 :
     (reply 19 3 254 0 2 ∷ reply 23 3 254 0 2 ∷ reply 52 32 0 64 3 ∷ [])
     (stands (chan 39561 125 true false (45 ∷ []) ∷ chan 2 127 false false [] ∷ chan 1 129 true false [] ∷ free ∷ free ∷ chan 2 128 false false [] ∷ chan 3 131 false false [] ∷ chan 2 129 false false (54 ∷ []) ∷ [])
     ([])
-    (wait 42 2 126 false (232 ∷ 4 ∷ []) ∷ []) 3 3)))
-    ∷ [])
+    (wait 42 2 126 false (232 ∷ 4 ∷ []) ∷ []) 3 3))
+    ∷ []
+
+pub reads-find-of-8 : Computes reads-find-of-8-vectors
 unfolding machine
 reads-find-of-8 = refl
 
 -- -10, and the walk follows
-pub mismatches-settle-of-8 :
-    Computes
+abbrev pub mismatches-settle-of-8-vectors : List Vector
+mismatches-settle-of-8-vectors =
     -- SETPREC: done, error -10, replies 3
-    ((vector
+    vector
     (stands (chan 2 129 false false (60 ∷ []) ∷ chan 2 128 true false [] ∷ free ∷ chan 2 129 true true [] ∷ free ∷ chan 2 129 false false [] ∷ free ∷ free ∷ [])
     ([])
     (wait 42 31455 255 true (1 ∷ []) ∷ wait 63 4 126 false (4 ∷ 4 ∷ 2 ∷ []) ∷ wait 53 4 126 false (48 ∷ []) ∷ []) 1 1)
@@ -2054,16 +2128,18 @@ pub mismatches-settle-of-8 :
     (reply 60 3 254 0 2 ∷ reply 42 32 0 1 31455 ∷ reply 63 32 0 4 4 ∷ [])
     (stands (chan 31455 255 false false [] ∷ chan 2 128 true false [] ∷ chan 4 126 false false [] ∷ chan 2 129 true true [] ∷ free ∷ chan 2 129 false false [] ∷ free ∷ free ∷ [])
     ([])
-    (wait 53 4 126 false (48 ∷ []) ∷ []) 1 1)))
-    ∷ [])
+    (wait 53 4 126 false (48 ∷ []) ∷ []) 1 1))
+    ∷ []
+
+pub mismatches-settle-of-8 : Computes mismatches-settle-of-8-vectors
 unfolding machine
 mismatches-settle-of-8 = refl
 
 -- CLEAR or UPDATE does nothing, and the walk follows
-pub clears-settle-of-8 :
-    Computes
+abbrev pub clears-settle-of-8-vectors : List Vector
+clears-settle-of-8-vectors =
     -- UPDATE: done, error 0, replies 2
-    ((vector
+    vector
     (stands (chan 2 127 false false [] ∷ chan 65001 129 false false [] ∷ chan 1 131 false false [] ∷ chan 2 131 false false (44 ∷ []) ∷ chan 65001 129 false false [] ∷ chan 65001 130 true false (53 ∷ []) ∷ chan 65001 126 false false (37 ∷ []) ∷ chan 2 126 false false (11 ∷ []) ∷ [])
     ([])
     (wait 14 0 128 true (177 ∷ []) ∷ []) 2 0)
@@ -2072,16 +2148,18 @@ pub clears-settle-of-8 :
     (reply 19 4 0 128 2 ∷ reply 14 32 245 0 0 ∷ [])
     (stands (chan 2 127 false false [] ∷ chan 65001 129 false false [] ∷ chan 1 131 false false [] ∷ chan 2 131 false false (44 ∷ []) ∷ chan 65001 129 false false [] ∷ chan 65001 130 true false (53 ∷ []) ∷ chan 65001 126 false false (37 ∷ []) ∷ chan 2 126 false false (11 ∷ []) ∷ [])
     ([])
-    ([]) 2 0)))
-    ∷ [])
+    ([]) 2 0))
+    ∷ []
+
+pub clears-settle-of-8 : Computes clears-settle-of-8-vectors
 unfolding machine
 clears-settle-of-8 = refl
 
 -- "not aborted", and the walk follows
-pub not-aborted-settles-of-8 :
-    Computes
+abbrev pub not-aborted-settles-of-8-vectors : List Vector
+not-aborted-settles-of-8-vectors =
     -- ABORT: done, error 0, replies 1
-    ((vector
+    vector
     (stands (free ∷ chan 39984 125 true false [] ∷ chan 2 129 true true [] ∷ chan 2 127 false false (39 ∷ 50 ∷ []) ∷ chan 10 127 false true [] ∷ chan 10 131 false true (21 ∷ 25 ∷ []) ∷ free ∷ chan 10 0 false true (17 ∷ 53 ∷ []) ∷ [])
     (lock 16 2 4 ∷ [])
     (wait 30 0 126 false (6 ∷ 64 ∷ 2 ∷ []) ∷ []) 3 9)
@@ -2090,16 +2168,18 @@ pub not-aborted-settles-of-8 :
     (reply 30 32 0 64 11 ∷ [])
     (stands (free ∷ chan 39984 125 true false [] ∷ chan 2 129 true true [] ∷ chan 2 127 false false (39 ∷ 50 ∷ []) ∷ chan 10 127 false true [] ∷ chan 10 131 false true (21 ∷ 25 ∷ []) ∷ chan 11 126 false false [] ∷ chan 10 0 false true (17 ∷ 53 ∷ []) ∷ [])
     (lock 16 2 4 ∷ [])
-    ([]) 3 11)))
-    ∷ [])
+    ([]) 3 11))
+    ∷ []
+
+pub not-aborted-settles-of-8 : Computes not-aborted-settles-of-8-vectors
 unfolding machine
 not-aborted-settles-of-8 = refl
 
 -- ABORT ends one, and the walk follows
-pub aborted-settles-of-8 :
-    Computes
+abbrev pub aborted-settles-of-8-vectors : List Vector
+aborted-settles-of-8-vectors =
     -- ABORT: done, error 0, replies 4
-    ((vector
+    vector
     (stands (chan 2 0 false false (14 ∷ 18 ∷ []) ∷ chan 2 130 true false [] ∷ chan 65535 127 true false [] ∷ chan 2 0 false true (38 ∷ []) ∷ chan 2 127 true false (44 ∷ 42 ∷ []) ∷ chan 65535 129 true false (59 ∷ 60 ∷ []) ∷ chan 65535 125 false false [] ∷ chan 2 127 true true (63 ∷ []) ∷ [])
     ([])
     (wait 24 0 130 false (64 ∷ 1 ∷ []) ∷ wait 25 0 129 false (107 ∷ 108 ∷ 1 ∷ []) ∷ wait 12 2 128 false (79 ∷ 57 ∷ 16 ∷ []) ∷ []) 2 1)
@@ -2108,16 +2188,18 @@ pub aborted-settles-of-8 :
     (reply 12 32 254 0 2 ∷ reply 14 3 254 0 2 ∷ reply 18 3 254 0 2 ∷ reply 24 32 0 1 3 ∷ [])
     (stands (chan 3 130 false false [] ∷ chan 2 130 true false [] ∷ chan 65535 127 true false [] ∷ chan 2 0 false true (38 ∷ []) ∷ chan 2 127 true false (44 ∷ 42 ∷ []) ∷ chan 65535 129 true false (59 ∷ 60 ∷ []) ∷ chan 65535 125 false false [] ∷ chan 2 127 true true (63 ∷ []) ∷ [])
     ([])
-    (wait 25 0 129 false (107 ∷ 108 ∷ 1 ∷ []) ∷ []) 2 3)))
-    ∷ [])
+    (wait 25 0 129 false (107 ∷ 108 ∷ 1 ∷ []) ∷ []) 2 3))
+    ∷ []
+
+pub aborted-settles-of-8 : Computes aborted-settles-of-8-vectors
 unfolding machine
 aborted-settles-of-8 = refl
 
 -- ALLOCATE is answered -11, and the walk follows
-pub failed-settles-of-8 :
-    Computes
+abbrev pub failed-settles-of-8-vectors : List Vector
+failed-settles-of-8-vectors =
     -- ALLOCATE: done, error -11, replies 2
-    ((vector
+    vector
     (stands (chan 10 130 false false [] ∷ chan 10 125 false false [] ∷ chan 10 131 true false [] ∷ chan 10 126 false true (25 ∷ 21 ∷ []) ∷ free ∷ free ∷ chan 65535 131 false false (57 ∷ 12 ∷ []) ∷ free ∷ [])
     ([])
     (wait 49 0 128 true (116 ∷ 128 ∷ []) ∷ wait 27 0 128 true (128 ∷ 16 ∷ 7 ∷ []) ∷ []) 2 9)
@@ -2126,16 +2208,18 @@ pub failed-settles-of-8 :
     (reply 49 32 0 128 11 ∷ reply 27 32 0 16 12 ∷ [])
     (stands (chan 10 130 false false [] ∷ chan 10 125 false false [] ∷ chan 10 131 true false [] ∷ chan 10 126 false true (25 ∷ 21 ∷ []) ∷ chan 12 128 false false [] ∷ free ∷ chan 65535 131 false false (57 ∷ 12 ∷ []) ∷ chan 11 128 false false [] ∷ [])
     ([])
-    ([]) 2 12)))
-    ∷ [])
+    ([]) 2 12))
+    ∷ []
+
+pub failed-settles-of-8 : Computes failed-settles-of-8-vectors
 unfolding machine
 failed-settles-of-8 = refl
 
 -- OPEN is answered -11, and nothing is settled
-pub failed-open-does-not-of-8 :
-    Computes
+abbrev pub failed-open-does-not-of-8-vectors : List Vector
+failed-open-does-not-of-8-vectors =
     -- OPEN: done, error -11, replies 0
-    ((vector
+    vector
     (stands (chan 1 127 true false (53 ∷ 36 ∷ []) ∷ chan 1 131 false false [] ∷ chan 2 129 true false [] ∷ chan 2 125 false false [] ∷ chan 2 128 false false (46 ∷ []) ∷ free ∷ free ∷ chan 24720 0 false false [] ∷ [])
     ([])
     (wait 60 1 131 false (1 ∷ 4 ∷ []) ∷ wait 59 0 129 false (20 ∷ 146 ∷ 234 ∷ []) ∷ wait 61 0 126 false (112 ∷ 150 ∷ []) ∷ wait 42 0 126 false (1 ∷ 75 ∷ 8 ∷ 218 ∷ 32 ∷ 64 ∷ 80 ∷ 64 ∷ 168 ∷ 4 ∷ 1 ∷ 165 ∷ 58 ∷ 1 ∷ 109 ∷ 154 ∷ []) ∷ []) 1 65535)
@@ -2144,16 +2228,18 @@ pub failed-open-does-not-of-8 :
     ([])
     (stands (chan 1 127 true false (53 ∷ 36 ∷ []) ∷ chan 1 131 false false [] ∷ chan 2 129 true false [] ∷ chan 2 125 false false [] ∷ chan 2 128 false false (46 ∷ []) ∷ free ∷ free ∷ chan 24720 0 false false [] ∷ [])
     ([])
-    (wait 60 1 131 false (1 ∷ 4 ∷ []) ∷ wait 59 0 129 false (20 ∷ 146 ∷ 234 ∷ []) ∷ wait 61 0 126 false (112 ∷ 150 ∷ []) ∷ wait 42 0 126 false (1 ∷ 75 ∷ 8 ∷ 218 ∷ 32 ∷ 64 ∷ 80 ∷ 64 ∷ 168 ∷ 4 ∷ 1 ∷ 165 ∷ 58 ∷ 1 ∷ 109 ∷ 154 ∷ []) ∷ []) 1 65535)))
-    ∷ [])
+    (wait 60 1 131 false (1 ∷ 4 ∷ []) ∷ wait 59 0 129 false (20 ∷ 146 ∷ 234 ∷ []) ∷ wait 61 0 126 false (112 ∷ 150 ∷ []) ∷ wait 42 0 126 false (1 ∷ 75 ∷ 8 ∷ 218 ∷ 32 ∷ 64 ∷ 80 ∷ 64 ∷ 168 ∷ 4 ∷ 1 ∷ 165 ∷ 58 ∷ 1 ∷ 109 ∷ 154 ∷ []) ∷ []) 1 65535))
+    ∷ []
+
+pub failed-open-does-not-of-8 : Computes failed-open-does-not-of-8-vectors
 unfolding machine
 failed-open-does-not-of-8 = refl
 
 -- ALLOCATE is answered as outstanding, and granted by the walk of its own call
-pub walk-grants-its-own-of-8 :
-    Computes
+abbrev pub walk-grants-its-own-of-8-vectors : List Vector
+walk-grants-its-own-of-8-vectors =
     -- ALLOCATE: outstanding, error 0, replies 4
-    ((vector
+    vector
     (stands (chan 65535 255 false false [] ∷ chan 65535 126 true false [] ∷ chan 65535 129 false true [] ∷ chan 2 130 false false [] ∷ chan 2 125 false false [] ∷ chan 65535 126 false false [] ∷ chan 3 0 true false (52 ∷ []) ∷ free ∷ [])
     (lock 55 65535 2 ∷ lock 27 3 64 ∷ [])
     (wait 26 0 129 false (255 ∷ 16 ∷ 187 ∷ 223 ∷ 16 ∷ 1 ∷ 128 ∷ 2 ∷ 16 ∷ 8 ∷ 85 ∷ 32 ∷ 64 ∷ 16 ∷ 252 ∷ 100 ∷ []) ∷ wait 51 0 127 false (16 ∷ []) ∷ []) 1 1)
@@ -2162,16 +2248,18 @@ pub walk-grants-its-own-of-8 :
     (reply 55 13 244 2 65535 ∷ reply 26 32 0 128 4 ∷ reply 41 32 0 32 5 ∷ reply 51 32 0 16 6 ∷ [])
     (stands (chan 65535 255 false false [] ∷ chan 65535 126 true false [] ∷ chan 65535 129 false true [] ∷ chan 2 130 false false [] ∷ chan 6 127 false false [] ∷ chan 5 130 false false [] ∷ chan 3 0 true false (52 ∷ []) ∷ chan 4 129 false false [] ∷ [])
     (lock 27 3 64 ∷ [])
-    ([]) 1 6)))
-    ∷ [])
+    ([]) 1 6))
+    ∷ []
+
+pub walk-grants-its-own-of-8 : Computes walk-grants-its-own-of-8-vectors
 unfolding machine
 walk-grants-its-own-of-8 = refl
 
 -- ALLOCATE is answered as outstanding, and dropped by the walk of its own call
-pub walk-drops-its-own-of-8 :
-    Computes
+abbrev pub walk-drops-its-own-of-8-vectors : List Vector
+walk-drops-its-own-of-8-vectors =
     -- ALLOCATE: outstanding, error 0, replies 3
-    ((vector
+    vector
     (stands (chan 2 125 true false [] ∷ chan 3 131 true false (47 ∷ 35 ∷ []) ∷ chan 65535 129 true false [] ∷ chan 3 125 false true [] ∷ free ∷ chan 3 128 false true [] ∷ chan 65535 127 true false [] ∷ free ∷ [])
     (lock 18 65535 4 ∷ [])
     (wait 31 65535 131 false (166 ∷ 1 ∷ []) ∷ wait 41 0 129 true (194 ∷ 56 ∷ 105 ∷ []) ∷ wait 42 0 129 false (214 ∷ 166 ∷ 168 ∷ []) ∷ wait 27 2 128 true (2 ∷ 2 ∷ 74 ∷ 167 ∷ 36 ∷ 226 ∷ 162 ∷ 0 ∷ 32 ∷ 32 ∷ 109 ∷ 2 ∷ 4 ∷ 233 ∷ 145 ∷ 104 ∷ []) ∷ []) 1 1)
@@ -2180,16 +2268,18 @@ pub walk-drops-its-own-of-8 :
     (reply 41 32 0 56 4 ∷ reply 32 32 245 0 3 ∷ reply 27 32 0 0 2 ∷ [])
     (stands (chan 2 125 true false [] ∷ chan 3 131 true false (47 ∷ 35 ∷ []) ∷ chan 65535 129 true false [] ∷ chan 4 129 false false [] ∷ chan 4 129 false false [] ∷ chan 4 129 false false [] ∷ chan 65535 127 true false [] ∷ free ∷ [])
     (lock 18 65535 4 ∷ [])
-    (wait 31 65535 131 false (166 ∷ 1 ∷ []) ∷ wait 42 0 129 false (214 ∷ 166 ∷ 168 ∷ []) ∷ []) 1 4)))
-    ∷ [])
+    (wait 31 65535 131 false (166 ∷ 1 ∷ []) ∷ wait 42 0 129 false (214 ∷ 166 ∷ 168 ∷ []) ∷ []) 1 4))
+    ∷ []
+
+pub walk-drops-its-own-of-8 : Computes walk-drops-its-own-of-8-vectors
 unfolding machine
 walk-drops-its-own-of-8 = refl
 
 -- WRITE is answered as outstanding, and aborted by a steal of its own call
-pub walk-aborts-its-own-of-8 :
-    Computes
+abbrev pub walk-aborts-its-own-of-8-vectors : List Vector
+walk-aborts-its-own-of-8-vectors =
     -- WRITE: outstanding, error 0, replies 8
-    ((vector
+    vector
     (stands (chan 65535 128 false true (55 ∷ 44 ∷ []) ∷ free ∷ chan 3 126 false false (47 ∷ 39 ∷ []) ∷ chan 65535 128 true false (56 ∷ []) ∷ chan 65535 128 false false (17 ∷ []) ∷ free ∷ chan 65535 128 false false [] ∷ chan 65535 126 true false [] ∷ [])
     ([])
     (wait 37 0 131 false (73 ∷ 2 ∷ []) ∷ wait 35 3 130 false (69 ∷ []) ∷ wait 1 0 125 true (1 ∷ 62 ∷ 234 ∷ []) ∷ []) 2 65534)
@@ -2198,16 +2288,18 @@ pub walk-aborts-its-own-of-8 :
     (reply 37 32 0 2 1 ∷ reply 55 3 254 0 65535 ∷ reply 44 3 254 0 65535 ∷ reply 50 3 254 0 65535 ∷ reply 47 3 254 0 3 ∷ reply 39 3 254 0 3 ∷ reply 35 32 0 69 3 ∷ reply 1 32 245 0 0 ∷ [])
     (stands (chan 3 130 false false [] ∷ chan 1 131 false false [] ∷ chan 3 130 false false [] ∷ chan 65535 128 true false (56 ∷ []) ∷ chan 65535 128 false false (17 ∷ []) ∷ free ∷ chan 3 130 false false [] ∷ chan 65535 126 true false [] ∷ [])
     ([])
-    ([]) 2 1)))
-    ∷ [])
+    ([]) 2 1))
+    ∷ []
+
+pub walk-aborts-its-own-of-8 : Computes walk-aborts-its-own-of-8-vectors
 unfolding machine
 walk-aborts-its-own-of-8 = refl
 
 -- LOCK is answered as outstanding, and replied -12 by the walk of its own call
-pub walk-steals-its-own-of-8 :
-    Computes
+abbrev pub walk-steals-its-own-of-8-vectors : List Vector
+walk-steals-its-own-of-8-vectors =
     -- LOCK: outstanding, error 0, replies 2
-    ((vector
+    vector
     (stands (chan 20745 126 true false [] ∷ chan 10 129 false false [] ∷ chan 20745 126 true true [] ∷ chan 20745 125 false false [] ∷ chan 10 127 false false [] ∷ free ∷ chan 3 127 false false [] ∷ chan 20745 131 true false [] ∷ [])
     ([])
     (wait 18 20745 128 true (8 ∷ []) ∷ wait 32 0 126 false (174 ∷ 16 ∷ []) ∷ wait 42 0 125 true (8 ∷ 1 ∷ []) ∷ []) 3 9)
@@ -2216,16 +2308,18 @@ pub walk-steals-its-own-of-8 :
     (reply 41 13 244 9 20745 ∷ reply 42 32 245 0 0 ∷ [])
     (stands (chan 20745 126 true false [] ∷ chan 10 129 false false [] ∷ chan 20745 126 true true [] ∷ chan 20745 125 true false [] ∷ chan 10 127 false false [] ∷ free ∷ chan 3 127 false false [] ∷ chan 20745 131 true false [] ∷ [])
     ([])
-    (wait 18 20745 128 true (8 ∷ []) ∷ wait 32 0 126 false (174 ∷ 16 ∷ []) ∷ []) 3 9)))
-    ∷ [])
+    (wait 18 20745 128 true (8 ∷ []) ∷ wait 32 0 126 false (174 ∷ 16 ∷ []) ∷ []) 3 9))
+    ∷ []
+
+pub walk-steals-its-own-of-8 : Computes walk-steals-its-own-of-8-vectors
 unfolding machine
 walk-steals-its-own-of-8 = refl
 
 -- outstanding, and the walk follows
-pub outstanding-settles-of-8 :
-    Computes
+abbrev pub outstanding-settles-of-8-vectors : List Vector
+outstanding-settles-of-8-vectors =
     -- ALLOCATE: outstanding, error 0, replies 2
-    ((vector
+    vector
     (stands (chan 65535 128 true false (3 ∷ []) ∷ free ∷ chan 2 126 false false [] ∷ chan 2 126 true false [] ∷ chan 1 126 true true [] ∷ chan 2 126 true false [] ∷ chan 1 129 true false (22 ∷ []) ∷ free ∷ [])
     (lock 37 2 32 ∷ [])
     (wait 60 2 128 true (60 ∷ []) ∷ wait 19 0 128 false (100 ∷ 16 ∷ 128 ∷ []) ∷ []) 1 65535)
@@ -2234,16 +2328,18 @@ pub outstanding-settles-of-8 :
     (reply 37 13 244 32 2 ∷ reply 19 32 0 128 3 ∷ [])
     (stands (chan 65535 128 true false (3 ∷ []) ∷ free ∷ chan 2 126 false false [] ∷ chan 2 126 true false [] ∷ chan 1 126 true true [] ∷ chan 2 126 true false [] ∷ chan 1 129 true false (22 ∷ []) ∷ chan 3 128 false false [] ∷ [])
     ([])
-    (wait 20 1 129 true (176 ∷ 16 ∷ []) ∷ wait 60 2 128 true (60 ∷ []) ∷ []) 1 3)))
-    ∷ [])
+    (wait 20 1 129 true (176 ∷ 16 ∷ []) ∷ wait 60 2 128 true (60 ∷ []) ∷ []) 1 3))
+    ∷ []
+
+pub outstanding-settles-of-8 : Computes outstanding-settles-of-8-vectors
 unfolding machine
 outstanding-settles-of-8 = refl
 
 -- one walk grants two or more
-pub many-granted-of-8 :
-    Computes
+abbrev pub many-granted-of-8-vectors : List Vector
+many-granted-of-8-vectors =
     -- ALLOCATE: done, error -11, replies 2
-    ((vector
+    vector
     (stands (free ∷ chan 1 129 false false [] ∷ chan 4 127 false true [] ∷ chan 45707 130 false true [] ∷ chan 4 131 false true (44 ∷ []) ∷ chan 4 125 false false [] ∷ chan 1 129 true false [] ∷ free ∷ [])
     ([])
     (wait 20 1 131 false (19 ∷ 130 ∷ []) ∷ wait 18 0 129 false (4 ∷ 2 ∷ 34 ∷ []) ∷ []) 1 0)
@@ -2252,16 +2348,18 @@ pub many-granted-of-8 :
     (reply 20 32 0 130 1 ∷ reply 18 32 0 4 2 ∷ [])
     (stands (free ∷ chan 1 131 false false [] ∷ chan 2 129 false false [] ∷ chan 45707 130 false true [] ∷ chan 4 131 false true (44 ∷ []) ∷ chan 4 125 false false [] ∷ chan 1 129 true false [] ∷ chan 1 131 false false [] ∷ [])
     ([])
-    ([]) 1 2)))
-    ∷ [])
+    ([]) 1 2))
+    ∷ []
+
+pub many-granted-of-8 : Computes many-granted-of-8-vectors
 unfolding machine
 many-granted-of-8 = refl
 
 -- the event ends a write, and the walk follows
-pub events-settle-of-8 :
-    Computes
+abbrev pub events-settle-of-8-vectors : List Vector
+events-settle-of-8-vectors =
     -- event: done, error 0, replies 6
-    ((vector
+    vector
     (stands (chan 3 130 true false (37 ∷ 54 ∷ []) ∷ free ∷ chan 3 125 false false (14 ∷ 10 ∷ []) ∷ chan 3 126 false false (23 ∷ []) ∷ chan 8041 128 false false (22 ∷ []) ∷ chan 3 126 true false [] ∷ chan 3 0 false true [] ∷ chan 65535 126 false false [] ∷ [])
     ([])
     (wait 30 0 255 false (2 ∷ 49 ∷ []) ∷ wait 28 65535 131 false (135 ∷ []) ∷ wait 1 0 129 false (204 ∷ 99 ∷ []) ∷ wait 51 65535 128 false (4 ∷ 56 ∷ []) ∷ []) 3 65534)
@@ -2270,16 +2368,18 @@ pub events-settle-of-8 :
     (reply 37 3 0 1 3 ∷ reply 30 32 0 2 1 ∷ reply 14 3 254 0 3 ∷ reply 10 3 254 0 3 ∷ reply 23 3 254 0 3 ∷ reply 1 32 0 204 2 ∷ [])
     (stands (chan 3 130 true false (54 ∷ []) ∷ chan 1 255 false false [] ∷ chan 2 129 false false [] ∷ chan 2 129 false false [] ∷ chan 8041 128 false false (22 ∷ []) ∷ chan 3 126 true false [] ∷ chan 2 129 false false [] ∷ chan 2 129 false false [] ∷ [])
     ([])
-    (wait 28 65535 131 false (135 ∷ []) ∷ wait 51 65535 128 false (4 ∷ 56 ∷ []) ∷ []) 3 2)))
-    ∷ [])
+    (wait 28 65535 131 false (135 ∷ []) ∷ wait 51 65535 128 false (4 ∷ 56 ∷ []) ∷ []) 3 2))
+    ∷ []
+
+pub events-settle-of-8 : Computes events-settle-of-8-vectors
 unfolding machine
 events-settle-of-8 = refl
 
 -- the event finds nothing, and the walk follows
-pub empty-events-settle-of-8 :
-    Computes
+abbrev pub empty-events-settle-of-8-vectors : List Vector
+empty-events-settle-of-8-vectors =
     -- event: done, error 0, replies 1
-    ((vector
+    vector
     (stands (chan 62779 128 true false [] ∷ chan 62779 130 true false [] ∷ chan 4 125 false true [] ∷ free ∷ free ∷ chan 62779 129 false true [] ∷ chan 62779 129 false true (23 ∷ []) ∷ chan 62779 131 false false [] ∷ [])
     (lock 22 62779 3 ∷ lock 39 62779 1 ∷ [])
     (wait 40 0 129 false (135 ∷ 4 ∷ 3 ∷ []) ∷ []) 3 0)
@@ -2288,16 +2388,18 @@ pub empty-events-settle-of-8 :
     (reply 40 32 0 4 1 ∷ [])
     (stands (chan 62779 128 true false [] ∷ chan 62779 130 true false [] ∷ chan 1 129 false false [] ∷ free ∷ free ∷ chan 62779 129 false true [] ∷ chan 62779 129 false true (23 ∷ []) ∷ chan 62779 131 false false [] ∷ [])
     (lock 22 62779 3 ∷ lock 39 62779 1 ∷ [])
-    ([]) 3 1)))
-    ∷ [])
+    ([]) 3 1))
+    ∷ []
+
+pub empty-events-settle-of-8 : Computes empty-events-settle-of-8-vectors
 unfolding machine
 empty-events-settle-of-8 = refl
 
 -- OPEN or CLOSE is done, and the walk follows
-pub opens-settle-of-8 :
-    Computes
+abbrev pub opens-settle-of-8-vectors : List Vector
+opens-settle-of-8-vectors =
     -- OPEN: done, error 0, replies 4
-    ((vector
+    vector
     (stands (free ∷ chan 65535 128 false false [] ∷ chan 4 131 true true (31 ∷ []) ∷ chan 4 128 false false [] ∷ free ∷ chan 65535 125 false false (27 ∷ 48 ∷ []) ∷ chan 1 129 true false [] ∷ chan 4 128 true false (33 ∷ 62 ∷ []) ∷ [])
     (lock 16 1 64 ∷ [])
     (wait 4 4 126 false (32 ∷ 4 ∷ []) ∷ wait 54 1 126 false (38 ∷ 128 ∷ []) ∷ wait 53 1 126 true (215 ∷ 32 ∷ 32 ∷ []) ∷ wait 30 0 126 false (32 ∷ []) ∷ []) 3 0)
@@ -2306,16 +2408,18 @@ pub opens-settle-of-8 :
     (reply 27 3 254 0 65535 ∷ reply 48 3 254 0 65535 ∷ reply 4 32 0 32 4 ∷ reply 53 32 245 0 1 ∷ [])
     (stands (free ∷ chan 65535 128 false false [] ∷ chan 4 131 true true (31 ∷ []) ∷ chan 4 128 false false [] ∷ free ∷ chan 4 126 false false [] ∷ chan 1 129 true false [] ∷ chan 4 128 true false (33 ∷ 62 ∷ []) ∷ [])
     (lock 16 1 64 ∷ [])
-    (wait 54 1 126 false (38 ∷ 128 ∷ []) ∷ wait 30 0 126 false (32 ∷ []) ∷ []) 4 2)))
-    ∷ [])
+    (wait 54 1 126 false (38 ∷ 128 ∷ []) ∷ wait 30 0 126 false (32 ∷ []) ∷ []) 4 2))
+    ∷ []
+
+pub opens-settle-of-8 : Computes opens-settle-of-8-vectors
 unfolding machine
 opens-settle-of-8 = refl
 
 -- a new key for the call and one for the walk
-pub new-keys-of-8 :
-    Computes
+abbrev pub new-keys-of-8-vectors : List Vector
+new-keys-of-8-vectors =
     -- ALLOCATE: outstanding, error 0, replies 3
-    ((vector
+    vector
     (stands (chan 65535 126 false true [] ∷ chan 1 131 false true [] ∷ chan 4 129 true false (18 ∷ 19 ∷ []) ∷ chan 65535 126 true false [] ∷ chan 4 129 false false [] ∷ chan 4 129 false false (22 ∷ 36 ∷ []) ∷ chan 65535 129 false false [] ∷ free ∷ [])
     ([])
     (wait 63 0 129 true (32 ∷ 99 ∷ 188 ∷ []) ∷ wait 60 1 129 false (74 ∷ 138 ∷ []) ∷ wait 9 0 126 true (128 ∷ 64 ∷ []) ∷ wait 62 4 0 true (4 ∷ 174 ∷ []) ∷ []) 2 0)
@@ -2324,16 +2428,18 @@ pub new-keys-of-8 :
     (reply 63 32 245 0 0 ∷ reply 9 32 0 128 2 ∷ reply 62 32 245 0 4 ∷ [])
     (stands (chan 65535 126 false true [] ∷ chan 1 131 false true [] ∷ chan 4 129 true false (18 ∷ 19 ∷ []) ∷ chan 65535 126 true false [] ∷ chan 4 129 false false [] ∷ chan 4 129 false false (22 ∷ 36 ∷ []) ∷ chan 65535 129 false false [] ∷ chan 2 126 false false [] ∷ [])
     ([])
-    (wait 60 1 129 false (74 ∷ 138 ∷ []) ∷ wait 31 0 129 false (137 ∷ 106 ∷ 32 ∷ []) ∷ []) 2 2)))
-    ∷ [])
+    (wait 60 1 129 false (74 ∷ 138 ∷ []) ∷ wait 31 0 129 false (137 ∷ 106 ∷ 32 ∷ []) ∷ []) 2 2))
+    ∷ []
+
+pub new-keys-of-8 : Computes new-keys-of-8-vectors
 unfolding machine
 new-keys-of-8 = refl
 
 -- refused with 2, 3 or 4: nothing is settled
-pub refusals-settle-nothing-of-8 :
-    Computes
+abbrev pub refusals-settle-nothing-of-8-vectors : List Vector
+refusals-settle-nothing-of-8-vectors =
     -- ABORT: done, error 4, replies 0
-    ((vector
+    vector
     (stands (free ∷ free ∷ free ∷ chan 46492 127 true false [] ∷ chan 3 127 false false [] ∷ chan 3 127 true false [] ∷ chan 3 127 true false [] ∷ free ∷ [])
     (lock 29 3 32 ∷ [])
     (wait 63 0 127 true (64 ∷ 4 ∷ []) ∷ wait 46 1 125 true (64 ∷ 2 ∷ 252 ∷ []) ∷ []) 2 0)
@@ -2342,16 +2448,18 @@ pub refusals-settle-nothing-of-8 :
     ([])
     (stands (free ∷ free ∷ free ∷ chan 46492 127 true false [] ∷ chan 3 127 false false [] ∷ chan 3 127 true false [] ∷ chan 3 127 true false [] ∷ free ∷ [])
     (lock 29 3 32 ∷ [])
-    (wait 63 0 127 true (64 ∷ 4 ∷ []) ∷ wait 46 1 125 true (64 ∷ 2 ∷ 252 ∷ []) ∷ []) 2 0)))
-    ∷ [])
+    (wait 63 0 127 true (64 ∷ 4 ∷ []) ∷ wait 46 1 125 true (64 ∷ 2 ∷ 252 ∷ []) ∷ []) 2 0))
+    ∷ []
+
+pub refusals-settle-nothing-of-8 : Computes refusals-settle-nothing-of-8-vectors
 unfolding machine
 refusals-settle-nothing-of-8 = refl
 
 -- refused with -1, -3, -4 or -5: nothing is settled
-pub form-settles-nothing-of-8 :
-    Computes
+abbrev pub form-settles-nothing-of-8-vectors : List Vector
+form-settles-nothing-of-8-vectors =
     -- command 0C: done, error -3, replies 1
-    ((vector
+    vector
     (stands (chan 3 126 false false (33 ∷ 23 ∷ []) ∷ free ∷ free ∷ chan 65535 126 false false (26 ∷ 47 ∷ []) ∷ chan 10 131 false false [] ∷ chan 10 128 true false (49 ∷ []) ∷ chan 10 131 false false (60 ∷ []) ∷ chan 10 130 false false (19 ∷ 14 ∷ []) ∷ [])
     (lock 32 10 32 ∷ lock 58 10 32 ∷ [])
     (wait 16 3 129 true (2 ∷ 49 ∷ 232 ∷ []) ∷ wait 48 0 128 true (128 ∷ 4 ∷ []) ∷ wait 46 10 125 false (121 ∷ 32 ∷ []) ∷ []) 2 9)
@@ -2360,16 +2468,18 @@ pub form-settles-nothing-of-8 :
     (reply 63 12 253 0 3 ∷ [])
     (stands (chan 3 126 false false (33 ∷ 23 ∷ []) ∷ free ∷ free ∷ chan 65535 126 false false (26 ∷ 47 ∷ []) ∷ chan 10 131 false false [] ∷ chan 10 128 true false (49 ∷ []) ∷ chan 10 131 false false (60 ∷ []) ∷ chan 10 130 false false (19 ∷ 14 ∷ []) ∷ [])
     (lock 32 10 32 ∷ lock 58 10 32 ∷ [])
-    (wait 16 3 129 true (2 ∷ 49 ∷ 232 ∷ []) ∷ wait 48 0 128 true (128 ∷ 4 ∷ []) ∷ wait 46 10 125 false (121 ∷ 32 ∷ []) ∷ []) 2 9)))
-    ∷ [])
+    (wait 16 3 129 true (2 ∷ 49 ∷ 232 ∷ []) ∷ wait 48 0 128 true (128 ∷ 4 ∷ []) ∷ wait 46 10 125 false (121 ∷ 32 ∷ []) ∷ []) 2 9))
+    ∷ []
+
+pub form-settles-nothing-of-8 : Computes form-settles-nothing-of-8-vectors
 unfolding machine
 form-settles-nothing-of-8 = refl
 
 -- OPEN at open count 65,535
-pub no-more-opens-of-8 :
-    Computes
+abbrev pub no-more-opens-of-8-vectors : List Vector
+no-more-opens-of-8-vectors =
     -- OPEN: done, error -1, replies 0
-    ((vector
+    vector
     (stands (free ∷ chan 1 127 false false [] ∷ chan 65535 125 false false (1 ∷ []) ∷ chan 1 125 false false [] ∷ chan 65535 130 false false [] ∷ chan 3 125 false false (15 ∷ []) ∷ chan 65535 125 false false (3 ∷ 10 ∷ []) ∷ chan 3 129 false false [] ∷ [])
     ([])
     (wait 26 0 128 true (1 ∷ 62 ∷ []) ∷ wait 25 0 125 true (252 ∷ 120 ∷ []) ∷ []) 65535 0)
@@ -2378,16 +2488,18 @@ pub no-more-opens-of-8 :
     ([])
     (stands (free ∷ chan 1 127 false false [] ∷ chan 65535 125 false false (1 ∷ []) ∷ chan 1 125 false false [] ∷ chan 65535 130 false false [] ∷ chan 3 125 false false (15 ∷ []) ∷ chan 65535 125 false false (3 ∷ 10 ∷ []) ∷ chan 3 129 false false [] ∷ [])
     ([])
-    (wait 26 0 128 true (1 ∷ 62 ∷ []) ∷ wait 25 0 125 true (252 ∷ 120 ∷ []) ∷ []) 65535 0)))
-    ∷ [])
+    (wait 26 0 128 true (1 ∷ 62 ∷ []) ∷ wait 25 0 125 true (252 ∷ 120 ∷ []) ∷ []) 65535 0))
+    ∷ []
+
+pub no-more-opens-of-8 : Computes no-more-opens-of-8-vectors
 unfolding machine
 no-more-opens-of-8 = refl
 
 -- a reply list of 63 records
-pub short-lists-of-8 :
-    Computes
+abbrev pub short-lists-of-8-vectors : List Vector
+short-lists-of-8-vectors =
     -- READ: done, error 5, replies 0
-    ((vector
+    vector
     (stands (free ∷ chan 3 125 false false [] ∷ chan 45134 131 true false (44 ∷ 24 ∷ []) ∷ free ∷ chan 45134 127 true true [] ∷ chan 45134 126 false true [] ∷ chan 3 129 false false (39 ∷ []) ∷ chan 45134 128 true false (54 ∷ []) ∷ [])
     ([])
     (wait 34 0 130 false (64 ∷ 2 ∷ 164 ∷ []) ∷ []) 2 2)
@@ -2396,16 +2508,18 @@ pub short-lists-of-8 :
     ([])
     (stands (free ∷ chan 3 125 false false [] ∷ chan 45134 131 true false (44 ∷ 24 ∷ []) ∷ free ∷ chan 45134 127 true true [] ∷ chan 45134 126 false true [] ∷ chan 3 129 false false (39 ∷ []) ∷ chan 45134 128 true false (54 ∷ []) ∷ [])
     ([])
-    (wait 34 0 130 false (64 ∷ 2 ∷ 164 ∷ []) ∷ []) 2 2)))
-    ∷ [])
+    (wait 34 0 130 false (64 ∷ 2 ∷ 164 ∷ []) ∷ []) 2 2))
+    ∷ []
+
+pub short-lists-of-8 : Computes short-lists-of-8-vectors
 unfolding machine
 short-lists-of-8 = refl
 
 -- a state that is not sound
-pub unsound-states-of-8 :
-    Computes
+abbrev pub unsound-states-of-8-vectors : List Vector
+unsound-states-of-8-vectors =
     -- ABORT: done, error 1, replies 0
-    ((vector
+    vector
     (stands (free ∷ chan 3 126 false false [] ∷ chan 3 129 true false [] ∷ chan 3 125 false true [] ∷ chan 3 126 false false (54 ∷ []) ∷ chan 3 130 false true [] ∷ chan 3 131 false false [] ∷ free ∷ [])
     ([])
     (wait 50 3 125 false (188 ∷ 156 ∷ 8 ∷ []) ∷ wait 16 0 126 false (227 ∷ []) ∷ wait 21 0 127 true (254 ∷ []) ∷ []) 3 2)
@@ -2414,7 +2528,9 @@ pub unsound-states-of-8 :
     ([])
     (stands (free ∷ chan 3 126 false false [] ∷ chan 3 129 true false [] ∷ chan 3 125 false true [] ∷ chan 3 126 false false (54 ∷ []) ∷ chan 3 130 false true [] ∷ chan 3 131 false false [] ∷ free ∷ [])
     ([])
-    (wait 50 3 125 false (188 ∷ 156 ∷ 8 ∷ []) ∷ wait 16 0 126 false (227 ∷ []) ∷ wait 21 0 127 true (254 ∷ []) ∷ []) 3 2)))
-    ∷ [])
+    (wait 50 3 125 false (188 ∷ 156 ∷ 8 ∷ []) ∷ wait 16 0 126 false (227 ∷ []) ∷ wait 21 0 127 true (254 ∷ []) ∷ []) 3 2))
+    ∷ []
+
+pub unsound-states-of-8 : Computes unsound-states-of-8-vectors
 unfolding machine
 unsound-states-of-8 = refl
