@@ -171,13 +171,15 @@ static int at_rest(const struct Arbiter *a)
     return 1;
 }
 
+#define SPOILS 8u
+
 /* One thing that a sound state may not have, where both programs can say it. */
-static void spoil(struct Arbiter *a)
+static void spoil(struct Arbiter *a, unsigned kind)
 {
     struct Channel *channel = &a->channel[below(CHANNELS)];
     unsigned id;
 
-    switch (below(6)) {
+    switch (kind) {
     case 0:                                 /* a free channel with a mark */
         memset(channel, 0, sizeof *channel);
         channel->stopped = 1;
@@ -201,6 +203,14 @@ static void spoil(struct Arbiter *a)
             a->waiting.id[0] = a->waiting.id[a->waiting.count - 1];
             a->waiting.id[a->waiting.count - 1] = (uint8_t)id;
         }
+        break;
+    case 5:                                 /* an id twice in a queue */
+        if (channel->writes.count > 0)
+            add_id(&channel->writes, channel->writes.id[0]);
+        break;
+    case 6:                                 /* an id above 63 */
+        if (channel->writes.count > 0)
+            channel->writes.id[channel->writes.count - 1] = 64;
         break;
     default:                                /* a waiting request without a combination */
         if (a->waiting.count > 0) {
@@ -283,11 +293,6 @@ static int unchanged(void)
     return replies.count == 0 && memcmp(&before, &after, sizeof before) == 0;
 }
 
-static int known(void)
-{
-    return answer.error == DONE || answer.error <= ADIOERR_NOALLOCATION;
-}
-
 static int read_settles(void) { return answer.error == DONE && settled(); }
 static int read_found(void) { return answer.last != NO_ID && settled(); }
 static int mismatch_settles(void)
@@ -313,7 +318,7 @@ static int own_walk_drops(void) { return ended_itself(ADIOERR_ALLOCFAILED); }
 static int own_walk_aborts(void) { return ended_itself(IOERR_ABORTED); }
 static int own_walk_steals(void) { return ended_itself(ADIOERR_CHANNELSTOLEN); }
 static int outstanding_settles(void) { return answer.outstanding && settled(); }
-static int two_grants(void) { return grants() >= 2 && known(); }
+static int two_grants(void) { return grants() >= 2 && answer.error == DONE; }
 static int event_ends(void) { return answer.map != 0 && settled(); }
 static int event_idle(void)
 {
@@ -324,11 +329,12 @@ static int two_new_keys(void)               /* the call's and at least one of th
     return answer.error == DONE && call.key == 0 && grants() >= 1
         && after.last_key != answer.key && after.last_key != before.last_key;
 }
-static int refused(void)
-{
-    return !known() && answer.error > 1 && answer.error != REFUSED_REPLIES;
-}
-static int refused_form(void) { return answer.error < DONE && !known(); }
+static int closed(void) { return answer.error == REFUSED_CLOSED && unchanged(); }
+static int id_outstanding(void) { return answer.error == REFUSED_OUTSTANDING && unchanged(); }
+static int id_high(void) { return answer.error == REFUSED_ID && unchanged(); }
+static int no_command(void) { return answer.error == IOERR_NOCMD; }
+static int bad_length(void) { return answer.error == IOERR_BADLENGTH; }
+static int bad_address(void) { return answer.error == IOERR_BADADDRESS; }
 static int open_end(void) { return answer.error == IOERR_OPENFAIL && unchanged(); }
 static int short_list(void) { return answer.error == REFUSED_REPLIES && unchanged(); }
 static int unsound(void) { return answer.error == REFUSED_UNSOUND && unchanged(); }
@@ -367,7 +373,7 @@ static const struct Wish wishes[] = {
      "LOCK is answered as outstanding, and replied -12 by the walk of its own call"},
     {"outstanding-settles", 4, {ADCMD_LOCK, CMD_WRITE, ADCMD_ALLOCATE}, outstanding_settles,
      "outstanding, and the walk follows"},
-    {"many-granted", 8,
+    {"many-granted", 9,
      {ADCMD_FREE, CALL_CLOSE, ADCMD_SETPREC, CMD_FLUSH, CMD_RESET, CMD_STOP, CMD_START,
       CALL_OPEN, ADCMD_ALLOCATE}, two_grants, "one walk grants two or more"},
     {"events-settle", 4, {CALL_EVENT}, event_ends,
@@ -378,18 +384,24 @@ static const struct Wish wishes[] = {
      "OPEN or CLOSE is done, and the walk follows"},
     {"new-keys", 4, {CALL_OPEN, ADCMD_ALLOCATE}, two_new_keys,
      "a new key for the call and one for the walk"},
-    {"refusals-settle-nothing", 6, {CMD_WRITE, ADCMD_FREE, CALL_CLOSE, CALL_ABORT}, refused,
-     "refused with 2, 3 or 4: nothing is settled"},
-    {"form-settles-nothing", 6, {ADCMD_ALLOCATE, CMD_STOP, 12, 0xF4, CALL_OPEN, CALL_EVENT},
-     refused_form, "refused with -1, -3, -4 or -5: nothing is settled"},
-    {"no-more-opens", 2, {CALL_OPEN}, open_end, "OPEN at open count 65,535"},
-    {"short-lists", 2, {CMD_READ, CALL_OPEN}, short_list, "a reply list of 63 records"},
-    {"unsound-states", 8, {CMD_READ, CALL_OPEN, CALL_ABORT, ADCMD_ALLOCATE}, unsound,
-     "a state that is not sound"}
+    {"closed-device", 2, {CMD_WRITE, CALL_CLOSE}, closed, "refused with 2: nothing is settled"},
+    {"outstanding-ids", 2, {CMD_WRITE, ADCMD_ALLOCATE}, id_outstanding,
+     "refused with 3: nothing is settled"},
+    {"high-ids", 2, {CALL_ABORT, ADCMD_LOCK}, id_high, "refused with 4: nothing is settled"},
+    {"no-commands", 2, {12, 0xF4}, no_command, "refused with -3: nothing is settled"},
+    {"bad-lengths", 2, {ADCMD_ALLOCATE, CALL_OPEN}, bad_length,
+     "refused with -4: nothing is settled"},
+    {"bad-addresses", 4, {ADCMD_ALLOCATE, CALL_OPEN, CMD_STOP, CALL_EVENT}, bad_address,
+     "refused with -5: nothing is settled"},
+    {"no-more-opens", 2, {CALL_OPEN}, open_end, "OPEN at open count 65,535: -1"},
+    {"short-lists", 2, {CMD_READ, CALL_OPEN}, short_list, "a reply list of 63 records: 5"},
+    {"unsound-states", SPOILS,
+     {CMD_READ, CALL_OPEN, CALL_ABORT, ADCMD_ALLOCATE, CALL_CLOSE, CALL_EVENT}, unsound,
+     "a state that is not sound: 1"}
 };
 
-/* Draws states and calls until one meets the wish. */
-static void find(const struct Wish *w)
+/* Draws states and calls until one meets the wish; its operations take turns. */
+static void find(const struct Wish *w, unsigned turn)
 {
     unsigned kinds = 0;
 
@@ -404,8 +416,8 @@ static void find(const struct Wish *w)
         if (at_rest(&before))
             continue;
         if (w->met == unsound)
-            spoil(&before);
-        make_call(&call, w->operation[below(kinds)]);
+            spoil(&before, turn % SPOILS);
+        make_call(&call, w->operation[turn % kinds]);
         after = before;
         replies.record = record;
         replies.capacity = w->met == short_list ? REQUESTS - 1 : REQUESTS;
@@ -537,10 +549,12 @@ static void put_wish(const struct Wish *w)
     const char *board = CHANNELS == 4 ? "" : "-of-8";
     unsigned count = CHANNELS == 4 ? w->count : 1;
 
+    if (CHANNELS == 8 && w->met == bad_address)
+        return;                             /* no byte is above 255 */
     printf("\n-- %s\nabbrev pub %s%s-vectors : List Vector\n%s%s-vectors =\n", w->why,
            w->name, board, w->name, board);
     for (unsigned i = 0; i < count; i++) {
-        find(w);
+        find(w, i);
         put_remark();
         printf("    %svector\n    ", i == 0 ? "" : "∷ ");
         put_state(&before);
