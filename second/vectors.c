@@ -1,0 +1,661 @@
+/* Writes vectors for the machine: calls with what this arbiter makes of them, as text of
+   antt. vectors calls SEED writes calls on states that are not at rest, which no log
+   reaches; vectors log NAME reads a log and writes it beside its output. Same arguments,
+   same bytes, on every machine. */
+#include "chance.h"
+#include "log.h"
+
+#include <stdio.h>
+#include <stdlib.h>
+#include <string.h>
+
+/* ---- Sound states by chance ---- */
+
+static uint16_t keys[3];                /* the keys that this state and its call use */
+static uint8_t used[REQUESTS];
+
+static unsigned idle_id(void)
+{
+    unsigned id = below(REQUESTS);
+
+    while (used[id])
+        id = (id + 1) % REQUESTS;
+    return id;
+}
+
+static unsigned take_id(void)
+{
+    unsigned id = idle_id();
+
+    used[id] = 1;
+    return id;
+}
+
+static uint16_t any_key(void)
+{
+    return keys[below(3)];
+}
+
+/* Few values, so that many are equal; now and then an end of the range. */
+static int8_t any_precedence(void)
+{
+    if (percent(94))
+        return (int8_t)((int)below(7) - 3);
+    return percent(50) ? -128 : 127;
+}
+
+static uint8_t any_combination(void)
+{
+    unsigned any = below(ALL_CHANNELS + 1);
+
+    if (percent(50))
+        return (uint8_t)(1u << below(CHANNELS));
+    return (uint8_t)any;
+}
+
+static unsigned any_list(uint8_t *combination)
+{
+    unsigned length = percent(4) ? COMBINATIONS : 1 + below(3);
+
+    for (unsigned i = 0; i < length; i++)
+        combination[i] = any_combination();
+    return length;
+}
+
+static void add_id(struct Ids *list, unsigned id)
+{
+    list->id[list->count++] = (uint8_t)id;
+}
+
+static void make_channel(struct Arbiter *a, struct Channel *channel)
+{
+    unsigned writes = percent(40) ? 1 + below(2) : 0;
+
+    if (percent(20))
+        return;
+    channel->key = any_key();
+    channel->precedence = any_precedence();
+    channel->locked = (uint8_t)percent(40);
+    channel->stopped = (uint8_t)percent(20);
+    for (unsigned i = 0; i < writes; i++) {
+        unsigned id = take_id();
+
+        a->request[id].command = CMD_WRITE;
+        a->request[id].key = channel->key;
+        add_id(&channel->writes, id);
+    }
+}
+
+static void make_lock(struct Arbiter *a)
+{
+    uint16_t key = any_key();
+    unsigned map = 0, some = below(ALL_CHANNELS + 1), id;
+
+    for (unsigned c = 0; c < CHANNELS; c++)
+        if (a->channel[c].key == key && a->channel[c].locked)
+            map |= 1u << c;
+    if ((map & some) != 0)
+        map &= some;
+    if (map == 0)
+        return;
+    id = take_id();
+    a->request[id].command = ADCMD_LOCK;
+    a->request[id].key = key;
+    a->request[id].map = (uint8_t)map;
+    add_id(&a->locks, id);
+}
+
+static void make_waiting(struct Arbiter *a, int8_t precedence)
+{
+    unsigned id = take_id();
+    struct Request *q = &a->request[id];
+
+    q->command = ADCMD_ALLOCATE;
+    q->nowait = (uint8_t)percent(45);
+    q->precedence = precedence;
+    q->key = percent(50) ? 0 : any_key();
+    q->length = (uint8_t)any_list(q->combination);
+    add_id(&a->waiting, id);
+}
+
+static void make_state(struct Arbiter *a)
+{
+    static const uint16_t lasts[6] = {0, 1, 2, 9, 65534, 65535};
+    unsigned locks = below(3), waiting = percent(90) ? 1 + below(4) : 0;
+    int8_t order[4];
+
+    arbiter_fresh(a);
+    memset(used, 0, sizeof used);
+    a->last_key = lasts[below(6)];
+    keys[0] = (uint16_t)(1 + a->last_key % 65535u);         /* the next to be issued */
+    keys[1] = (uint16_t)(2 + below(3));
+    keys[2] = (uint16_t)(percent(50) ? 65535 : 1 + below(65535));
+    a->open_count = (uint16_t)(percent(3) ? 0 : 1 + below(3));
+    if (percent(4))
+        a->open_count = MOST_OPENS;
+    for (unsigned c = 0; c < CHANNELS; c++)
+        make_channel(a, &a->channel[c]);
+    for (unsigned i = 0; i < locks; i++)
+        make_lock(a);
+    for (unsigned i = 0; i < waiting; i++) {
+        unsigned at = i;
+
+        order[i] = any_precedence();
+        while (at > 0 && order[at - 1] < order[at]) {
+            int8_t low = order[at - 1];
+
+            order[at - 1] = order[at];
+            order[at--] = low;
+        }
+    }
+    for (unsigned i = 0; i < waiting; i++)
+        make_waiting(a, order[i]);
+}
+
+/* "A waiting request that could be granted, a failing one with NOWAIT, a lock over a
+   channel that a held one has chosen": settling would do something. */
+static int at_rest(const struct Arbiter *a)
+{
+    for (unsigned at = 0; at < a->waiting.count; at++) {
+        const struct Request *q = &a->request[a->waiting.id[at]];
+        uint8_t chosen;
+        enum Look look =
+            arbiter_look(a, q->precedence, q->combination, q->length, &chosen);
+
+        if (look == LOOK_GRANTED || (look == LOOK_FAILS && q->nowait))
+            return 0;
+        for (unsigned i = 0; look == LOOK_HELD && i < a->locks.count; i++)
+            if ((a->request[a->locks.id[i]].map & chosen) != 0)
+                return 0;
+    }
+    return 1;
+}
+
+#define SPOILS 8u
+
+/* One thing that a sound state may not have, where both programs can say it. */
+static void spoil(struct Arbiter *a, unsigned kind)
+{
+    struct Channel *channel = &a->channel[below(CHANNELS)];
+    unsigned id;
+
+    switch (kind) {
+    case 0:                                 /* a free channel with a mark */
+        memset(channel, 0, sizeof *channel);
+        channel->stopped = 1;
+        break;
+    case 1:                                 /* a free channel with a precedence */
+        memset(channel, 0, sizeof *channel);
+        channel->precedence = 1;
+        break;
+    case 2:                                 /* a lock over a channel that is not locked */
+        if (a->locks.count > 0)
+            for (unsigned c = 0; c < CHANNELS; c++)
+                a->channel[c].locked = 0;
+        break;
+    case 3:                                 /* a lock that names nothing */
+        if (a->locks.count > 0)
+            a->request[a->locks.id[0]].map = 0;
+        break;
+    case 4:                                 /* the waiting requests turned round */
+        if (a->waiting.count > 1) {
+            id = a->waiting.id[0];
+            a->waiting.id[0] = a->waiting.id[a->waiting.count - 1];
+            a->waiting.id[a->waiting.count - 1] = (uint8_t)id;
+        }
+        break;
+    case 5:                                 /* an id twice in a queue */
+        if (channel->writes.count > 0)
+            add_id(&channel->writes, channel->writes.id[0]);
+        break;
+    case 6:                                 /* an id above 63 */
+        if (channel->writes.count > 0)
+            channel->writes.id[channel->writes.count - 1] = 64;
+        break;
+    default:                                /* a waiting request without a combination */
+        if (a->waiting.count > 0) {
+            struct Request *q = &a->request[a->waiting.id[0]];
+
+            memset(q->combination, 0, sizeof q->combination);
+            q->length = 0;
+        }
+        break;
+    }
+}
+
+/* ---- Calls by chance ---- */
+
+static void make_call(struct Frame *f, unsigned operation)
+{
+    memset(f, 0, sizeof *f);
+    f->operation = (uint8_t)operation;
+    f->id = (uint8_t)idle_id();
+    if (percent(operation == CALL_ABORT ? 60 : 5))
+        f->id = (uint8_t)below(72);
+    f->flags = (uint8_t)((percent(50) ? IOF_QUICK : 0) | (percent(50) ? ADIOF_NOWAIT : 0));
+    if (percent(10))
+        f->flags |= 0x2A;                   /* bits without a meaning */
+    f->map = (uint8_t)(percent(96) ? below(ALL_CHANNELS + 1) : below(256));
+    f->precedence = any_precedence();
+    f->key = percent(10) ? 0 : any_key();
+    if (operation == CALL_OPEN || operation == ADCMD_ALLOCATE) {
+        if (percent(50))
+            f->key = 0;
+        if (percent(90))
+            f->length = (uint8_t)any_list(f->combination);
+        if (percent(4))
+            f->length = 17;
+        if (percent(4) && f->length > 0)
+            f->combination[f->length - 1] = 255;
+    }
+}
+
+/* ---- What a vector is wanted for ---- */
+
+static struct Arbiter before, after;
+static struct Frame call;
+static struct Reply record[REQUESTS];
+static struct Replies replies;
+static struct Answer answer;
+
+static int settled(void)                    /* some reply to another than the caller */
+{
+    for (size_t i = 0; i < replies.count; i++)
+        if (replies.record[i].id != call.id
+            && (replies.record[i].command == ADCMD_ALLOCATE
+                || replies.record[i].error == ADIOERR_CHANNELSTOLEN))
+            return 1;
+    return 0;
+}
+
+static unsigned grants(void)
+{
+    unsigned count = 0;
+
+    for (size_t i = 0; i < replies.count; i++)
+        if (replies.record[i].command == ADCMD_ALLOCATE && replies.record[i].error == DONE)
+            count++;
+    return count;
+}
+
+/* The call's own request, answered as outstanding and ended in the same call. */
+static int ended_itself(int error)
+{
+    for (size_t i = 0; i < replies.count; i++)
+        if (answer.outstanding && replies.record[i].id == call.id
+            && replies.record[i].error == error)
+            return 1;
+    return 0;
+}
+
+static int unchanged(void)
+{
+    return replies.count == 0 && memcmp(&before, &after, sizeof before) == 0;
+}
+
+static int read_settles(void) { return answer.error == DONE && settled(); }
+static int read_found(void) { return answer.last != NO_ID && settled(); }
+static int mismatch_settles(void)
+{
+    return answer.error == ADIOERR_NOALLOCATION && settled();
+}
+static int done_settles(void) { return answer.error == DONE && settled(); }
+static int not_aborted(void)
+{
+    return answer.error == DONE && answer.last == 0 && settled();
+}
+static int aborted(void) { return answer.last == 1 && settled(); }
+static int failed_settles(void)
+{
+    return answer.error == ADIOERR_ALLOCFAILED && settled();
+}
+static int open_failed(void)
+{
+    return answer.error == ADIOERR_ALLOCFAILED && unchanged();
+}
+static int own_walk_grants(void) { return ended_itself(DONE); }
+static int own_walk_drops(void) { return ended_itself(ADIOERR_ALLOCFAILED); }
+static int own_walk_aborts(void) { return ended_itself(IOERR_ABORTED); }
+static int own_walk_steals(void) { return ended_itself(ADIOERR_CHANNELSTOLEN); }
+static int outstanding_settles(void) { return answer.outstanding && settled(); }
+static int two_grants(void) { return grants() >= 2 && answer.error == DONE; }
+static int event_ends(void) { return answer.map != 0 && settled(); }
+static int event_idle(void)
+{
+    return answer.error == DONE && answer.map == 0 && settled();
+}
+static int two_new_keys(void)               /* the call's and at least one of the walk's */
+{
+    return answer.error == DONE && call.key == 0 && grants() >= 1
+        && after.last_key != answer.key && after.last_key != before.last_key;
+}
+static int closed(void) { return answer.error == REFUSED_CLOSED && unchanged(); }
+static int id_outstanding(void) { return answer.error == REFUSED_OUTSTANDING && unchanged(); }
+static int id_high(void) { return answer.error == REFUSED_ID && unchanged(); }
+static int no_command(void) { return answer.error == IOERR_NOCMD; }
+static int bad_length(void) { return answer.error == IOERR_BADLENGTH; }
+static int bad_address(void) { return answer.error == IOERR_BADADDRESS; }
+static int open_end(void) { return answer.error == IOERR_OPENFAIL && unchanged(); }
+static int short_list(void) { return answer.error == REFUSED_REPLIES && unchanged(); }
+static int unsound(void) { return answer.error == REFUSED_UNSOUND && unchanged(); }
+
+struct Wish {
+    const char *name;
+    unsigned count;
+    uint8_t operation[10];                  /* one of these; 0 ends them */
+    int (*met)(void);
+    const char *why;
+};
+
+static const struct Wish wishes[] = {
+    {"reads-settle", 6, {CMD_READ}, read_settles, "READ is done, and the walk follows"},
+    {"reads-find", 4, {CMD_READ}, read_found,
+     "READ answers the front write, which the walk may end"},
+    {"mismatches-settle", 8,
+     {CMD_READ, CMD_WRITE, CMD_RESET, CMD_CLEAR, CMD_STOP, ADCMD_FREE, ADCMD_SETPREC,
+      ADCMD_LOCK}, mismatch_settles, "-10, and the walk follows"},
+    {"clears-settle", 6, {CMD_CLEAR, CMD_UPDATE}, done_settles,
+     "CLEAR or UPDATE does nothing, and the walk follows"},
+    {"not-aborted-settles", 6, {CALL_ABORT}, not_aborted,
+     "\"not aborted\", and the walk follows"},
+    {"aborted-settles", 4, {CALL_ABORT}, aborted, "ABORT ends one, and the walk follows"},
+    {"failed-settles", 6, {ADCMD_ALLOCATE}, failed_settles,
+     "ALLOCATE is answered -11, and the walk follows"},
+    {"failed-open-does-not", 6, {CALL_OPEN}, open_failed,
+     "OPEN is answered -11, and nothing is settled"},
+    {"walk-grants-its-own", 6, {ADCMD_ALLOCATE}, own_walk_grants,
+     "ALLOCATE is answered as outstanding, and granted by the walk of its own call"},
+    {"walk-drops-its-own", 4, {ADCMD_ALLOCATE}, own_walk_drops,
+     "ALLOCATE is answered as outstanding, and dropped by the walk of its own call"},
+    {"walk-aborts-its-own", 4, {CMD_WRITE}, own_walk_aborts,
+     "WRITE is answered as outstanding, and aborted by a steal of its own call"},
+    {"walk-steals-its-own", 4, {ADCMD_LOCK}, own_walk_steals,
+     "LOCK is answered as outstanding, and replied -12 by the walk of its own call"},
+    {"outstanding-settles", 4, {ADCMD_LOCK, CMD_WRITE, ADCMD_ALLOCATE}, outstanding_settles,
+     "outstanding, and the walk follows"},
+    {"many-granted", 9,
+     {ADCMD_FREE, CALL_CLOSE, ADCMD_SETPREC, CMD_FLUSH, CMD_RESET, CMD_STOP, CMD_START,
+      CALL_OPEN, ADCMD_ALLOCATE}, two_grants, "one walk grants two or more"},
+    {"events-settle", 4, {CALL_EVENT}, event_ends,
+     "the event ends a write, and the walk follows"},
+    {"empty-events-settle", 4, {CALL_EVENT}, event_idle,
+     "the event finds nothing, and the walk follows"},
+    {"opens-settle", 4, {CALL_OPEN, CALL_CLOSE}, done_settles,
+     "OPEN or CLOSE is done, and the walk follows"},
+    {"new-keys", 4, {CALL_OPEN, ADCMD_ALLOCATE}, two_new_keys,
+     "a new key for the call and one for the walk"},
+    {"closed-device", 2, {CMD_WRITE, CALL_CLOSE}, closed, "refused with 2: nothing is settled"},
+    {"outstanding-ids", 2, {CMD_WRITE, ADCMD_ALLOCATE}, id_outstanding,
+     "refused with 3: nothing is settled"},
+    {"high-ids", 2, {CALL_ABORT, ADCMD_LOCK}, id_high, "refused with 4: nothing is settled"},
+    {"no-commands", 2, {12, 0xF4}, no_command, "refused with -3: nothing is settled"},
+    {"bad-lengths", 2, {ADCMD_ALLOCATE, CALL_OPEN}, bad_length,
+     "refused with -4: nothing is settled"},
+    {"bad-addresses", 4, {ADCMD_ALLOCATE, CALL_OPEN, CMD_STOP, CALL_EVENT}, bad_address,
+     "refused with -5: nothing is settled"},
+    {"no-more-opens", 2, {CALL_OPEN}, open_end, "OPEN at open count 65,535: -1"},
+    {"short-lists", 2, {CMD_READ, CALL_OPEN}, short_list, "a reply list of 63 records: 5"},
+    {"unsound-states", SPOILS,
+     {CMD_READ, CALL_OPEN, CALL_ABORT, ADCMD_ALLOCATE, CALL_CLOSE, CALL_EVENT}, unsound,
+     "a state that is not sound: 1"}
+};
+
+/* Draws states and calls until one meets the wish; its operations take turns. */
+static void find(const struct Wish *w, unsigned turn)
+{
+    unsigned kinds = 0;
+
+    while (kinds < sizeof w->operation && w->operation[kinds] != 0)
+        kinds++;
+    for (unsigned long tries = 0; tries < 2000000; tries++) {
+        make_state(&before);
+        if (!arbiter_sound(&before)) {
+            fputs("vectors: a state made here is not sound\n", stderr);
+            exit(1);
+        }
+        if (at_rest(&before))
+            continue;
+        if (w->met == unsound)
+            spoil(&before, turn % SPOILS);
+        make_call(&call, w->operation[turn % kinds]);
+        after = before;
+        replies.record = record;
+        replies.capacity = w->met == short_list ? REQUESTS - 1 : REQUESTS;
+        answer = arbiter_call(&after, &call, &replies);
+        if (w->met())
+            return;
+    }
+    fprintf(stderr, "vectors: no call found for %s\n", w->name);
+    exit(1);
+}
+
+/* ---- The machine's words ---- */
+
+static void put_numbers(const uint8_t *number, unsigned count)
+{
+    if (count == 0) {
+        printf("[]");
+        return;
+    }
+    putchar('(');
+    for (unsigned i = 0; i < count; i++)
+        printf("%u ∷ ", number[i]);
+    printf("[])");
+}
+
+static const char *truth(int holds)
+{
+    return holds ? "true" : "false";
+}
+
+static unsigned shifted(int precedence)     /* the machine stores precedence + 128 */
+{
+    return (unsigned)(precedence + 128);
+}
+
+static void put_channel(const struct Channel *channel)
+{
+    if (channel->key == 0 && channel->precedence == 0 && !channel->locked
+        && !channel->stopped && channel->writes.count == 0) {
+        printf("free");
+        return;
+    }
+    printf("chan %u %u %s %s ", channel->key, shifted(channel->precedence),
+           truth(channel->locked), truth(channel->stopped));
+    put_numbers(channel->writes.id, channel->writes.count);
+}
+
+static void put_state(const struct Arbiter *a)
+{
+    printf("(stands (");
+    for (unsigned c = 0; c < CHANNELS; c++) {
+        put_channel(&a->channel[c]);
+        printf(" ∷ ");
+    }
+    printf("[])\n    (");
+    for (unsigned at = 0; at < a->locks.count; at++) {
+        const struct Request *q = &a->request[a->locks.id[at]];
+
+        printf("lock %u %u %u ∷ ", a->locks.id[at], q->key, q->map);
+    }
+    printf("[])\n    (");
+    for (unsigned at = 0; at < a->waiting.count; at++) {
+        const struct Request *q = &a->request[a->waiting.id[at]];
+
+        printf("wait %u %u %u %s ", a->waiting.id[at], q->key, shifted(q->precedence),
+               truth(q->nowait));
+        put_numbers(q->combination, q->length);
+        printf(" ∷ ");
+    }
+    printf("[]) %u %u)", a->open_count, a->last_key);
+}
+
+static void put_call(void)
+{
+    static const char *const named[4] = {"OPEN", "CLOSE", "ABORT", "EVENT"};
+
+    printf("(asks ");
+    if (call.operation >= CALL_OPEN && call.operation <= CALL_EVENT)
+        printf("%s", named[call.operation - CALL_OPEN]);
+    else
+        printf("(COMMAND %u)", call.operation);
+    printf(" %u %u %u %u %u ", call.id, call.flags, call.map, shifted(call.precedence),
+           call.key);
+    put_numbers(call.combination, call.length);
+    printf(" %u)", (unsigned)replies.capacity);
+}
+
+static void put_outcome(void)
+{
+    printf("(gets (says %s %u %u %u %u)\n    (", truth(answer.outstanding),
+           (uint8_t)answer.error, answer.map, answer.key, answer.last);
+    for (size_t i = 0; i < replies.count; i++) {
+        const struct Reply *r = &replies.record[i];
+
+        printf("reply %u %u %u %u %u ∷ ", r->id, r->command, (uint8_t)r->error, r->map,
+               r->key);
+    }
+    printf("[])\n    ");
+    put_state(&after);
+    putchar(')');
+}
+
+/* The call in words, above its vector. */
+static void put_remark(void)
+{
+    static const char *const command[] = {
+        "", "RESET", "READ", "WRITE", "UPDATE", "CLEAR", "STOP", "START", "FLUSH", "FREE",
+        "SETPREC"
+    };
+    static const char *const other[4] = {"OPEN", "CLOSE", "ABORT", "event"};
+    unsigned n = call.operation;
+
+    printf("    -- ");
+    if (n >= CALL_OPEN && n <= CALL_EVENT)
+        printf("%s", other[n - CALL_OPEN]);
+    else if (n >= CMD_RESET && n <= ADCMD_SETPREC)
+        printf("%s", command[n]);
+    else if (n == ADCMD_LOCK || n == ADCMD_ALLOCATE)
+        printf("%s", n == ADCMD_LOCK ? "LOCK" : "ALLOCATE");
+    else
+        printf("command %02X", n);
+    printf(": %s, error %d, replies %u\n", answer.outstanding ? "outstanding" : "done",
+           answer.error, (unsigned)replies.count);
+}
+
+/* One statement: a table of calls that belong together. */
+static void put_wish(const struct Wish *w)
+{
+    const char *board = CHANNELS == 4 ? "" : "-of-8";
+    unsigned count = CHANNELS == 4 ? w->count : 1;
+
+    if (CHANNELS == 8 && w->met == bad_address)
+        return;                             /* no byte is above 255 */
+    printf("\n-- %s\nabbrev pub %s%s-vectors : List Vector\n%s%s-vectors =\n", w->why,
+           w->name, board, w->name, board);
+    for (unsigned i = 0; i < count; i++) {
+        find(w, i);
+        put_remark();
+        printf("    %svector\n    ", i == 0 ? "" : "∷ ");
+        put_state(&before);
+        printf("\n    ");
+        put_call();
+        printf("\n    ");
+        put_outcome();
+        printf("\n");
+    }
+    printf("    ∷ []\n\npub %s%s : Computes %s%s-vectors\nunfolding machine\n%s%s = refl\n",
+           w->name, board, w->name, board, w->name, board);
+}
+
+/* ---- Logs ---- */
+
+#define LONGEST_QUOTED 600              /* longer lines are left out, to keep the file short */
+
+static int quotable(const char *line, size_t length)
+{
+    for (size_t i = 0; i < length; i++)
+        if (line[i] < 32 || line[i] > 126 || line[i] == '"' || line[i] == '\\')
+            return 0;
+    return length <= LONGEST_QUOTED;
+}
+
+static void put_hex(const uint8_t *byte, size_t count)
+{
+    printf("\"");
+    for (size_t i = 0; i < count; i++)
+        printf("%02X", byte[i]);
+    printf("\"");
+}
+
+static void put_answer_lines(void)
+{
+    for (size_t i = 0; i < replies.count; i++) {
+        const struct Reply *r = &replies.record[i];
+        uint8_t byte[7] = {0xC0, r->id, r->command, (uint8_t)r->error, r->map,
+                           (uint8_t)(r->key >> 8), (uint8_t)(r->key & 255)};
+
+        put_hex(byte, sizeof byte);
+        printf(" ∷ ");
+    }
+    {
+        uint8_t byte[6] = {(uint8_t)(0xA0 + answer.outstanding), (uint8_t)answer.error,
+                           answer.map, (uint8_t)(answer.key >> 8),
+                           (uint8_t)(answer.key & 255), answer.last};
+
+        put_hex(byte, sizeof byte);
+        printf(" ∷ []");
+    }
+}
+
+/* A log from standard input, line by line; a line that cannot be quoted is left out. */
+static void put_log(const char *name)
+{
+    static char line[1 << 18];
+    size_t length = 0;
+    int c;
+
+    arbiter_fresh(&after);
+    printf("\nabbrev pub %s-lines : Talk\n%s-lines =\n    ", name, name);
+    do {
+        c = getchar();
+        if (c != EOF && c != '\n') {
+            if (length < sizeof line)
+                line[length++] = (char)c;
+            continue;
+        }
+        if ((c != EOF || length > 0) && quotable(line, length)) {
+            answer = log_malformed();
+            replies.record = record;
+            replies.capacity = REQUESTS;
+            replies.count = 0;
+            if (log_decode(line, length, &call))
+                answer = arbiter_call(&after, &call, &replies);
+            printf("(\"%.*s\", ", (int)length, line);
+            put_answer_lines();
+            printf(")\n    ∷ ");
+        }
+        length = 0;
+    } while (c != EOF);
+    printf("[]\n\npub %s : Answers %s-lines\nunfolding machine bytes page\n%s = refl\n", name, name,
+           name);
+}
+
+int main(int count, char **argument)
+{
+    if (count == 3 && strcmp(argument[1], "calls") == 0) {
+        chance_seed(strtoull(argument[2], NULL, 10));
+        for (size_t i = 0; i < sizeof wishes / sizeof wishes[0]; i++)
+            put_wish(&wishes[i]);
+    } else if (count == 3 && strcmp(argument[1], "log") == 0) {
+        put_log(argument[2]);
+    } else {
+        fputs("usage: vectors calls SEED | vectors log NAME\n", stderr);
+        return 2;
+    }
+    if (fflush(stdout) != 0 || ferror(stdout)) {
+        fputs("vectors: output failed\n", stderr);
+        return 1;
+    }
+    return 0;
+}
