@@ -78,7 +78,7 @@ module _ (r : Request) {s : StateM} {rs : List Reply} {l l₁ l₂ tb : List ℕ
 -- ---- channels changed
 
 -- items speak of keys and writes alone
-marked-items : (f : ChannelM → ChannelM) → ((x : ChannelM) → (f x .key ≡ x .key) × (f x .writes ≡ x .writes)) → (m : ℕ) (cs : List ChannelM)
+pub marked-items : (f : ChannelM → ChannelM) → ((x : ChannelM) → (f x .key ≡ x .key) × (f x .writes ≡ x .writes)) → (m : ℕ) (cs : List ChannelM)
     → writeItems (change f m cs) ≡ writeItems cs
 unfolding writeItems change
 marked-items f g m [] = refl
