@@ -1,8 +1,8 @@
 -- A LOCK that becomes outstanding: one id more in the queue of locks, and its entry in the table. The id is new, so the queue
 -- has room. Assumes nothing.
-use Prim.Native.Nat.{ℕ, zero, suc, _+_, _*_, _≤_, _<_}
-use mathlib.Core.Path.{_≡_, refl, ap, ap₂, sym, subst, _∙_}
-use mathlib.Core.Bool.{Bool, true, false, not, _&&_}
+use Prim.Native.Nat.{ℕ, _+_, _*_, _≤_, _<_}
+use mathlib.Core.Path.{_≡_, refl, ap, sym, subst, _∙_}
+use mathlib.Core.Bool.{true, false, not}
 use mathlib.Core.List.{List, [], _∷_, _++_, map}
 use native.Mathlib.Omega.{arith}
 use lib.Dec.{T, eqb, ltb, lt→ltb}
@@ -10,23 +10,22 @@ use lib.ListN.{length, length-append, length-map}
 use Rattle.memory.specs.Splice.{splice}
 use Rattle.memory.proofs.Splice.{splice-none}
 use Rattle.table.specs.Entry.{lockEntry}
-use Rattle.machine.specs.Numbers.{NOALLOCATION}
-use Rattle.machine.specs.Lists.{if_then_else_, all, among, distinct}
-use Rattle.machine.specs.State.{Channel as ChannelM, Lock as LockM, State as StateM, withChannels, withLocks}
+use Rattle.machine.specs.Lists.{all, among, distinct}
+use Rattle.machine.specs.State.{Lock as LockM, State as StateM}
 use Rattle.machine.specs.Maps.{change}
 use Rattle.machine.specs.Sound.{ids, writesOf}
-use Rattle.machine.specs.Commands.{matching, mismatch, setLock, done, pending, finished, silent, doLock}
-use Rattle.machine.proofs.Tests.{and-both, test-true, test-false}
+use Rattle.machine.specs.Commands.{mismatch, setLock, done, pending, finished, silent, doLock}
+use Rattle.machine.proofs.Tests.{and-both}
 use Rattle.machine.proofs.Lists.{pigeon}
 use Rattle.machine.proofs.Sound.{Parts}
 use Rattle.queue.specs.declared.Queue.{Queue}
-use Rattle.queue.specs.Queue.{queueOf, listOf, pushed}
+use Rattle.queue.specs.Queue.{queueOf, pushed}
 use Rattle.queue.proofs.Laws.{pushed-of}
 use Rattle.channel.specs.declared.Change.the-variants.{Lock}
 use Rattle.channel.specs.declared.Channel.{Channel}
 use Rattle.channel.specs.Channel.{channelOf, changedOf, changeEach, matchingEach}
 use Rattle.store.specs.declared.State.{State}
-use Rattle.store.specs.Store.{Item, lockItem, waitItem, writeItems, items, entries, keys, Long, structOf, tableOf, stateIn, Held}
+use Rattle.store.specs.Store.{Item, lockItem, waitItem, writeItems, items, structOf, tableOf, stateIn, Held}
 use Rattle.store.specs.Work.{Ready, Did}
 use Rattle.store.proofs.Table.{Ins, ins-left, ins-right, ins-at, table-add}
 use Rattle.store.proofs.Store.{held-parts, keys-items, long-items, short-waits}

@@ -1,9 +1,9 @@
 -- The channels that a command finds: those that the code marks are those of the machine, and they are all that were asked for
 -- exactly where there is no mismatch. Assumes nothing.
-use Prim.Native.Nat.{ℕ, zero, suc, _+_, _*_, _/_, _%_, _^_, _<_}
+use Prim.Native.Nat.{ℕ, suc, _+_, _*_, _^_, _<_}
 use mathlib.Core.Path.{_≡_, refl, ap, ap₂, sym, subst, _∙_}
 use mathlib.Core.Bool.{Bool, true, false, not, _&&_, _||_}
-use mathlib.Core.List.{List, [], _∷_, map}
+use mathlib.Core.List.{List, [], _∷_}
 use native.Mathlib.Omega.{arith}
 use lib.Dec.{T, T-not, not-T, eqb, eqb→eq, eqb-refl}
 use lib.ListN.{length}
@@ -15,7 +15,7 @@ use Rattle.machine.specs.Commands.{matches, matching, mismatch}
 use Rattle.machine.proofs.Tests.{if-elim, by-test, test-true, test-false, and-left, and-right}
 use Rattle.machine.proofs.Maps.{bit-of}
 use Rattle.machine.proofs.KeepingCalls.{matching-named}
-use Rattle.channel.specs.Channel.{channelOf, matchingEach}
+use Rattle.channel.specs.Channel.{matchingEach}
 use Rattle.channel.proofs.Laws.{matching-is}
 use Rattle.store.specs.declared.State.{State}
 use Rattle.store.specs.Store.{stateIn, Held}

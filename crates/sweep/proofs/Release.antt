@@ -1,33 +1,32 @@
 -- Channels freed: their writes aborted, then the locks sifted on the table without those writes. Assumes nothing.
-use Prim.Native.Nat.{ℕ, zero, suc, pred, _+_, _-_, _*_, _≤_, _<_}
-use mathlib.Core.Path.{_≡_, refl, ap, ap₂, sym, subst, _∙_}
-use mathlib.Core.Bool.{Bool, true, false, not}
+use Prim.Native.Nat.{ℕ, pred, _+_, _-_, _*_, _≤_, _<_}
+use mathlib.Core.Path.{_≡_, refl, ap, sym, subst, _∙_}
+use mathlib.Core.Bool.{false, not}
 use mathlib.Core.List.{List, [], _∷_, _++_, map}
 use native.Mathlib.Omega.{arith}
 use lib.ListN.{length, length-append}
 use Rattle.reply.specs.Replies.{sent}
 use Rattle.reply.proofs.Laws.{sent-append, length-sent}
-use Rattle.machine.specs.Lists.{if_then_else_, keep}
-use Rattle.machine.specs.State.{Channel as ChannelM, Lock, State as StateM, Reply, withChannels}
+use Rattle.machine.specs.Lists.{keep}
+use Rattle.machine.specs.State.{Channel as ChannelM, Lock, Reply}
 use Rattle.machine.specs.Maps.{odd, half, change}
 use Rattle.machine.specs.Granting.{abortedIn}
-use Rattle.machine.specs.Commands.{matches, matching, freed, cleared, isEmpty, ended, freeing, freeingReplies, done, each, silent, owned, doFree, doClose}
+use Rattle.machine.specs.Commands.{matching, freed, cleared, isEmpty, freeing, freeingReplies, done, each, silent, owned, doFree, doClose}
 use Rattle.machine.proofs.Tests.{if-elim}
 use Rattle.machine.proofs.Lists.{Sub, end, sub-refl, sub-nil, sub-append}
-use Rattle.queue.specs.declared.Queue.{Queue}
 use Rattle.queue.specs.Queue.{queueOf}
 use Rattle.channel.specs.declared.Change.the-variants.{Free}
 use Rattle.channel.specs.declared.Channel.{Channel}
 use Rattle.channel.specs.Channel.{channelOf, changedOf, changeEach, matchingEach}
 use Rattle.store.specs.declared.State.{State}
-use Rattle.store.specs.Store.{Item, writeItem, lockItem, waitItem, writeItems, items, structOf, tableOf, stateIn, Held}
+use Rattle.store.specs.Store.{writeItem, lockItem, waitItem, writeItems, items, tableOf, stateIn, Held}
 use Rattle.store.specs.Work.{Ready, Did}
 use Rattle.store.proofs.Table.{good-sub}
 use Rattle.store.proofs.Store.{held-parts, held-four, good-of}
 use Rattle.granting.specs.Granting.{idled, writesIn}
 use Rattle.granting.proofs.Laws.{held-changed, held-cleared}
 use Rattle.locks.specs.declared.Sifted.{Sifted}
-use Rattle.locks.specs.Locks.{lefts, ending, Locked, Sifting, Sieved, Sifts}
+use Rattle.locks.specs.Locks.{lefts, ending, Sifting, Sifts}
 use Rattle.locks.proofs.Laws.{lefts-freed, ending-freed, maps-small}
 use Rattle.answers.specs.declared.Request.{Request}
 use Rattle.answers.specs.declared.Answer.{Answer}

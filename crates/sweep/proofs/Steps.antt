@@ -1,26 +1,25 @@
 -- Commands put together: what the calls of a command ensure makes what the command promises. Assumes nothing.
-use Prim.Native.Nat.{ℕ, zero, suc, _+_, _*_, _≤_, _<_}
+use Prim.Native.Nat.{ℕ, _+_, _*_, _≤_, _<_}
 use mathlib.Core.Path.{_≡_, refl, ap, ap₂, sym, subst, _∙_}
-use mathlib.Core.Bool.{Bool, true, false}
+use mathlib.Core.Bool.{true, false}
 use mathlib.Core.List.{List, [], _∷_, _++_, map}
 use native.Mathlib.Omega.{arith}
 use lib.ListN.{length, length-append}
 use Rattle.memory.proofs.Splice.{splice-none}
 use Rattle.reply.specs.Replies.{sent}
 use Rattle.reply.proofs.Laws.{sent-append, length-sent}
-use Rattle.machine.specs.Numbers.{NOALLOCATION, quick}
+use Rattle.machine.specs.Numbers.{NOALLOCATION}
 use Rattle.machine.specs.Lists.{if_then_else_}
 use Rattle.machine.specs.State.{Channel as ChannelM, State as StateM, Reply, Answer as AnswerM, withChannels}
 use Rattle.machine.specs.Maps.{odd, half, change}
 use Rattle.machine.specs.Granting.{abortedIn}
 use Rattle.machine.specs.Commands.{matching, mismatch, done, finished, each, eachChange}
 use Rattle.machine.proofs.Tests.{if-elim}
-use Rattle.queue.specs.Queue.{queueOf}
 use Rattle.channel.specs.declared.Change.{Change}
 use Rattle.channel.specs.declared.Channel.{Channel}
-use Rattle.channel.specs.Channel.{channelOf, changedOf, meaning, changeEach, matchingEach}
+use Rattle.channel.specs.Channel.{changedOf, meaning, changeEach, matchingEach}
 use Rattle.store.specs.declared.State.{State}
-use Rattle.store.specs.Store.{Item, writeItem, writeItems, items, structOf, tableOf, stateIn, Held}
+use Rattle.store.specs.Store.{writeItem, writeItems, items, structOf, tableOf, stateIn, Held}
 use Rattle.store.specs.Work.{Ready, Did}
 use Rattle.granting.specs.Granting.{idled, writesIn}
 use Rattle.granting.proofs.Laws.{held-changed, held-cleared}

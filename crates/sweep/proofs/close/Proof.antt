@@ -1,6 +1,4 @@
 -- `close` meets its contract: of all four channels those with the key are freed, and one opening goes. Assumes nothing.
-use mathlib.Core.Path.{_≡_}
-use Prim.Native.Nat.{_≤_}
 use native.Mathlib.Omega.{arith}
 use Rattle.sweep.proofs.Matching.{match-small}
 use Rattle.sweep.proofs.Release.{close-ready, close-opens, told-close}

@@ -1,5 +1,6 @@
 -- `lock` meets its contract: all channels asked for match exactly where the map that matches is the one asked for. Assumes nothing.
 use mathlib.Core.Path.{_≡_}
+use native.Mathlib.Omega.{arith}
 use borrow.Author.Tests.{eq-eqb, ne-eqb}
 use Rattle.sweep.proofs.Locking.{told-refused, told-none, told-lock}
 use borrow.Author.Needs.{needs}
@@ -29,7 +30,10 @@ returns : tie.Need-returns
 returns c =
     let s = c .before .before .before .before .before .before .before .before .before .before .before in
     let p = s .pre in
-    told-refused (s .args .r) (p .0 .held) (p .1) (p .4) (c .before .before .before .before .before .before .before .matching .ensures) (p .0) (c .before .before .finished .ensures) (ne-eqb _ _ (c .before .before .before .before .before .if1 .taken)) (c .before .before .before .before .done .ensures)
+    let ok = c .before .before .before .before .before .before .before .matching .result in
+    let t = c .before .before .before .before .before .if1 .taken in
+    let n : ok ≡ s .args .r .map → ⊥ = λ e. omega (arith, t, e) in
+    told-refused (s .args .r) (p .0 .held) (p .1) (p .4) (c .before .before .before .before .before .before .before .matching .ensures) (p .0) (c .before .before .finished .ensures) (ne-eqb _ _ n) (c .before .before .before .before .done .ensures)
 
 done-requires-2 : tie.Need-done-requires-2
 done-requires-2 c κs = search needs
