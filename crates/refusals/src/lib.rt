@@ -101,10 +101,7 @@ fn verdict_open(s: State, combos: &[u8]) -> u8
 fn verdict_close(s: State) -> u8
     ensures { λ r. ⌜ r ≡ numberOf (first (closeTests (s .opens))) ⌝ }
 {
-    if s.opens == 0 {
-        return 2;
-    }
-    0
+    if s.opens == 0 { 2 } else { 0 }
 }
 
 fn verdict_abort(id: u8) -> u8
@@ -129,10 +126,12 @@ fn verdict_command(r: Request, s: State, combos: &[u8], table: &[u8]) -> u8
     if r.id >= State::REQUESTS {
         return 4;
     }
-    if outstanding(table, r.id) {
+    let taken = outstanding(table, r.id);
+    let closed = s.opens == 0;
+    if taken {
         return 3;
     }
-    if s.opens == 0 {
+    if closed {
         return 2;
     }
     if !known(r.command) {

@@ -17,15 +17,15 @@ outstanding-requires c κs = search needs
 
 returns-2 : tie.Need-returns-2
 returns-2 c =
-    let o = c .before in
+    let o = c .before .before in
     past _ _ _ (id-past (o .before .if1 .left)) (met _ _ _ (sym (o .outstanding .ensures) ∙ c .if2 .taken))
 
 returns-3 : tie.Need-returns-3
 returns-3 c =
-    let f = c .before .before in
-    let o = f .before in
+    let f = c .before in
+    let o = f .before .before in
     past _ _ _ (id-past (o .before .if1 .left))
-    (past _ _ _ (sym (o .outstanding .ensures) ∙ f .if2 .left) (met _ _ _ (eq-eqb _ _ (c .if3 .taken))))
+    (past _ _ _ (sym (o .outstanding .ensures) ∙ f .if2 .left) (met _ _ _ (c .if3 .taken)))
 
 known-requires : tie.Need-known-requires
 known-requires c κs = search needs
@@ -34,11 +34,11 @@ returns-4 : tie.Need-returns-4
 returns-4 c =
     let k = c .before in
     let g = k .before in
-    let f = g .before .before in
-    let o = f .before in
+    let f = g .before in
+    let o = f .before .before in
     past _ _ _ (id-past (o .before .if1 .left))
     (past _ _ _ (sym (o .outstanding .ensures) ∙ f .if2 .left)
-    (past _ _ _ (ne-eqb _ _ (g .if3 .left)) (met _ _ _ (unknown-met (k .known .ensures) (c .if4 .taken)))))
+    (past _ _ _ (g .if3 .left) (met _ _ _ (unknown-met (k .known .ensures) (c .if4 .taken)))))
 
 bad-list-requires : tie.Need-bad-list-requires
 bad-list-requires c κs = search needs
@@ -48,13 +48,13 @@ returns-5 c =
     let j = c .before .before .before in
     let k = j .before in
     let g = k .before in
-    let f = g .before .before in
-    let o = f .before in
+    let f = g .before in
+    let o = f .before .before in
     let n = o .before .before .before .before .before .args .r .command in
     let h : n < 256 = search needs in
     past _ _ _ (id-past (o .before .if1 .left))
     (past _ _ _ (sym (o .outstanding .ensures) ∙ f .if2 .left)
-    (past _ _ _ (ne-eqb _ _ (g .if3 .left))
+    (past _ _ _ (g .if3 .left)
     (past _ _ _ (unknown-past (k .known .ensures) (j .if4 .left))
     (c .bad-list .ensures ∙ sym (ap numberOf (reads-list _ _ _ _ (sym (allocates-32 n h) ∙ eq-eqb n 32 (c .before .if5 .taken))))))))
 
@@ -66,13 +66,13 @@ returns-6 c =
     let j = c .before .before .before in
     let k = j .before in
     let g = k .before in
-    let f = g .before .before in
-    let o = f .before in
+    let f = g .before in
+    let o = f .before .before in
     let n = o .before .before .before .before .before .args .r .command in
     let h : n < 256 = search needs in
     past _ _ _ (id-past (o .before .if1 .left))
     (past _ _ _ (sym (o .outstanding .ensures) ∙ f .if2 .left)
-    (past _ _ _ (ne-eqb _ _ (g .if3 .left))
+    (past _ _ _ (g .if3 .left)
     (past _ _ _ (unknown-past (k .known .ensures) (j .if4 .left))
     (c .bad-map .ensures ∙ sym (ap numberOf (reads-map _ _ _ _ (sym (allocates-32 n h) ∙ ne-eqb n 32 (c .before .if5 .left))))))))
 
