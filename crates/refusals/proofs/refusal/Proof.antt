@@ -1,5 +1,5 @@
--- `refusal` meets its contract: `sound` decides which of the two promises is asked, and each operation's verdict is the machine's.
--- Assumes nothing.
+-- `refusal` meets its contract: `sound` decides which promise is asked, and each verdict is the machine's. Assumes nothing.
+use Prim.Native.Nat.{_≤_, _<_}
 use borrow.Author.Tests.{not-true, not-false}
 use Rattle.store.proofs.Store.{held-length}
 use Rattle.refusals.proofs.Laws.{not-held, no-room, open-told, close-told, abort-told, event-told, command-told}
@@ -16,7 +16,8 @@ returns c = not-held (c .before .sound .ensures) (not-true _ (c .if1 .taken))
 returns-2 : tie.Need-returns-2
 returns-2 c =
     let g = c .before in
-    no-room (g .before .sound .ensures .only (not-false _ (g .if1 .left))) (c .if2 .taken)
+    let l : g .before .before .before .before .args .room < 384 = search needs in
+    no-room (g .before .sound .ensures .only (not-false _ (g .if1 .left))) l
 
 enum-told : tie.Need-enum-told
 enum-told c = search needs
@@ -52,33 +53,33 @@ verdict-command-requires c κs =
 
 returns-3 : tie.Need-returns-3
 returns-3 c =
-    let k = c .before .before .before in
-    let g = k .before in
-    rw (c .before .enum-told .given .1) (open-told (g .before .sound .ensures .only (not-false _ (g .if1 .left))) (k .if2 .left) (c .verdict-open .ensures))
+    let g = c .before .before .before .before in
+    let l : 384 ≤ g .before .before .before .before .args .room = search needs in
+    rw (c .before .enum-told .given .1) (open-told (g .before .sound .ensures .only (not-false _ (g .if1 .left))) l (c .verdict-open .ensures))
 
 returns-4 : tie.Need-returns-4
 returns-4 c =
-    let k = c .before .before .before in
-    let g = k .before in
-    rw (c .before .enum-told2 .given .1) (close-told (g .before .sound .ensures .only (not-false _ (g .if1 .left))) (k .if2 .left) (c .verdict-close .ensures))
+    let g = c .before .before .before .before in
+    let l : 384 ≤ g .before .before .before .before .args .room = search needs in
+    rw (c .before .enum-told2 .given .1) (close-told (g .before .sound .ensures .only (not-false _ (g .if1 .left))) l (c .verdict-close .ensures))
 
 returns-5 : tie.Need-returns-5
 returns-5 c =
-    let k = c .before .before .before in
-    let g = k .before in
-    rw (c .before .enum-told3 .given .1) (abort-told (g .before .sound .ensures .only (not-false _ (g .if1 .left))) (k .if2 .left) (c .verdict-abort .ensures))
+    let g = c .before .before .before .before in
+    let l : 384 ≤ g .before .before .before .before .args .room = search needs in
+    rw (c .before .enum-told3 .given .1) (abort-told (g .before .sound .ensures .only (not-false _ (g .if1 .left))) l (c .verdict-abort .ensures))
 
 returns-6 : tie.Need-returns-6
 returns-6 c =
-    let k = c .before .before .before in
-    let g = k .before in
-    rw (c .before .enum-told4 .given .1) (event-told (g .before .sound .ensures .only (not-false _ (g .if1 .left))) (k .if2 .left) (c .verdict-event .ensures))
+    let g = c .before .before .before .before in
+    let l : 384 ≤ g .before .before .before .before .args .room = search needs in
+    rw (c .before .enum-told4 .given .1) (event-told (g .before .sound .ensures .only (not-false _ (g .if1 .left))) l (c .verdict-event .ensures))
 
 returns-7 : tie.Need-returns-7
 returns-7 c =
-    let k = c .before .before .before in
-    let g = k .before in
-    rw (c .before .enum-told5 .given .1) (command-told (g .before .sound .ensures .only (not-false _ (g .if1 .left))) (k .if2 .left) (c .verdict-command .ensures))
+    let g = c .before .before .before .before in
+    let l : 384 ≤ g .before .before .before .before .args .room = search needs in
+    rw (c .before .enum-told5 .given .1) (command-told (g .before .sound .ensures .only (not-false _ (g .if1 .left))) l (c .verdict-command .ensures))
 
 pub refusal-spec : {M : Type 1} → statement M
 refusal-spec =
