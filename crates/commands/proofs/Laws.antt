@@ -11,9 +11,10 @@ use Rattle.machine.specs.Lists.{if_then_else_, all, keep, among, distinct}
 use Rattle.machine.specs.State.{Channel as ChannelM, Lock, Request as RequestM, State as StateM, Call, Outcome}
 use Rattle.machine.specs.Maps.{odd, half, minus}
 use Rattle.machine.specs.Granting.{aborted, abortedIn}
-use Rattle.machine.specs.Commands.{reset, same, setStop, flushed, setPrec, cleared, isEmpty, ended, freeingReplies, eachChange, doFree, doRead, doWrite, doLock}
+use Rattle.machine.specs.Commands.{reset, same, setStop, flushed, setPrec, cleared, isEmpty, ended, freeingReplies, finished, silent, each, eachChange, doFree, doRead, doWrite, doLock}
+use Rattle.machine.specs.Allocating.{doAllocate}
 use Rattle.machine.specs.Sound.{writesOf, ids}
-use Rattle.machine.specs.Kinds.{kind}
+use Rattle.machine.specs.Kinds.{Kind, RESET, READ, WRITE, UPDATE, CLEAR, STOP, START, FLUSH, FREE, SETPREC, LOCK, ALLOCATE, UNKNOWN, kind, allocates}
 use Rattle.machine.specs.Call.{perform}
 use Rattle.machine.proofs.Tests.{and-both}
 use Rattle.machine.proofs.Lists.{pigeon, keep-length}
@@ -23,7 +24,8 @@ use Rattle.store.specs.Store.{stateIn, Held}
 use Rattle.store.specs.Work.{Ready}
 use Rattle.store.proofs.Store.{held-parts}
 use Rattle.answers.specs.declared.Request.{Request}
-use Rattle.commands.specs.Commands.{Accepted, Among}
+use Rattle.answers.specs.Answers.{callOf}
+use Rattle.commands.specs.Commands.{Accepted, Asked, Among}
 
 -- ---- room: with its own id idle, at most 63 others can be replied
 
@@ -137,3 +139,91 @@ left-lock n (inl e) a b = absurd (a e)
 left-lock n (inr (inl e)) a b = absurd (b e)
 left-lock n (inr (inr (inl e))) a b = e
 left-lock n (inr (inr (inr e))) a b = absurd e
+
+-- ---- combinations: only ALLOCATE reads them
+
+pub listless : (k : Kind) (r : Request) (ms : List ℕ) (s : StateM) → T (not (allocates k)) → perform k (callOf r ms) s ≡ perform k (callOf r []) s
+unfolding perform allocates eachChange each doFree doRead doWrite doLock finished silent
+listless RESET r ms s t = refl
+listless READ r ms s t = refl
+listless WRITE r ms s t = refl
+listless UPDATE r ms s t = refl
+listless CLEAR r ms s t = refl
+listless STOP r ms s t = refl
+listless START r ms s t = refl
+listless FLUSH r ms s t = refl
+listless FREE r ms s t = refl
+listless SETPREC r ms s t = refl
+listless LOCK r ms s t = refl
+listless ALLOCATE r ms s t = absurd t
+listless UNKNOWN r ms s t = refl
+
+pub is-allocate : (c : Call) (s : StateM) (n : ℕ) → n ≡ 32 → perform (kind n) c s ≡ doAllocate c s
+unfolding perform kind
+is-allocate c s n e = ap (λ (k : ℕ). perform (kind k) c s) e
+
+no-list-of : (n m : ℕ) → n ≡ m → T (not (allocates (kind m))) → T (not (allocates (kind n)))
+no-list-of n m e t = subst (λ (k : ℕ). T (not (allocates (kind k)))) (sym e) t
+
+pub drops-no-list : (n : ℕ) → Among n (1 ∷ 8 ∷ 9 ∷ []) → T (not (allocates (kind n)))
+unfolding kind allocates
+drops-no-list n (inl e) = no-list-of n 1 e tt
+drops-no-list n (inr (inl e)) = no-list-of n 8 e tt
+drops-no-list n (inr (inr (inl e))) = no-list-of n 9 e tt
+drops-no-list n (inr (inr (inr e))) = absurd e
+
+pub marks-no-list : (n : ℕ) → Among n (4 ∷ 5 ∷ 6 ∷ 7 ∷ 10 ∷ []) → T (not (allocates (kind n)))
+unfolding kind allocates
+marks-no-list n (inl e) = no-list-of n 4 e tt
+marks-no-list n (inr (inl e)) = no-list-of n 5 e tt
+marks-no-list n (inr (inr (inl e))) = no-list-of n 6 e tt
+marks-no-list n (inr (inr (inr (inl e)))) = no-list-of n 7 e tt
+marks-no-list n (inr (inr (inr (inr (inl e))))) = no-list-of n 10 e tt
+marks-no-list n (inr (inr (inr (inr (inr e))))) = absurd e
+
+pub singles-no-list : (n : ℕ) → Among n (2 ∷ 3 ∷ 13 ∷ []) → T (not (allocates (kind n)))
+unfolding kind allocates
+singles-no-list n (inl e) = no-list-of n 2 e tt
+singles-no-list n (inr (inl e)) = no-list-of n 3 e tt
+singles-no-list n (inr (inr (inl e))) = no-list-of n 13 e tt
+singles-no-list n (inr (inr (inr e))) = absurd e
+
+-- ---- an accepted command that is not ALLOCATE
+
+pub on-map : {r : Request} {s : State} {ms tb l : List ℕ} → Asked r s ms tb l → (r .command ≡ 32 → ⊥) → Accepted r s tb l
+on-map a n = record { held = a .held; room = a .room; valid = a .valid; idle = a .idle; map = a .map n }
+
+pub ready-any : {r : Request} {s : State} {ms tb l : List ℕ} → Asked r s ms tb l → Ready s tb l 0 1
+ready-any a = record { held = a .held; room = a .room; fits = omega arith }
+
+-- ---- the family of a number
+
+pub low-single : (n : ℕ) → Among n (1 ∷ 2 ∷ 3 ∷ 4 ∷ 5 ∷ 6 ∷ 7 ∷ 8 ∷ 9 ∷ 10 ∷ 13 ∷ 32 ∷ []) → (n ≡ 1 → ⊥) → n < 4 → Among n (2 ∷ 3 ∷ 13 ∷ [])
+low-single n (inl e) a h = absurd (a e)
+low-single n (inr (inl e)) a h = inl e
+low-single n (inr (inr (inl e))) a h = inr (inl e)
+low-single n (inr (inr (inr (inl e)))) a h = absurd (omega arith)
+low-single n (inr (inr (inr (inr (inl e))))) a h = absurd (omega arith)
+low-single n (inr (inr (inr (inr (inr (inl e)))))) a h = absurd (omega arith)
+low-single n (inr (inr (inr (inr (inr (inr (inl e))))))) a h = absurd (omega arith)
+low-single n (inr (inr (inr (inr (inr (inr (inr (inl e)))))))) a h = absurd (omega arith)
+low-single n (inr (inr (inr (inr (inr (inr (inr (inr (inl e))))))))) a h = absurd (omega arith)
+low-single n (inr (inr (inr (inr (inr (inr (inr (inr (inr (inl e)))))))))) a h = absurd (omega arith)
+low-single n (inr (inr (inr (inr (inr (inr (inr (inr (inr (inr (inl e))))))))))) a h = absurd (omega arith)
+low-single n (inr (inr (inr (inr (inr (inr (inr (inr (inr (inr (inr (inl e)))))))))))) a h = absurd (omega arith)
+low-single n (inr (inr (inr (inr (inr (inr (inr (inr (inr (inr (inr (inr e)))))))))))) a h = absurd e
+
+pub left-marks : (n : ℕ) → Among n (1 ∷ 2 ∷ 3 ∷ 4 ∷ 5 ∷ 6 ∷ 7 ∷ 8 ∷ 9 ∷ 10 ∷ 13 ∷ 32 ∷ []) → (n ≡ 32 → ⊥) → (n ≡ 13 → ⊥) → (n ≡ 8 → ⊥) → (n ≡ 9 → ⊥) → 4 ≤ n → Among n (4 ∷ 5 ∷ 6 ∷ 7 ∷ 10 ∷ [])
+left-marks n (inl e) a b d f h = absurd (omega arith)
+left-marks n (inr (inl e)) a b d f h = absurd (omega arith)
+left-marks n (inr (inr (inl e))) a b d f h = absurd (omega arith)
+left-marks n (inr (inr (inr (inl e)))) a b d f h = inl e
+left-marks n (inr (inr (inr (inr (inl e))))) a b d f h = inr (inl e)
+left-marks n (inr (inr (inr (inr (inr (inl e)))))) a b d f h = inr (inr (inl e))
+left-marks n (inr (inr (inr (inr (inr (inr (inl e))))))) a b d f h = inr (inr (inr (inl e)))
+left-marks n (inr (inr (inr (inr (inr (inr (inr (inl e)))))))) a b d f h = absurd (d e)
+left-marks n (inr (inr (inr (inr (inr (inr (inr (inr (inl e))))))))) a b d f h = absurd (f e)
+left-marks n (inr (inr (inr (inr (inr (inr (inr (inr (inr (inl e)))))))))) a b d f h = inr (inr (inr (inr (inl e))))
+left-marks n (inr (inr (inr (inr (inr (inr (inr (inr (inr (inr (inl e))))))))))) a b d f h = absurd (b e)
+left-marks n (inr (inr (inr (inr (inr (inr (inr (inr (inr (inr (inr (inl e)))))))))))) a b d f h = absurd (a e)
+left-marks n (inr (inr (inr (inr (inr (inr (inr (inr (inr (inr (inr (inr e)))))))))))) a b d f h = absurd e

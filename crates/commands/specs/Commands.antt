@@ -3,6 +3,7 @@
 --
 --   Among n ns      n is one of the numbers ns
 --   Accepted ..     a sound state is held, the reply list is long enough, the id is valid and idle, the map is on the board
+--   Asked ..        the same of any command: the number is a command's, and ALLOCATE's combinations stand in for the map
 use Prim.Native.Nat.{ℕ, _≤_, _<_}
 use mathlib.Core.Path.{_≡_}
 use mathlib.Core.Bool.{not}
@@ -26,3 +27,12 @@ pub record Accepted (r : Request) (s : State) (tb l : List ℕ) : Type 0 where
   pub valid : r .id < 64
   pub idle : T (not (among (r .id) (ids (stateIn s tb))))
   pub map : r .map < 16
+
+pub record Asked (r : Request) (s : State) (ms tb l : List ℕ) : Type 0 where
+  pub held : Held s tb
+  pub room : 384 ≤ length l
+  pub valid : r .id < 64
+  pub idle : T (not (among (r .id) (ids (stateIn s tb))))
+  pub known : Among (r .command) (1 ∷ 2 ∷ 3 ∷ 4 ∷ 5 ∷ 6 ∷ 7 ∷ 8 ∷ 9 ∷ 10 ∷ 13 ∷ 32 ∷ [])
+  pub list : r .command ≡ 32 → length ms ≤ 16
+  pub map : (r .command ≡ 32 → ⊥) → r .map < 16

@@ -259,11 +259,11 @@ room-six len h = omega arith
 
 module _ {o : Op} {r : Request} {s : State} {ms tb : List ℕ} {len : ℕ} where
   pub not-held : {b : Bool} → Decides b (Held s tb) → b ≡ false → Refuses o r s ms tb len 1
-  not-held d e = record { unsound = λ _. refl; sound = λ h. absurd (let f = d .always h in let z : true ≡ false = cc in let y : _≡_ {A = ℕ} 0 1 = cc in omega arith) }
+  not-held d e = record { unsound = λ _. refl; held = λ n. absurd (n refl); sound = λ h. absurd (let f = d .always h in let z : true ≡ false = cc in let y : _≡_ {A = ℕ} 0 1 = cc in omega arith) }
 
   -- for a state that is held the machine's number is to be shown
   told : {e : ℕ} → Held s tb → e ≡ numberOf (refusal (opIn o (r .command)) (askedOf o r ms len) (stateIn s tb)) → Refuses o r s ms tb len e
-  told h q = record { unsound = λ n. absurd (n h); sound = λ _. q }
+  told h q = record { unsound = λ n. absurd (n h); held = λ _. h; sound = λ _. q }
 
   module _ (h : Held s tb) where
     pub no-room : len < 384 → Refuses o r s ms tb len 5

@@ -7,7 +7,7 @@
 --   high m                 a map that names more than the four channels
 --   used tb i              the entry of id i begins with a command
 --   openTests .. commandTests    the tests after 1 and 5, which every operation has, each with its number
---   Refuses .. e           what `refusal` promises: 1 where the state is not sound, else the machine's refusal
+--   Refuses .. e           what `refusal` promises: 1 where no sound state is held and only there, else the machine's refusal
 use Prim.Native.Nat.{ℕ, _/_}
 use mathlib.Core.Path.{_≡_}
 use mathlib.Core.Bool.{Bool, not, _&&_}
@@ -83,4 +83,5 @@ commandTests r ms tb opens =
 
 pub record Refuses (o : Op) (r : Request) (s : State) (ms tb : List ℕ) (len e : ℕ) : Type 0 where
   pub unsound : (Held s tb → ⊥) → e ≡ UNSOUND
+  pub held : (e ≡ UNSOUND → ⊥) → Held s tb
   pub sound : Held s tb → e ≡ numberOf (refusal (opIn o (r .command)) (askedOf o r ms len) (stateIn s tb))
