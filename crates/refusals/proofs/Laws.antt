@@ -22,7 +22,6 @@ use Rattle.machine.proofs.Tests.{by-test, test-true, test-false, and-left, and-
 use Rattle.store.specs.declared.State.{State}
 use Rattle.store.specs.Store.{Item, writeItem, lockItem, waitItem, writeItems, items, lookup, keys, Each, stateIn, Held}
 use Rattle.store.proofs.Store.{keys-items, parts-long, block-tableOf, held-parts, held-four}
-use Rattle.sound.specs.Sound.{Decides}
 use Rattle.answers.specs.declared.Request.{Request}
 use Rattle.refusals.specs.declared.Op.{Op}
 use Rattle.refusals.specs.declared.Op.the-variants.{Open, Close, Abort, Event, Command}
@@ -257,32 +256,24 @@ module _ (c : Call) (s : StateM) (ok : T (sound s)) where
 room-six : (len : ℕ) → 384 ≤ len → 64 ≤ len / 6
 room-six len h = omega arith
 
-module _ {o : Op} {r : Request} {s : State} {ms tb : List ℕ} {len : ℕ} where
-  pub not-held : {b : Bool} → Decides b (Held s tb) → b ≡ false → Refuses o r s ms tb len 1
-  not-held d e = record { unsound = λ _. refl; held = λ n. absurd (n refl); sound = λ h. absurd (let f = d .always h in let z : true ≡ false = cc in let y : _≡_ {A = ℕ} 0 1 = cc in omega arith) }
-
-  -- for a state that is held the machine's number is to be shown
-  told : {e : ℕ} → Held s tb → e ≡ numberOf (refusal (opIn o (r .command)) (askedOf o r ms len) (stateIn s tb)) → Refuses o r s ms tb len e
-  told h q = record { unsound = λ n. absurd (n h); held = λ _. h; sound = λ _. q }
-
-  module _ (h : Held s tb) where
-    pub no-room : len < 384 → Refuses o r s ms tb len 5
-    no-room l = told h (sym (ap numberOf (short-list (askedOf o r ms len) (stateIn s tb) (h .sane) (opIn o (r .command)) (omega arith))))
+module _ {o : Op} {r : Request} {s : State} {ms tb : List ℕ} {len : ℕ} (h : Held s tb) where
+  pub no-room : len < 384 → Refuses o r s ms tb len 5
+  no-room l = record { number = sym (ap numberOf (short-list (askedOf o r ms len) (stateIn s tb) (h .sane) (opIn o (r .command)) (omega arith))) }
 
 module _ {r : Request} {s : State} {ms tb : List ℕ} {len : ℕ} (h : Held s tb) (l : 384 ≤ len) {e : ℕ} where
   pub open-told : e ≡ numberOf (first (openTests ms (s .opens))) → Refuses Open r s ms tb len e
-  open-told q = told h (q ∙ sym (ap numberOf (open-left (askedOf Open r ms len) (stateIn s tb) (h .sane) (room-six len l) (held-four h))))
+  open-told q = record { number = q ∙ sym (ap numberOf (open-left (askedOf Open r ms len) (stateIn s tb) (h .sane) (room-six len l) (held-four h))) }
 
   pub close-told : e ≡ numberOf (first (closeTests (s .opens))) → Refuses Close r s ms tb len e
-  close-told q = told h (q ∙ sym (ap numberOf (close-left (askedOf Close r ms len) (stateIn s tb) (h .sane) (room-six len l))))
+  close-told q = record { number = q ∙ sym (ap numberOf (close-left (askedOf Close r ms len) (stateIn s tb) (h .sane) (room-six len l))) }
 
   pub abort-told : e ≡ numberOf (first (abortTests (r .id))) → Refuses Abort r s ms tb len e
-  abort-told q = told h (q ∙ sym (ap numberOf (abort-left (askedOf Abort r ms len) (stateIn s tb) (h .sane) (room-six len l))))
+  abort-told q = record { number = q ∙ sym (ap numberOf (abort-left (askedOf Abort r ms len) (stateIn s tb) (h .sane) (room-six len l))) }
 
   pub event-told : e ≡ numberOf (first (eventTests (r .map))) → Refuses Event r s ms tb len e
-  event-told q = told h (q ∙ sym (ap numberOf (event-left (askedOf Event r ms len) (stateIn s tb) (h .sane) (room-six len l) (held-four h))))
+  event-told q = record { number = q ∙ sym (ap numberOf (event-left (askedOf Event r ms len) (stateIn s tb) (h .sane) (room-six len l) (held-four h))) }
 
-  pub command-told : e ≡ numberOf (first (commandTests r ms tb (s .opens))) → Refuses Command r s ms tb len e
+  pub command-told : e ≡ numberOf (first (commandTests r ms tb (s .opens)))
+      → Refuses Command r s ms tb len e
   command-told q =
-      told h
-      (q ∙ sym (ap numberOf (command-left (askedOf Command r ms len) (stateIn s tb) (h .sane) (room-six len l) (held-four h) (r .command) (used tb (r .id)) (used-among h (r .id)))))
+      record { number = q ∙ sym (ap numberOf (command-left (askedOf Command r ms len) (stateIn s tb) (h .sane) (room-six len l) (held-four h) (r .command) (used tb (r .id)) (used-among h (r .id)))) }

@@ -7,7 +7,7 @@
 --   high m                 a map that names more than the four channels
 --   used tb i              the entry of id i begins with a command
 --   openTests .. commandTests    the tests after 1 and 5, which every operation has, each with its number
---   Refuses .. e           what `refusal` promises: 1 where no sound state is held and only there, else the machine's refusal
+--   Refuses .. e           what `refusal` promises of a sound state: the number of the machine's refusal
 use Prim.Native.Nat.{ℕ, _/_}
 use mathlib.Core.Path.{_≡_}
 use mathlib.Core.Bool.{Bool, not, _&&_}
@@ -15,13 +15,13 @@ use mathlib.Core.List.{List, [], _∷_}
 use lib.Dec.{eqb, leb, ltb}
 use lib.ListN.{length, getD}
 use Rattle.memory.specs.Splice.{block}
-use Rattle.machine.specs.Numbers.{OPENFAIL, NOCMD, BADLENGTH, BADADDRESS, UNSOUND, NOTOPEN, INUSE, BADID, COMBOS}
+use Rattle.machine.specs.Numbers.{OPENFAIL, NOCMD, BADLENGTH, BADADDRESS, NOTOPEN, INUSE, BADID, COMBOS}
 use Rattle.machine.specs.Lists.{if_then_else_, any}
 use Rattle.machine.specs.State.{Call, Op as OpM, OPEN, CLOSE, ABORT, EVENT, COMMAND}
 use Rattle.machine.specs.Kinds.{kind, unknown, allocates}
 use Rattle.machine.specs.Refusals.{Refusal, accepted, refused, refusal}
 use Rattle.store.specs.declared.State.{State}
-use Rattle.store.specs.Store.{stateIn, Held}
+use Rattle.store.specs.Store.{stateIn}
 use Rattle.answers.specs.declared.Request.{Request}
 use Rattle.refusals.specs.declared.Op.{Op}
 use Rattle.refusals.specs.declared.Op.the-variants.{Open, Close, Abort, Event, Command}
@@ -82,6 +82,4 @@ commandTests r ms tb opens =
     ∷ []
 
 pub record Refuses (o : Op) (r : Request) (s : State) (ms tb : List ℕ) (len e : ℕ) : Type 0 where
-  pub unsound : (Held s tb → ⊥) → e ≡ UNSOUND
-  pub held : (e ≡ UNSOUND → ⊥) → Held s tb
-  pub sound : Held s tb → e ≡ numberOf (refusal (opIn o (r .command)) (askedOf o r ms len) (stateIn s tb))
+  pub number : e ≡ numberOf (refusal (opIn o (r .command)) (askedOf o r ms len) (stateIn s tb))

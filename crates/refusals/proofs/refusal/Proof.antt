@@ -1,23 +1,13 @@
--- `refusal` meets its contract: `sound` decides which promise is asked, and each verdict is the machine's. Assumes nothing.
+-- `refusal` meets its contract: each verdict is the machine's. Assumes nothing.
 use Prim.Native.Nat.{_≤_, _<_}
-use borrow.Author.Tests.{not-true, not-false}
 use Rattle.store.proofs.Store.{held-length}
-use Rattle.refusals.proofs.Laws.{not-held, no-room, open-told, close-told, abort-told, event-told, command-told}
+use Rattle.refusals.proofs.Laws.{no-room, open-told, close-told, abort-told, event-told, command-told}
 use borrow.Author.Needs.{needs}
 use Rattle.refusals.proofs.refusal.Statement.{statement}
 use Rattle.refusals.proofs.refusal.Tie as tie
 
-sound-requires : tie.Need-sound-requires
-sound-requires c κs = search needs
-
 returns : tie.Need-returns
-returns c = not-held (c .before .sound .ensures) (not-true _ (c .if1 .taken))
-
-returns-2 : tie.Need-returns-2
-returns-2 c =
-    let g = c .before in
-    let l : g .before .before .before .before .args .room < 384 = search needs in
-    no-room (g .before .sound .ensures .only (not-false _ (g .if1 .left))) l
+returns c = let s = c .before .before .before in let l : s .args .room < 384 = search needs in no-room (s .pre) l
 
 enum-told : tie.Need-enum-told
 enum-told c = search needs
@@ -47,47 +37,28 @@ enum-told-5 : tie.Need-enum-told-5
 enum-told-5 c = search needs
 
 verdict-command-requires : tie.Need-verdict-command-requires
-verdict-command-requires c κs =
-    let g = c .before .before .before in
-    held-length (g .before .sound .ensures .only (not-false _ (g .if1 .left)))
+verdict-command-requires c κs = held-length (c .before .before .before .before .before .pre)
+
+returns-2 : tie.Need-returns-2
+returns-2 c = let s = c .before .before .before .before .before .before in let l : 384 ≤ s .args .room = search needs in rw (c .before .enum-told .given .1) (open-told (s .pre) l (c .verdict-open .ensures))
 
 returns-3 : tie.Need-returns-3
-returns-3 c =
-    let g = c .before .before .before .before in
-    let l : 384 ≤ g .before .before .before .before .args .room = search needs in
-    rw (c .before .enum-told .given .1) (open-told (g .before .sound .ensures .only (not-false _ (g .if1 .left))) l (c .verdict-open .ensures))
+returns-3 c = let s = c .before .before .before .before .before .before in let l : 384 ≤ s .args .room = search needs in rw (c .before .enum-told2 .given .1) (close-told (s .pre) l (c .verdict-close .ensures))
 
 returns-4 : tie.Need-returns-4
-returns-4 c =
-    let g = c .before .before .before .before in
-    let l : 384 ≤ g .before .before .before .before .args .room = search needs in
-    rw (c .before .enum-told2 .given .1) (close-told (g .before .sound .ensures .only (not-false _ (g .if1 .left))) l (c .verdict-close .ensures))
+returns-4 c = let s = c .before .before .before .before .before .before in let l : 384 ≤ s .args .room = search needs in rw (c .before .enum-told3 .given .1) (abort-told (s .pre) l (c .verdict-abort .ensures))
 
 returns-5 : tie.Need-returns-5
-returns-5 c =
-    let g = c .before .before .before .before in
-    let l : 384 ≤ g .before .before .before .before .args .room = search needs in
-    rw (c .before .enum-told3 .given .1) (abort-told (g .before .sound .ensures .only (not-false _ (g .if1 .left))) l (c .verdict-abort .ensures))
+returns-5 c = let s = c .before .before .before .before .before .before in let l : 384 ≤ s .args .room = search needs in rw (c .before .enum-told4 .given .1) (event-told (s .pre) l (c .verdict-event .ensures))
 
 returns-6 : tie.Need-returns-6
-returns-6 c =
-    let g = c .before .before .before .before in
-    let l : 384 ≤ g .before .before .before .before .args .room = search needs in
-    rw (c .before .enum-told4 .given .1) (event-told (g .before .sound .ensures .only (not-false _ (g .if1 .left))) l (c .verdict-event .ensures))
-
-returns-7 : tie.Need-returns-7
-returns-7 c =
-    let g = c .before .before .before .before in
-    let l : 384 ≤ g .before .before .before .before .args .room = search needs in
-    rw (c .before .enum-told5 .given .1) (command-told (g .before .sound .ensures .only (not-false _ (g .if1 .left))) l (c .verdict-command .ensures))
+returns-6 c = let s = c .before .before .before .before .before .before in let l : 384 ≤ s .args .room = search needs in rw (c .before .enum-told5 .given .1) (command-told (s .pre) l (c .verdict-command .ensures))
 
 pub refusal-spec : {M : Type 1} → statement M
 refusal-spec =
     tie.close
     (tie.spec
-    sound-requires
     returns
-    returns-2
     enum-told
     verdict-open-requires
     enum-told-2
@@ -98,8 +69,8 @@ refusal-spec =
     verdict-event-requires
     enum-told-5
     verdict-command-requires
+    returns-2
     returns-3
     returns-4
     returns-5
-    returns-6
-    returns-7)
+    returns-6)
