@@ -1,6 +1,8 @@
-// Replies and answers as lines of upper-case hexadecimal, two digits a byte, each line ended by LF.
+// Replies, answers and channels as lines of upper-case hexadecimal, two digits a byte, each line ended by LF.
 // A line is written at its place and nowhere else. Assumes nothing.
 use answers::Answer;
+use channel::Channel;
+use store::State;
 ghost use mathlib.Core.Path.{_≡_};
 ghost use mathlib.Core.List.{[], _∷_};
 ghost use Prim.Native.Nat.{_+_, _*_, _≤_, _<_, _/_, _%_};
@@ -10,6 +12,7 @@ ghost use Rattle.machine.specs.Log.{hexDigit, line, answerLine};
 ghost use Rattle.machine.specs.Lists.{if_then_else_};
 ghost use Rattle.answers.specs.Answers.{answerIn};
 ghost use Rattle.lines.specs.Lines.{digits, recordLine, Tells};
+ghost use Rattle.lines.specs.ChannelLines.{marksOf, channelLine, channelLines};
 
 fn digit(n: u8) -> u8
     requires { ⌜ n < 16 ⌝ }
@@ -107,4 +110,62 @@ pub fn tell(replies: &[u8; 384], n: usize, a: Answer, out: &mut [u8; 973]) -> us
     ensures { λ r. ⌜ Tells (now (replies .entry)) n a (now (out .entry)) r (now (out .exit)) ⌝ }
 {
     put_all(out, replies, n, a)
+}
+
+// 1 locked, 2 stopped.
+fn marks(locked: bool, stopped: bool) -> u8
+    ensures { λ r. ⌜ r ≡ marksOf locked stopped ⌝ }
+{
+    if locked {
+        if stopped { 3 } else { 1 }
+    } else {
+        if stopped { 2 } else { 0 }
+    }
+}
+
+// A stored precedence as two's complement.
+fn signed(prec: u8) -> u8
+    ensures { λ r. ⌜ r ≡ (prec + 128) % 256 ⌝ }
+{
+    ((prec as u16 + 128) % 256) as u8
+}
+
+// The line of channel i.
+fn put_channel(out: &mut [u8], i: usize, c: Channel)
+    requires { ⌜ (i < 4) × (i * 15 + 15 ≤ length (now out)) ⌝ }
+    ensures { λ _. ⌜ now (out .exit) ≡ splice (now (out .entry)) (i * 15) (channelLine i c) ⌝ }
+{
+    let prec = signed(c.prec);
+    let m = marks(c.locked, c.stopped);
+    put_seven(
+        out,
+        i * 15,
+        0xB0,
+        i as u8,
+        (c.key / 256) as u8,
+        (c.key % 256) as u8,
+        prec,
+        m,
+        c.writes.n,
+    );
+}
+
+fn put_channels(out: &mut [u8], cs: [Channel; 4])
+    requires { ⌜ length (now out) ≡ 60 ⌝ }
+    ensures { λ _. ⌜ now (out .exit) ≡ channelLines 0 cs ⌝ }
+{
+    let mut i: usize = 0;
+    while i < 4 {
+        let c = cs[i];
+        put_channel(out, i, c);
+        i += 1;
+    }
+}
+
+// The lines of the four channels.
+pub fn channels(s: State, out: &mut [u8; 60])
+    ensures { λ _. ⌜ now (out .exit) ≡ channelLines 0 (s .channels) ⌝ }
+{
+    let cs = s.channels;
+    put_channels(out, cs);
 }
