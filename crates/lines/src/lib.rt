@@ -80,14 +80,10 @@ fn put_answer(out: &mut [u8], at: usize, a: Answer)
     ensures { λ _. ⌜ now (out .exit) ≡ splice (now (out .entry)) at (answerLine (answerIn a)) ⌝ }
 {
     let first = kind(a.outstanding);
+    let high = (a.key / 256) as u8;
+    let low = (a.key % 256) as u8;
     put_three(out, at, first, a.error, a.map);
-    put_three(
-        out,
-        at + 6,
-        (a.key / 256) as u8,
-        (a.key % 256) as u8,
-        a.extra,
-    );
+    put_three(out, at + 6, high, low, a.extra);
     out[at + 12] = 10;
 }
 
@@ -135,26 +131,18 @@ fn put_channel(out: &mut [u8], i: usize, c: Channel)
     requires { ⌜ (i < 4) × (i * 15 + 15 ≤ length (now out)) ⌝ }
     ensures { λ _. ⌜ now (out .exit) ≡ splice (now (out .entry)) (i * 15) (channelLine i c) ⌝ }
 {
+    let high = (c.key / 256) as u8;
+    let low = (c.key % 256) as u8;
     let prec = signed(c.prec);
     let m = marks(c.locked, c.stopped);
-    put_seven(
-        out,
-        i * 15,
-        0xB0,
-        i as u8,
-        (c.key / 256) as u8,
-        (c.key % 256) as u8,
-        prec,
-        m,
-        c.writes.n,
-    );
+    put_seven(out, i * 15, 0xB0, i as u8, high, low, prec, m, c.writes.n);
 }
 
 fn put_channels(out: &mut [u8], cs: [Channel; 4])
     requires { ⌜ length (now out) ≡ 60 ⌝ }
     ensures { λ _. ⌜ now (out .exit) ≡ channelLines 0 cs ⌝ }
 {
-    let mut i: usize = 0;
+    let mut i = 0;
     while i < 4 {
         let c = cs[i];
         put_channel(out, i, c);

@@ -19,17 +19,17 @@ use Rattle.lines.proofs.put_three.Reads as put-three-reads
 kind-requires : tie.Need-kind-requires
 kind-requires c κs = search needs
 
+cast-high : tie.Need-cast-high
+cast-high c = search needs
+
+cast-low : tie.Need-cast-low
+cast-low c = search needs
+
 put-three-requires : tie.Need-put-three-requires
 put-three-requires c κs = search needs
 
 add-put-three : tie.Need-add-put-three
 add-put-three c = search needs
-
-cast-put-three : tie.Need-cast-put-three
-cast-put-three c = search needs
-
-cast-put-three-2 : tie.Need-cast-put-three-2
-cast-put-three-2 c = search needs
 
 put-three-requires-2 : tie.Need-put-three-requires-2
 put-three-requires-2 c κs = search needs
@@ -46,8 +46,8 @@ same-length c = simp length-set (omega arith)
 returns : tie.Need-returns
 unfolding line answerLine
 returns c =
-    let p = c .before .before .before .before .before .before .before .before in
-    let k = p .before .before in
+    let p = c .before .before .before .before .before .before in
+    let k = p .before .before .before .before in
     let a = k .before .before .args in
     let first : ℕ = if a .a .outstanding then 0xA1 else 0xA0 in
     let us = digits (first ∷ a .a .error ∷ a .a .map ∷ []) in
@@ -60,10 +60,10 @@ put-answer-spec =
     tie.close
     (tie.spec
     kind-requires
+    cast-high
+    cast-low
     put-three-requires
     add-put-three
-    cast-put-three
-    cast-put-three-2
     put-three-requires-2
     add-out
     slice-write-out
