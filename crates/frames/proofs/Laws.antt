@@ -1,22 +1,22 @@
--- What a line's digits spell, which lines are frames, and what the first LF parts. Assumes nothing.
+-- What a line's digits spell, which lines are frames, and what an answer of `read` says of the line. Assumes nothing.
 use Prim.Native.Nat.{ℕ, zero, suc, _+_, _-_, _*_, _/_, _%_, _≤_, _<_}
 use mathlib.Core.Path.{_≡_, refl, ap, sym, _∙_}
-use mathlib.Core.Bool.{Bool, true, false, not, _&&_}
+use mathlib.Core.Bool.{Bool, true, false, _&&_}
 use mathlib.Core.List.{List, [], _∷_, _++_}
 use mathlib.Core.Option.{Option, none, some}
 use native.Mathlib.Numerals.{add-one}
 use native.Mathlib.Nat.{zero-add}
 use native.Mathlib.Omega.{arith}
 use native.Mathlib.Decide.{decLt}
-use borrow.Author.Tests.{eqb-true, eqb-false, ltb-false, leb-true, le-leb, lt-leb, eq-eqb, ne-eqb}
-use lib.Dec.{T, eqb, leb, ltb, leb→le}
-use lib.ListN.{length, getD, take, drop, set, drop-of-length-le, length-drop, length-take}
+use borrow.Author.Tests.{eqb-true, eqb-false, le-leb, lt-leb, eq-eqb, ne-eqb}
+use lib.Dec.{eqb, leb, leb→le}
+use lib.ListN.{length, getD, take, drop, set, drop-of-length-le, length-drop}
 use lib.Seq.{drop-cons, take-all, take-at, getD-drop, length-take-le}
 use Rattle.memory.specs.Splice.{splice}
 use Rattle.memory.proofs.Splice.{copy-turn, length-part}
 use Rattle.machine.specs.Lists.{if_then_else_, all}
-use Rattle.machine.specs.State.{Call as CallM, Op as OpM, OPEN, CLOSE, ABORT, EVENT, COMMAND}
-use Rattle.machine.specs.Log.{LF, digit, joined, unhex, opOf, callOf, frame, opened, lines}
+use Rattle.machine.specs.State.{Call as CallM}
+use Rattle.machine.specs.Log.{digit, joined, unhex, opOf, callOf, frame}
 use Rattle.machine.proofs.Tests.{by-test, test-true, test-false, if-elim, and-right}
 use Rattle.answers.specs.declared.Request.{Request}
 use Rattle.refusals.specs.declared.Op.{Op}
@@ -25,8 +25,7 @@ use Rattle.refusals.specs.Refusals.{opIn, askedOf}
 use Rattle.frames.specs.declared.Frame.{Frame}
 use Rattle.frames.specs.declared.Line.{Line}
 use Rattle.frames.specs.declared.Line.the-variants.{Call, Malformed}
-use Rattle.frames.specs.declared.Gathered.{Gathered}
-use Rattle.frames.specs.Frames.{opFor, requestOf, frameOf, heard, lineOf, combosAfter, Reads, hasOne, valueOf, isDigit, spells, pairs, front, ended, used, LINE, kept, gatheredOf, Gathers}
+use Rattle.frames.specs.Frames.{opFor, requestOf, frameOf, lineOf, combosAfter, Reads, hasOne, valueOf, isDigit, spells, pairs}
 
 -- ---- digit
 

@@ -1,14 +1,8 @@
 -- `request_of` meets its contract: each number is made of its own bytes. Assumes nothing.
-use native.Mathlib.Omega.{arith}
 use Rattle.frames.proofs.Laws.{request-is}
 use borrow.Author.Needs.{needs}
 use Rattle.frames.proofs.request_of.Statement.{statement}
 use Rattle.frames.proofs.request_of.Tie as tie
-use Rattle.frames.proofs.request_of.Reads as reads
-use Rattle.frames.proofs.request_of.Lts as lts
-use Rattle.frames.proofs.byte_at.Reads as byte-at-reads
-use Rattle.frames.proofs.key_of.Reads as key-of-reads
-use Rattle.frames.proofs.prec_of.Reads as prec-of-reads
 
 byte-at-requires : tie.Need-byte-at-requires
 byte-at-requires c κs = search needs
