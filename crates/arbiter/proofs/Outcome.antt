@@ -26,7 +26,7 @@ use Rattle.answers.specs.declared.Outcome.{Outcome}
 use Rattle.answers.specs.Answers.{Told}
 use Rattle.refusals.specs.declared.Op.{Op}
 use Rattle.refusals.specs.Refusals.{askedOf}
-use Rattle.arbiter.specs.Arbiter.{Unmoved, Called}
+use Rattle.arbiter.specs.Arbiter.{Unmoved, Handled, Called}
 use Rattle.arbiter.proofs.Laws.{false-true}
 
 -- the same answer, struct, count, table and list
@@ -82,11 +82,15 @@ module _ {o : Op} {r : Request} {s : State} {ms tb l : List ℕ} where
           (g .did .struct ∙ ap structOf e ∙ sym (h .struct), g .did .table ∙ ap tableOf e ∙ sym (h .table))
 
 -- a sound state is followed by a sound state: the one that the machine names
-pub held-after : (o : Op) (r : Request) (ms l : List ℕ) {s : State} {tb : List ℕ} {d : Outcome} {tb₁ l₁ : List ℕ} → Held s tb → (r .prec ≤ 255) × (r .key ≤ 65535)
-    → Told (call (stateIn s tb) (askedOf o r ms (length l))) l d tb₁ l₁
+pub held-after : (o : Op) (r : Request) (ms l : List ℕ) {s : State} {tb : List ℕ} {d : Outcome} {tb₁ l₁ : List ℕ} → Held s tb
+    → (r .prec ≤ 255) × (r .key ≤ 65535) → Told (call (stateIn s tb) (askedOf o r ms (length l))) l d tb₁ l₁
     → Held (d .state) tb₁ × (stateIn (d .state) tb₁ ≡ call (stateIn s tb) (askedOf o r ms (length l)) .next)
 unfolding inRange
 held-after o r ms l {s} {tb} {d} {tb₁} h g t =
     let c = askedOf o r ms (length l) in
     let p = call-sound (stateIn s tb) c (and-both (leb (r .prec) 255) (leb (r .key) 65535) (le→leb (r .prec) 255 (g .0)) (le→leb (r .key) 65535 (g .1))) (h .sane) in
     held-next (call (stateIn s tb) c .next) (d .state) tb₁ (parts _ p) (call-wide (stateIn s tb) c ∙ held-four h) (t .did .struct) (t .did .table)
+
+pub handled : (o : Op) (r : Request) (ms l : List ℕ) {s : State} {tb : List ℕ} {d : Outcome} {tb₁ l₁ : List ℕ} → Held s tb
+    → (r .prec ≤ 255) × (r .key ≤ 65535) → Told (call (stateIn s tb) (askedOf o r ms (length l))) l d tb₁ l₁ → Handled o r s ms tb l d tb₁ l₁
+handled o r ms l h g t = let k = held-after o r ms l h g t in record { told = t; kept = k .0; next = k .1 }

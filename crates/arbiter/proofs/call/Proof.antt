@@ -28,7 +28,7 @@ same-length-3 : tie.Need-same-length-3
 same-length-3 c = search needs
 
 returns-2 : tie.Need-returns-2
-returns-2 c = let h = c .before .before .before .before in let e = h .before .before .before in sound-called (e .before .sound .ensures .only (not-false _ (e .if1 .left))) (h .handle .ensures)
+returns-2 c = let h = c .before .before .before .before in let e = h .before .before .before in sound-called (e .before .sound .ensures .only (not-false _ (e .if1 .left))) (h .handle .ensures .told)
 
 pub call-spec : {M : Type 1} → statement M
 call-spec =
