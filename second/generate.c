@@ -33,7 +33,7 @@ struct Style {
 
 enum {
     MIX, LOCKS, NOWAIT, QUEUES, FULL, ABORTS, PRECEDENCES, REFUSALS, MALFORMED, LISTS,
-    BYTES, OPENS, KEYS, STYLES
+    BYTES, OPENS, KEYS, MANY_LOCKS, MANY_STEALS, MANY_ENTRIES, MANY_WAITING, STYLES
 };
 #define SHORT_STYLES OPENS      /* 1 to 10 take part in the mix */
 #define LONG_STRETCH 67500ul    /* lines in which the count or the keys reach their end */
@@ -53,7 +53,12 @@ static const struct Style styles[STYLES] = {
     {"lists",       {14,8, 3, 2, 1, 1, 6, 0, 0, 1, 1, 1,12, 6, 8,46, 0}, 40,12, 60,  1, 40},
     {"bytes",       {1, 1, 1, 1, 1, 1, 1, 1, 1, 1, 1, 1, 1, 1, 1, 1, 1}, 50,30, 20,  5, 50},
     {"opens",       {8,10, 4, 4, 2, 2, 8, 1, 1, 2, 2, 2, 8, 8, 6,20, 1}, 40, 3, 10,  1, 40},
-    {"keys",        {9, 6, 2, 2, 1, 1, 4, 1, 1, 1, 1, 1, 4, 6, 4,40, 1}, 20, 2, 10,  1, 40}
+    {"keys",        {9, 6, 2, 2, 1, 1, 4, 1, 1, 1, 1, 1, 4, 6, 4,40, 1}, 20, 2, 10,  1, 40},
+    /* One kind of work each, for measuring: good frames, and hardly a refusal. */
+    {"many-locks",  {1, 0, 2, 1, 1, 2, 4, 2, 2, 2, 2, 1, 4, 8,60, 3, 0}, 90, 0,  5,  0, 50},
+    {"many-steals", {1, 0, 1, 1, 0, 1,30, 0, 0, 1, 1, 0, 1,36, 0,36, 0},100, 0,  5,  0, 50},
+    {"many-entries",{6, 4, 3, 1, 1, 1, 4, 1, 1, 1, 1, 1, 9, 9, 2,55, 0}, 60, 0,100,  0, 40},
+    {"many-waiting",{1, 0, 4, 4, 1, 8, 8, 4, 4, 4, 4, 2, 0, 1, 0,55, 0},  0, 0,  5,  0, 56}
 };
 
 /* ---- The device as it stands ---- */
@@ -292,13 +297,21 @@ static void make_frame(struct Frame *f, enum Kind kind, const struct Style *s)
         /* Raised above the waiting requests, so that held ones fail. */
         if (s == &styles[NOWAIT] && percent(60))
             f->precedence = (int8_t)(2 + below(4));
+        /* Lowered, so that the next request steals. */
+        if (s == &styles[MANY_STEALS])
+            f->precedence = (int8_t)((int)below(20) - 128);
         break;
     case ALLOCATE:
         if (percent(50))
             f->key = 0;
-        else if (percent(s >= &styles[OPENS] ? 80 : 10))
+        else if (percent(s == &styles[OPENS] || s == &styles[KEYS] ? 80 : 10))
             f->key = (uint16_t)next_key();
         pick_list(f, s);
+        if (s == &styles[MANY_STEALS])
+            f->precedence = (int8_t)(108 + below(20));
+        /* The first holders stay above all who come after them. */
+        if (s == &styles[MANY_WAITING])
+            f->precedence = (int8_t)(count_outstanding() < 4 ? 127 : (int)below(60) - 100);
         break;
     case UNKNOWN:
         f->operation = (uint8_t)pick_unknown();
@@ -340,7 +353,7 @@ static enum Kind pick_kind(unsigned style)
     if (count_outstanding() > s->drain && percent(50)) {
         static const enum Kind drains[6] = {ABORT, EVENT, FLUSH, FREE, CLOSE, RESET};
 
-        return drains[below(6)];
+        return style == MANY_WAITING ? ABORT : drains[below(6)];
     }
     for (unsigned i = 0; i < KINDS; i++)
         sum += s->weight[i];
@@ -358,7 +371,7 @@ static int climb(struct Frame *f, unsigned style)
     int near = state.last_key < NEAR_THE_END
             || state.last_key > LAST_OF_KEYS - NEAR_THE_END;
 
-    if (style < OPENS || (style == OPENS && state.open_count == MOST_OPENS)
+    if (style < OPENS || style > KEYS || (style == OPENS && state.open_count == MOST_OPENS)
         || !percent(near ? 30 : 99))
         return 0;
     memset(f, 0, sizeof *f);

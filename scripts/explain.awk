@@ -1,0 +1,254 @@
+# Reads a log, and beside it the file 'output', what the program wrote for it with the argument 'channels'; writes the
+# same in words. ./explain runs it. POSIX awk.
+
+BEGIN {
+    width = 98          # columns of a line, where words can be broken so
+    margin = 23         # where the words of a call and of what follows it begin
+
+    names("OPEN 240 CLOSE 241 ABORT 242 write-end 243 CMD_RESET 1 CMD_READ 2 CMD_WRITE 3 CMD_UPDATE 4 CMD_CLEAR 5 " \
+          "CMD_STOP 6 CMD_START 7 CMD_FLUSH 8 ADCMD_FREE 9 ADCMD_SETPREC 10 ADCMD_FINISH 11 ADCMD_PERVOL 12 " \
+          "ADCMD_LOCK 13 ADCMD_WAITCYCLE 14 ADCMD_ALLOCATE 32")
+
+    error[0] = "done"
+    error[-1] = "IOERR_OPENFAIL"
+    error[-2] = "IOERR_ABORTED"
+    error[-3] = "IOERR_NOCMD"
+    error[-4] = "IOERR_BADLENGTH"
+    error[-5] = "IOERR_BADADDRESS"
+    error[-10] = "ADIOERR_NOALLOCATION"
+    error[-11] = "ADIOERR_ALLOCFAILED"
+    error[-12] = "ADIOERR_CHANNELSTOLEN"
+    # These have no name in the include files.
+    error[1] = "refused with 1"
+    error[2] = "refused with 2"
+    error[3] = "refused with 3"
+    error[4] = "refused with 4"
+    error[5] = "refused with 5"
+    error[7] = "refused with 7"
+
+    reason[-1] = "it is open 65,535 times"
+    reason[-3] = "there is no such command"
+    reason[-4] = "more than 16 combinations"
+    reason[-5] = "a map or a combination is above 15"
+    reason[-10] = "a channel is free or has another key"
+    reason[-11] = "no combination can be had now"
+    reason[1] = "the state is not sound"
+    reason[2] = "the device is not open"
+    reason[3] = "the id is outstanding"
+    reason[4] = "the id is above 63"
+    reason[5] = "the reply list is too short"
+    reason[7] = "the line is malformed"
+}
+
+# ---- Numbers
+
+function names(list,    word, count, i) {
+    count = split(list, word, " ")
+    for (i = 1; i < count; i += 2)
+        name[word[i + 1]] = word[i]
+}
+
+# The byte at this place of a line, the first being 0.
+function byte(text, at) {
+    return 16 * index("123456789ABCDEF", substr(text, 2 * at + 1, 1)) + index("123456789ABCDEF", substr(text, 2 * at + 2, 1))
+}
+
+function signed(number) {
+    return number < 128 ? number : number - 256
+}
+
+function pair(text, at) {
+    return 256 * byte(text, at) + byte(text, at + 1)
+}
+
+# ---- Words
+
+# Adds a phrase to the words of the line at hand.
+function add(phrase) {
+    words = words (words == "" ? "" : ", ") phrase
+}
+
+# Writes the words behind their head. A line that would be too long is broken after a comma or a semicolon.
+function say(head, words,    line, end, part, count, i) {
+    end = index(words, ";") ? ";" : ","
+    count = split(words, part, end " ")
+    line = sprintf("%-" margin "s%s", head, part[1])
+    for (i = 2; i <= count; i++)
+        if (length(line) + length(part[i]) + 3 > width) {
+            print line end
+            line = sprintf("%" margin "s%s", "", part[i])
+        } else
+            line = line end " " part[i]
+    print line
+}
+
+function call_name(number) {
+    return number in name ? name[number] : "command " number
+}
+
+function channels(map,    c, text) {
+    if (map > 15)
+        return map " (above 15)"
+    for (c = 0; c < 4; c++) {
+        if (map % 2 == 1)
+            text = text (text == "" ? "" : "+") c
+        map = int(map / 2)
+    }
+    return text == "" ? "none" : text
+}
+
+function on_channels(map) {
+    if (map == 0)
+        return "no channel"
+    return (map == 1 || map == 2 || map == 4 || map == 8 ? "channel " : map > 15 ? "map " : "channels ") channels(map)
+}
+
+function key_words(key) {
+    return key == 0 ? "no key" : "key " key
+}
+
+# ---- The call
+
+# Why the line is malformed, or nothing if it is a frame.
+function fault(text,    count) {
+    count = length(text)
+    if (count == 0)
+        return "an empty line"
+    if (text ~ /[^0-9A-F]/)
+        return "a character that is not 0-9 or A-F"
+    if (count % 2 == 1)
+        return "an odd number of digits"
+    if (count < 16)
+        return "fewer than 8 bytes"
+    if (count != 16 + 2 * byte(text, 7))
+        return byte(text, 7) " combinations said and " (count / 2 - 8) " there"
+    return ""
+}
+
+function add_list(text,    count, i, shown) {
+    count = byte(text, 7)
+    shown = count > 20 ? 17 : count
+    if (count == 0)
+        add("no combination")
+    for (i = 0; i < shown; i++)
+        add((i > 0 ? "" : count == 1 ? "combination " : count " combinations: ") channels(byte(text, 8 + i)))
+    if (shown < count)
+        add((count - shown) " more")
+}
+
+# The fields that the call reads.
+function say_call(text,    op, flags) {
+    op = byte(text, 0)
+    flags = byte(text, 2)
+    words = ""
+    if (op < 240 || op > 243 || op == 242)
+        add("id " byte(text, 1))
+    if (op < 240 || op > 243) {
+        if (flags % 2 == 1)
+            add("QUICK")
+        if (op == 32 && int(flags / 64) % 2 == 1)
+            add("NOWAIT")
+    }
+    if (op == 240 || op == 10 || op == 32)
+        add("precedence " signed(byte(text, 4)))
+    add(key_words(pair(text, 5)))
+    if (op == 240 || op == 32)
+        add_list(text)
+    else if (op != 241 && op != 242)
+        add(on_channels(byte(text, 3)))
+    say(sprintf("%5d  %s", NR, call_name(op)), words)
+}
+
+# At most 24 characters of it: it may have any length.
+function say_malformed(text, why,    shown) {
+    shown = length(text) > 24 ? "\"" substr(text, 1, 24) "\".. of " length(text) " characters" : "\"" text "\""
+    printf "%-" margin "s%s\n", sprintf("%5d  malformed", NR), why (text == "" ? "" : ": " shown)
+}
+
+# ---- What the program wrote
+
+# C0, id, command, error, map, key
+function say_reply(text,    number) {
+    number = signed(byte(text, 3))
+    words = ""
+    add("to id " byte(text, 1) " " call_name(byte(text, 2)) ": " error[number])
+    if (byte(text, 4) != 0)
+        add(on_channels(byte(text, 4)))
+    add(key_words(pair(text, 5)))
+    say("         reply", words)
+}
+
+# A0 done or A1 outstanding, error, map, key, last byte; op is the call's.
+function say_answer(text, op,    number, map, last) {
+    number = signed(byte(text, 1))
+    map = byte(text, 2)
+    last = byte(text, 5)
+    words = ""
+    if (byte(text, 0) == 161)
+        add("outstanding")
+    else if (number != 0)
+        add(error[number] (number in reason ? ": " reason[number] : ""))
+    else if (op == 242)
+        add(last == 1 ? "aborted" : "not aborted")
+    else if (op == 243)
+        add(map == 0 ? "no write ended" : "a write ended")
+    else
+        add("done")
+    if (map != 0)
+        add(on_channels(map))
+    if (op == 2 && number == 0)
+        add(last == 255 ? "no write plays" : "the write of id " last " plays")
+    if (number != 7)
+        add(key_words(pair(text, 3)))
+    say("         answer", words)
+}
+
+# B0, channel, key, precedence, marks (1 locked, 2 stopped), number of writes
+function channel_words(text,    key, marks, writes) {
+    key = pair(text, 2)
+    marks = byte(text, 5)
+    writes = byte(text, 6)
+    if (key == 0)
+        return "free"
+    return "key " key ", precedence " signed(byte(text, 4)) (marks % 2 == 1 ? ", locked" : "") (marks >= 2 ? ", stopped" : "") \
+           (writes == 0 ? "" : writes == 1 ? ", 1 write" : ", " writes " writes")
+}
+
+# Channels of which the same is to be said stand together.
+function say_channels(said,    c, d, phrase) {
+    words = ""
+    for (c = 0; c < 4; c++)
+        if (said[c] != "") {
+            phrase = c
+            for (d = c + 1; d < 4; d++)
+                if (said[d] == said[c]) {
+                    phrase = phrase " " d
+                    said[d] = ""
+                }
+            words = words (words == "" ? "" : "; ") phrase ": " said[c]
+        }
+    say("         channels", words)
+}
+
+# ---- The log
+
+{
+    why = fault($0)
+    if (why == "")
+        say_call($0)
+    else
+        say_malformed($0, why)
+    seen = 0
+    while (seen < 4 && (getline text < output) > 0)
+        if (text ~ /^C0/)
+            say_reply(text)
+        else if (text ~ /^A/)
+            say_answer(text, why == "" ? byte($0, 0) : -1)
+        else if (text ~ /^B0/)
+            said[seen++] = channel_words(text)
+    if (seen < 4) {
+        print "explain: the program's output ends at line " NR " of the log" | "cat 1>&2"
+        exit 1
+    }
+    say_channels(said)
+}

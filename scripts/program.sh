@@ -1,0 +1,102 @@
+# The proved log program, for the scripts at the top of the tree. POSIX sh; it is read by '.', with root set to the top.
+#
+#   ready       builds the program where it is missing or older than what it is made from. Otherwise it is quick
+#   play WORDS  runs the program with these arguments, through the kit's emulator where the machine is not x86-64
+#   how         words before the program's: exec, or timeout 60
+#
+# ARBITER_LOG=PROGRAM takes another program, one that this machine runs as it is. It is for trials.
+how=
+emulator=
+
+complain() {
+    printf '%s: %s\n' "${0##*/}" "$*" >&2
+}
+
+has_kit() {
+    command -v rt >/dev/null && return
+    complain "the Rattle kit is missing: there is no rt on the PATH. README.md, \"Set-up\", says which kit"
+    return 1
+}
+
+listed() {
+    grep -q '^arbiter_log:' "$root/crates.txt"
+}
+
+# A folder counts too: its time is that of the last file added to it or taken away.
+stale() {
+    [ -x "$program" ] || return 0
+    [ -n "$(cd "$root" && find crates.txt crates -name must-fail -prune -o -newer "$program" -print | head -n 1)" ]
+}
+
+# The program's time becomes that of the build's start. rt leaves an unchanged program as it is, whose own time may be
+# older than its sources'; and what is edited while rt runs must count as newer.
+build() {
+    if ! has_kit; then
+        [ ! -x "$program" ] || complain "the sources are newer than the program; ARBITER_LOG=$program runs it as it is"
+        return 1
+    fi
+    if [ -x "$program" ]; then
+        complain "the sources are newer than the program: it is proved and built again, which may take minutes"
+    else
+        complain "the first use proves and builds the program, which takes minutes"
+    fi
+    mkdir -p "$root/target" && began=$(mktemp "$root/target/began.XXXXXX") && said=$(mktemp "$root/target/said.XXXXXX") || return
+    (cd "$root" && rt check arbiter_log) </dev/null >"$said" 2>&1 && [ -x "$program" ]
+    built=$?
+    if [ $built -eq 0 ]; then
+        touch -r "$began" "$program"
+    else
+        cat "$said" >&2
+        complain "the program is not proved, so it is not run"
+    fi
+    rm -f "$began" "$said"
+    return $built
+}
+
+# Programs are for x86-64. Elsewhere the kit has an emulator beside its compiler, and rt runs programs so: emulator,
+# loader, the C library beside it. 'rt doc' names a file of the kit, hence its folder.
+find_emulator() {
+    [ "$(uname -m)" != x86_64 ] || return 0
+    has_kit || return
+    kit=$(rt doc) || return
+    kit=${kit%/docs/*}/on/$(uname -m)/toolchain
+    emulator=$kit/bin/qemu-x86_64
+    loader=$kit/lib/ld-linux-x86-64.so.2
+    if [ ! -x "$emulator" ] || [ ! -x "$loader" ]; then
+        complain "the program is for x86-64, and the kit has no emulator for this machine, $(uname -m)"
+        return 1
+    fi
+    # Words for the emulator in the caller's environment would change the run.
+    for word in $(env | sed -n 's/^\(QEMU_[A-Za-z0-9_]*\)=.*/\1/p'); do
+        unset "$word"
+    done
+}
+
+ready() {
+    if [ -n "${ARBITER_LOG:-}" ]; then
+        case $ARBITER_LOG in
+        /*) program=$ARBITER_LOG ;;
+        *) program=$PWD/$ARBITER_LOG ;;
+        esac
+        [ -f "$program" ] && [ -x "$program" ] && return
+        complain "ARBITER_LOG names no program: $ARBITER_LOG"
+        return 1
+    fi
+    program=$root/target/bin/arbiter_log
+    if ! listed; then
+        complain "crates.txt does not list arbiter_log, the log program"
+        return 1
+    fi
+    if stale; then
+        build || return
+    fi
+    find_emulator
+}
+
+play() {
+    if [ -n "$emulator" ]; then
+        $how "$emulator" "$loader" --library-path "${loader%/*}" "$program" "$@"
+    else
+        $how "$program" "$@"
+    fi
+}
