@@ -3,14 +3,14 @@
 -- machine's next state. So what the K party sees of it is what it sees of the machine's run, spelt in structs and bytes, and
 -- the machine's theorem carries over.
 -- Assumes nothing.
-use Prim.Native.Nat.{ℕ, zero, suc, _+_, _*_, _/_, _≤_}
+use Prim.Native.Nat.{ℕ, _+_, _/_, _≤_}
 use mathlib.Core.Path.{_≡_, refl, ap, ap₂, sym, subst, _∙_}
-use mathlib.Core.Bool.{Bool, true, false, _&&_}
+use mathlib.Core.Bool.{Bool, true, false}
 use mathlib.Core.List.{List, [], _∷_, _++_, map, map-append}
 use native.Mathlib.Omega.{arith}
 use native.Mathlib.Nat.{zero-add}
 use lib.Dec.{T, eqb, leb, le→leb}
-use lib.ListN.{length, getD, take, drop}
+use lib.ListN.{length, getD, drop}
 use Rattle.machine.specs.Lists.{if_then_else_, all, keep}
 use Rattle.machine.specs.State.{Call, Channel as ChannelM, Reply, State as StateM, free}
 use Rattle.machine.specs.Call.{call, inRange}
@@ -20,14 +20,13 @@ use Rattle.channel.specs.declared.Channel.{Channel}
 use Rattle.channel.specs.Channel.{channelOf}
 use Rattle.reply.specs.Replies.{encode, encodes, sent}
 use Rattle.store.specs.declared.State.{State}
-use Rattle.store.specs.Store.{structOf, stateIn, Held}
+use Rattle.store.specs.Store.{stateIn, Held}
 use Rattle.answers.specs.Answers.{answerOf, answerIn, Told}
-use Rattle.answers.specs.declared.Answer.{Answer}
 use Rattle.arbiter.proofs.Outcome.{held-after}
-use Rattle.two_runs.specs.TwoRuns.{Party, Start, Step, our, their, ByK, ByOthers, Keeps as KeepsM, Run as RunM, balance, reached, calls, lends, own, said, mask, view, ownReplies, Seen, answered, received, owning, seen}
+use Rattle.two_runs.specs.TwoRuns.{Party, Start, Step, our, their, Keeps as KeepsM, Run as RunM, balance, reached, calls, lends, own, said, mask, view, ownReplies, Seen, answered, received, owning, seen}
 use Rattle.two_runs.proofs.Part.{project}
 use Rattle.two_runs.proofs.TwoRuns.{K-sees-its-part, others-leave-K-alone}
-use Rattle.code_runs.specs.CodeRuns.{Turn, asked, Took, Move, ours, others, turn, Chained, Keeps, Full, Run, ownCalls, records, ownRecords, maskOf, viewOf, Sight, told, got, has, sights, Demand3·code, stateAfter, tableAfter}
+use Rattle.code_runs.specs.CodeRuns.{Turn, asked, Took, Move, ours, others, Chained, Keeps, Full, Run, ownCalls, records, ownRecords, maskOf, viewOf, Sight, told, got, has, sights, Demand3·code, stateAfter, tableAfter}
 
 -- ---- the machine's steps of a run
 

@@ -24,10 +24,12 @@
 --   Sight, sights p st ms   answers, records and channels, in the order of the run
 -- The claim
 --   Demand3·code         two runs with the same calls of the K party show it the same
---   stateAfter st ms, tableAfter tb ms   what a run leaves
+--   stateAfter st ms, tableAfter tb ms   the struct and the table that a run leaves
+--   ownAnswers ms, allRecords p ms       the answers to the K party's calls; all records to its ids, in order
+--   Alike p st ms ns     the claim in three parts: these two are the same, and its channels are in the end
+--   codeClaim            one name that unfolds these definitions
 use Prim.Native.Nat.{ℕ, zero, suc, _≤_}
 use mathlib.Core.Path.{_≡_}
-use mathlib.Core.Bool.{Bool}
 use mathlib.Core.List.{List, [], _∷_, _++_, map}
 use lib.Dec.{eqb}
 use lib.ListN.{length, getD, take, drop}
@@ -143,7 +145,7 @@ Demand3·code =
     (p : Party) (st : State) (tb : List ℕ) (ms ns : List Move) → Held st tb → Start p (stateIn st tb) → Run p st tb ms → Run p st tb ns
     → ownCalls ms ≡ ownCalls ns → sights p st ms ≡ sights p st ns
 
--- ---- what a run leaves
+-- ---- what a run leaves, and the claim in three parts
 
 unfoldable pub stateAfter : State → List Move → State
 stateAfter st [] = st
@@ -152,3 +154,21 @@ stateAfter st (m ∷ ms) = stateAfter (turn m .outcome .state) ms
 unfoldable pub tableAfter : List ℕ → List Move → List ℕ
 tableAfter tb [] = tb
 tableAfter tb (m ∷ ms) = tableAfter (turn m .table) ms
+
+unfoldable pub ownAnswers : List Move → List Answer
+ownAnswers [] = []
+ownAnswers (ours t ∷ ms) = t .outcome .answer ∷ ownAnswers ms
+ownAnswers (others t ∷ ms) = ownAnswers ms
+
+unfoldable pub allRecords : Party → List Move → List (List ℕ)
+allRecords p [] = []
+allRecords p (m ∷ ms) = ownRecords p (turn m) ++ allRecords p ms
+
+pub record Alike (p : Party) (st : State) (ms ns : List Move) : Type 0 where
+  pub answers : ownAnswers ms ≡ ownAnswers ns
+  pub replies : allRecords p ms ≡ allRecords p ns
+  pub channels : viewOf p (stateAfter st ms) ≡ viewOf p (stateAfter st ns)
+
+unfoldable pub codeClaim : Unit {0}
+unfolding ownCalls records ownRecords maskOf viewOf sights stateAfter tableAfter ownAnswers allRecords
+codeClaim = tt
