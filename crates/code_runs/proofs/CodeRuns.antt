@@ -10,7 +10,7 @@ use mathlib.Core.List.{List, [], _∷_, _++_, map, map-append}
 use native.Mathlib.Omega.{arith}
 use native.Mathlib.Nat.{zero-add}
 use lib.Dec.{T, eqb, leb, le→leb}
-use lib.ListN.{length, getD, drop}
+use lib.ListN.{length, drop}
 use Rattle.machine.specs.Lists.{if_then_else_, all, keep}
 use Rattle.machine.specs.State.{Call, Channel as ChannelM, Reply, State as StateM, free}
 use Rattle.machine.specs.Call.{call, inRange}
@@ -26,7 +26,7 @@ use Rattle.arbiter.proofs.Outcome.{held-after}
 use Rattle.two_runs.specs.TwoRuns.{Party, Start, Step, our, their, Keeps as KeepsM, Run as RunM, balance, reached, calls, lends, own, said, mask, view, ownReplies, Seen, answered, received, owning, seen}
 use Rattle.two_runs.proofs.Part.{project}
 use Rattle.two_runs.proofs.TwoRuns.{K-sees-its-part, others-leave-K-alone}
-use Rattle.code_runs.specs.CodeRuns.{Turn, asked, Took, Move, ours, others, Chained, Keeps, Full, Run, ownCalls, records, ownRecords, maskOf, viewOf, Sight, told, got, has, sights, Demand3·code, stateAfter, tableAfter}
+use Rattle.code_runs.specs.CodeRuns.{Turn, asked, Took, Move, ours, others, Chained, Keeps, Full, Run, ownCalls, records, recordsTo, ownRecords, maskOf, viewOf, Sight, told, got, has, sights, Demand3·code, stateAfter, tableAfter}
 
 -- ---- the machine's steps of a run
 
@@ -63,23 +63,18 @@ module _ {st : State} {tb : List ℕ} {t : Turn} (h : Held st tb) (k : Took st t
 
 -- ---- the records of a list are the bytes of the replies
 
-records-encodes : (rs : List Reply) (l : List ℕ) → records (length rs) (encodes rs ++ l) ≡ map encode rs
-unfolding records
-records-encodes [] l = refl
-records-encodes (r ∷ rs) l = ap (λ (bs : List (List ℕ)). encode r ∷ bs) (records-encodes rs l)
-
-records-sent : (l : List ℕ) (rs : List Reply) → records (length rs) (sent l 0 rs) ≡ map encode rs
-unfolding splice
-records-sent l rs = records-encodes rs (drop (0 + length (encodes rs)) l)
-
-keep-encode : (p : Party) (rs : List Reply) → keep (λ b. p .mine (getD b 0 0)) (map encode rs) ≡ map encode (ownReplies p rs)
-unfolding keep ownReplies
-keep-encode p [] = refl
-keep-encode p (r ∷ rs) = rw (keep-encode p rs) (go (p .mine (r .id)))
+recordsTo-encodes : (p : Party) (rs : List Reply) (l : List ℕ) → recordsTo p (length rs) (encodes rs ++ l) ≡ map encode (ownReplies p rs)
+unfolding recordsTo records keep ownReplies
+recordsTo-encodes p [] l = refl
+recordsTo-encodes p (r ∷ rs) l = rw (recordsTo-encodes p rs l) (go (p .mine (r .id)))
   where
     go : (b : Bool) → (if b then encode r ∷ map encode (ownReplies p rs) else map encode (ownReplies p rs)) ≡ map encode (if b then r ∷ ownReplies p rs else ownReplies p rs)
     go true = refl
     go false = refl
+
+recordsTo-sent : (p : Party) (rs : List Reply) (l : List ℕ) → recordsTo p (length rs) (sent l 0 rs) ≡ map encode (ownReplies p rs)
+unfolding splice
+recordsTo-sent p rs l = recordsTo-encodes p rs (drop (0 + length (encodes rs)) l)
 
 pub took-records : {st : State} {tb : List ℕ} {t : Turn} (p : Party) → Held st tb → Took st tb t
     → ownRecords p t ≡ map encode (ownReplies p (call (stateIn st tb) (asked t) .replies))
@@ -87,9 +82,7 @@ unfolding ownRecords
 took-records {st} {tb} {t} p h k =
     let d = took-told h k .did in
     let rs = call (stateIn st tb) (asked t) .replies in
-    ap₂ (λ (n : ℕ) (l : List ℕ). keep (λ b. p .mine (getD b 0 0)) (records n l)) (d .count ∙ zero-add (length rs)) (d .list)
-    ∙ ap (keep (λ b. p .mine (getD b 0 0))) (records-sent (t .lent) rs)
-    ∙ keep-encode p rs
+    ap₂ (recordsTo p) (d .count ∙ zero-add (length rs)) (d .list) ∙ recordsTo-sent p rs (t .lent)
 
 -- ---- the channels of a struct are those of its state
 

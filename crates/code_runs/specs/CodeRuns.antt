@@ -18,7 +18,8 @@
 --   ownCalls ms          the numbers of the K party's calls, in order; the list that a call lends is no part of them
 -- What the K party sees
 --   records n l          the first n records of a list
---   ownRecords p t       those to the K party's ids that a call reported, in order: a record's first byte is its id
+--   recordsTo p n l      those of them to the K party's ids, in order
+--   ownRecords p t       those that a call reported
 --   maskOf p c           a channel as the K party sees it: itself if it has K, else as a free one
 --   viewOf p st          all channels of a struct so, each at its place
 --   Sight, sights p st ms   answers, records and channels, in the order of the run
@@ -113,9 +114,12 @@ unfoldable pub records : ℕ → List ℕ → List (List ℕ)
 records zero l = []
 records (suc n) l = take 6 l ∷ records n (drop 6 l)
 
--- "its replies being those to its ids"
+-- "its replies being those to its ids": a record's first byte is its id
+unfoldable pub recordsTo : Party → ℕ → List ℕ → List (List ℕ)
+recordsTo p n l = keep (λ b. p .mine (getD b 0 0)) (records n l)
+
 unfoldable pub ownRecords : Party → Turn → List (List ℕ)
-ownRecords p t = keep (λ b. p .mine (getD b 0 0)) (records (t .outcome .n) (t .list))
+ownRecords p t = recordsTo p (t .outcome .n) (t .list)
 
 unfoldable pub maskOf : Party → Channel → Channel
 maskOf p c = if eqb (c .key) (p .key) then c else channelOf free
@@ -170,5 +174,5 @@ pub record Alike (p : Party) (st : State) (ms ns : List Move) : Type 0 where
   pub channels : viewOf p (stateAfter st ms) ≡ viewOf p (stateAfter st ns)
 
 unfoldable pub codeClaim : Unit {0}
-unfolding ownCalls records ownRecords maskOf viewOf sights stateAfter tableAfter ownAnswers allRecords
+unfolding ownCalls records recordsTo ownRecords maskOf viewOf sights stateAfter tableAfter ownAnswers allRecords
 codeClaim = tt

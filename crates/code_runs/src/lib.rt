@@ -12,7 +12,7 @@ fn ranges(prec: u8, key: u16)
     ensures { λ _. ⌜ (prec ≤ 255) × (key ≤ 65535) ⌝ }
 {}
 
-pub fn turn(
+pub fn take_turn(
     op: Op,
     r: Request,
     s: State,
