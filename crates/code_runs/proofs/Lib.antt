@@ -1,0 +1,4 @@
+pub mod CodeRuns
+pub mod Made
+pub mod Parts
+pub mod Witness

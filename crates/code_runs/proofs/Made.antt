@@ -1,0 +1,162 @@
+-- Every run of the machine on a board of four channels is a run of the code: a call of the code that hands in the numbers of a
+-- machine's call, and a list of as many records, may become the struct, the table and the bytes of the machine's outcome. So
+-- the premises of demand 3 on the code can be met wherever those on the machine can.
+-- Assumes nothing.
+use Prim.Native.Nat.{ℕ, _*_, _/_, _≤_}
+use mathlib.Core.Path.{_≡_, refl, ap₂, sym, _∙_}
+use mathlib.Core.List.{List, [], _∷_, map}
+use native.Mathlib.Omega.{arith}
+use native.Mathlib.Nat.{zero-add}
+use lib.Dec.{T, leb, leb→le}
+use lib.ListN.{length, replicate, length-replicate}
+use Rattle.machine.specs.Lists.{all}
+use Rattle.machine.specs.State.{Call, Op as OpM, OPEN, CLOSE, ABORT, EVENT, COMMAND, Outcome as OutcomeM, State as StateM}
+use Rattle.machine.specs.Call.{call, inRange}
+use Rattle.machine.specs.Sound.{sound}
+use Rattle.machine.proofs.Tests.{and-left, and-right}
+use Rattle.machine.proofs.Sound.{parts}
+use Rattle.machine.proofs.KeepingCalls.{call-sound}
+use Rattle.machine.proofs.Board.{call-wide}
+use Rattle.reply.specs.Replies.{sent}
+use Rattle.store.specs.Store.{structOf, tableOf, stateIn, Held}
+use Rattle.store.proofs.Store.{held-of, stateIn-of}
+use Rattle.answers.specs.declared.Outcome.{Outcome}
+use Rattle.answers.specs.Answers.{answerOf, Told}
+use Rattle.refusals.specs.declared.Op.{Op}
+use Rattle.refusals.specs.declared.Op.the-variants.{Open, Close, Abort, Event, Command}
+use Rattle.refusals.specs.Refusals.{opIn}
+use Rattle.two_runs.specs.TwoRuns.{Party, Step, our, their, Keeps as KeepsM, Run as RunM, balance, calls, lends, own, said}
+use Rattle.code_runs.specs.CodeRuns.{Turn, asked, Took, Move, ours, others, Chained, Keeps, Full, Run, ownCalls}
+
+-- ---- the call of the code
+
+abbrev pub opOut : OpM → Op
+opOut OPEN = Open
+opOut CLOSE = Close
+opOut ABORT = Abort
+opOut EVENT = Event
+opOut (COMMAND n) = Command
+
+abbrev pub numberOut : OpM → ℕ
+numberOut OPEN = 0
+numberOut CLOSE = 0
+numberOut ABORT = 0
+numberOut EVENT = 0
+numberOut (COMMAND n) = n
+
+op-out : (o : OpM) → opIn (opOut o) (numberOut o) ≡ o
+op-out OPEN = refl
+op-out CLOSE = refl
+op-out ABORT = refl
+op-out EVENT = refl
+op-out (COMMAND n) = refl
+
+-- a reply list of n records, all 0
+abbrev pub blank : ℕ → List ℕ
+blank n = replicate (n * 6) 0
+
+length-blank : (n : ℕ) → length (blank n) ≡ n * 6
+length-blank n = length-replicate {A = ℕ} (n * 6) 0
+
+abbrev pub outcomeOf : OutcomeM → Outcome
+outcomeOf o = record { answer = answerOf (o .answer); state = structOf (o .next); n = length (o .replies) }
+
+abbrev pub made : StateM → Call → Turn
+made s c =
+    record {
+      op = opOut (c .op);
+      request = record { command = numberOut (c .op); id = c .id; flags = c .flags; map = c .map; prec = c .prec; key = c .key };
+      combos = c .combos;
+      lent = blank (c .room);
+      outcome = outcomeOf (call s c);
+      table = tableOf (call s c .next);
+      list = sent (blank (c .room)) 0 (call s c .replies);
+    }
+
+asked-made : (s : StateM) (c : Call) → asked (made s c) ≡ c
+asked-made s c =
+    let a = op-out (c .op) in
+    let e = length-blank (c .room) in
+    let b : length (blank (c .room)) / 6 ≡ c .room = omega arith in
+    λ i. record { op = a i; id = c .id; flags = c .flags; map = c .map; prec = c .prec; key = c .key; combos = c .combos; room = b i }
+
+abbrev pub moves : StateM → List Step → List Move
+moves s [] = []
+moves s (our c ∷ xs) = ours (made s c) ∷ moves (call s c .next) xs
+moves s (their c ∷ xs) = others (made s c) ∷ moves (call s c .next) xs
+
+pub ownCalls-moves : (s : StateM) (xs : List Step) → ownCalls (moves s xs) ≡ own xs
+unfolding ownCalls own
+ownCalls-moves s [] = refl
+ownCalls-moves s (our c ∷ xs) = ap₂ (λ (d : Call) (ds : List Call). said d ∷ ds) (asked-made s c) (ownCalls-moves (call s c .next) xs)
+ownCalls-moves s (their c ∷ xs) = ownCalls-moves (call s c .next) xs
+
+-- ---- it keeps the promise
+
+pub record Board (s : StateM) : Type 0 where
+  pub sane : T (sound s)
+  pub four : length (s .channels) ≡ 4
+
+board-next : (s : StateM) (c : Call) → T (inRange c) → Board s → Board (call s c .next)
+board-next s c f b = record { sane = call-sound s c f (b .sane); four = call-wide s c ∙ b .four }
+
+module _ {s : StateM} (b : Board s) where
+  pub board-state : stateIn (structOf s) (tableOf s) ≡ s
+  board-state = stateIn-of s (parts s (b .sane))
+
+  pub board-held : Held (structOf s) (tableOf s)
+  board-held = held-of s (parts s (b .sane)) (b .four)
+
+  module _ (c : Call) where
+    made-told : Told (call s c) (blank (c .room)) (outcomeOf (call s c)) (tableOf (call s c .next)) (sent (blank (c .room)) 0 (call s c .replies))
+    made-told = record { answer = refl; did = record { struct = refl; table = refl; list = refl; count = sym (zero-add (length (call s c .replies))) } }
+
+    made-took : T (inRange c) → Took (structOf s) (tableOf s) (made s c)
+    unfolding inRange
+    made-took f =
+        record {
+          called = record { sound = λ _. rw (board-state, asked-made s c) made-told; unsound = λ n. absurd (n board-held) };
+          prec = leb→le (c .prec) 255 (and-left (leb (c .prec) 255) (leb (c .key) 65535) f);
+          key = leb→le (c .key) 65535 (and-right (leb (c .prec) 255) (leb (c .key) 65535) f);
+        }
+
+-- ---- so the run is one of the code
+
+chained-moves : (s : StateM) (xs : List Step) → Board s → T (all inRange (calls xs)) → Chained (structOf s) (tableOf s) (moves s xs)
+unfolding calls all
+chained-moves s [] b f = tt
+chained-moves s (our c ∷ xs) b f =
+    let g = and-left (inRange c) (all inRange (calls xs)) f in
+    (made-took b c g, chained-moves (call s c .next) xs (board-next s c g b) (and-right (inRange c) (all inRange (calls xs)) f))
+chained-moves s (their c ∷ xs) b f =
+    let g = and-left (inRange c) (all inRange (calls xs)) f in
+    (made-took b c g, chained-moves (call s c .next) xs (board-next s c g b) (and-right (inRange c) (all inRange (calls xs)) f))
+
+keeps-moves : (p : Party) (n : ℕ) (s : StateM) (xs : List Step) → Board s → T (all inRange (calls xs)) → KeepsM p n s xs
+    → Keeps p n (structOf s) (tableOf s) (moves s xs)
+unfolding calls all
+keeps-moves p n s [] b f k = tt
+keeps-moves p n s (our c ∷ xs) b f k =
+    let g = and-left (inRange c) (all inRange (calls xs)) f in (
+      rw (board-state b, asked-made s c) (k .0),
+      keeps-moves p n (call s c .next) xs (board-next s c g b) (and-right (inRange c) (all inRange (calls xs)) f) (k .1),
+    )
+keeps-moves p n s (their c ∷ xs) b f k =
+    let g = and-left (inRange c) (all inRange (calls xs)) f in (
+      rw (board-state b, asked-made s c) (k .0),
+      rw (op-out (c .op)) (keeps-moves p (balance (c .op) (call s c .answer) n) (call s c .next) xs (board-next s c g b) (and-right (inRange c) (all inRange (calls xs)) f) (k .1)),
+    )
+
+made-full : (c : Call) → T (lends c) → 384 ≤ length (blank (c .room))
+unfolding lends
+made-full c l = let e = length-blank (c .room) in let h = leb→le 64 (c .room) l in omega arith
+
+full-moves : (s : StateM) (xs : List Step) → T (all lends (calls xs)) → Full (moves s xs)
+unfolding calls all
+full-moves s [] l = tt
+full-moves s (our c ∷ xs) l = (made-full c (and-left (lends c) (all lends (calls xs)) l), full-moves (call s c .next) xs (and-right (lends c) (all lends (calls xs)) l))
+full-moves s (their c ∷ xs) l = (made-full c (and-left (lends c) (all lends (calls xs)) l), full-moves (call s c .next) xs (and-right (lends c) (all lends (calls xs)) l))
+
+pub machine-runs-are-code-runs : (p : Party) (s : StateM) (xs : List Step) → Board s → RunM p s xs → Run p (structOf s) (tableOf s) (moves s xs)
+machine-runs-are-code-runs p s xs b r =
+    record { chained = chained-moves s xs b (r .fits); keeps = keeps-moves p 0 s xs b (r .fits) (r .keeps); full = full-moves s xs (r .full) }

@@ -1,0 +1,93 @@
+-- Demand 3 on the code is about something: two runs of calls that keep the promise, from one struct and one table, meet every
+-- premise. In the busy one the others open with a list and steal channel 2, take channel 3, wait for channel 0 and close; in
+-- the quiet one they do nothing. K sees the same bytes, and the two leave unlike structs and tables.
+-- Assumes nothing.
+use Prim.Native.Nat.{ℕ}
+use mathlib.Core.Path.{_≡_, refl, sym, _∙_}
+use mathlib.Core.Bool.{false, _||_}
+use mathlib.Core.List.{List, [], _∷_, map}
+use lib.Dec.{eqb}
+use Rattle.machine.specs.State.{Call, Op, OPEN, CLOSE, EVENT, COMMAND, State as StateM, free}
+use Rattle.machine.specs.Machine.{machine}
+use Rattle.memory.specs.Splice.{splice}
+use Rattle.store.specs.Store.{structOf, tableOf, stateIn}
+use Rattle.two_runs.specs.TwoRuns.{Party, Start, Step, our, own, their, claim}
+use Rattle.two_runs.proofs.Premises.{premises, runs-all, starts-all}
+use Rattle.code_runs.specs.CodeRuns.{Run, ownCalls, allRecords, stateAfter, Alike, codeClaim}
+use Rattle.code_runs.proofs.Made.{Board, board-held, board-state, moves, ownCalls-moves, machine-runs-are-code-runs}
+use Rattle.code_runs.proofs.Parts.{answers-replies-channels}
+
+-- K is 1 and P is 10, which stands as 138
+abbrev party : Party
+party = record { key = 1; floor = 138; mine = λ i. eqb i 5 || eqb i 9 }
+
+-- K on channels 0 and 1, with a write on 0; 2 another's; 3 free
+abbrev start : StateM
+start =
+    record {
+      channels =
+          record { key = 1; prec = 138; locked = false; stopped = false; writes = 5 ∷ [] }
+          ∷ record { key = 1; prec = 140; locked = false; stopped = false; writes = [] }
+          ∷ record { key = 7; prec = 100; locked = false; stopped = false; writes = 20 ∷ [] }
+          ∷ free
+          ∷ [];
+      locks = [];
+      waiting = [];
+      opens = 1;
+      last = 7;
+    }
+
+-- operation, id, map, precedence, key, combinations
+abbrev ask : Op → ℕ → ℕ → ℕ → ℕ → List ℕ → Call
+ask op i m p k l = record { op = op; id = i; flags = 0; map = m; prec = p; key = k; combos = l; room = 64 }
+
+-- K writes on channel 1, its write on channel 0 ends, it stops both
+abbrev quiet : List Step
+quiet = our (ask (COMMAND 3) 9 2 128 1 []) ∷ our (ask EVENT 0 1 128 0 []) ∷ our (ask (COMMAND 6) 5 3 0 1 []) ∷ []
+
+abbrev busy : List Step
+busy =
+    their (ask OPEN 0 0 138 0 (4 ∷ []))
+    ∷ our (ask (COMMAND 3) 9 2 128 1 [])
+    ∷ their (ask (COMMAND 32) 31 0 138 0 (8 ∷ []))
+    ∷ their (ask (COMMAND 32) 32 0 138 0 (1 ∷ []))
+    ∷ our (ask EVENT 0 1 128 0 [])
+    ∷ their (ask CLOSE 0 0 0 9 [])
+    ∷ our (ask (COMMAND 6) 5 3 0 1 [])
+    ∷ []
+
+board : Board start
+board = record { sane = unfold machine in tt; four = refl }
+
+start-ready : Start party (stateIn (structOf start) (tableOf start))
+start-ready = rw (board-state board) (starts-all party start (unfold machine claim premises in tt))
+
+quiet-runs : Run party (structOf start) (tableOf start) (moves start quiet)
+quiet-runs = machine-runs-are-code-runs party start quiet board (runs-all party start quiet (unfold machine claim premises in tt))
+
+busy-runs : Run party (structOf start) (tableOf start) (moves start busy)
+busy-runs = machine-runs-are-code-runs party start busy board (runs-all party start busy (unfold machine claim premises in tt))
+
+same-own : own quiet ≡ own busy
+unfolding claim
+same-own = refl
+
+same-calls : ownCalls (moves start quiet) ≡ ownCalls (moves start busy)
+same-calls = ownCalls-moves start quiet ∙ same-own ∙ sym (ownCalls-moves start busy)
+
+pub alike : Alike party (structOf start) (moves start quiet) (moves start busy)
+alike = answers-replies-channels party (structOf start) (tableOf start) (moves start quiet) (moves start busy) (board-held board) start-ready quiet-runs busy-runs same-calls
+
+-- two records: the write that ended, and the STOP; id, command, error, map, key
+pub bytes-seen : allRecords party (moves start busy) ≡ (5 ∷ 3 ∷ 0 ∷ 1 ∷ 0 ∷ 1 ∷ []) ∷ (5 ∷ 6 ∷ 0 ∷ 3 ∷ 0 ∷ 1 ∷ []) ∷ []
+unfolding machine codeClaim splice
+bytes-seen = refl
+
+-- and the runs end unlike: the open count and the last key
+pub quiet-end : (stateAfter (structOf start) (moves start quiet) .opens ≡ 1) × (stateAfter (structOf start) (moves start quiet) .last ≡ 7)
+unfolding machine codeClaim
+quiet-end = (refl, refl)
+
+pub busy-end : (stateAfter (structOf start) (moves start busy) .opens ≡ 1) × (stateAfter (structOf start) (moves start busy) .last ≡ 9)
+unfolding machine codeClaim
+busy-end = (refl, refl)
