@@ -149,9 +149,9 @@ fn hold(s: State, table: &mut [u8], replies: &mut [u8], n: usize, i: usize, map:
     ensures { λ r. ⌜ Turned s (now (table .entry)) (now (replies .entry)) n i r (now (table .exit)) (now (replies .exit)) ⌝ }
 {
     let d = steal(s, table, replies, n, map);
-    let t = d.state;
+    let kept = d.state;
     Turn {
-        state: t,
+        state: kept,
         n: d.n,
         next: i + 1,
         granted: false,
