@@ -93,6 +93,12 @@ queue-filled w = let e = w .size in omega arith
 
 -- ---- channels
 
+pub channel-read : (bs : List ℕ) (at : ℕ) {k p : ℕ} {l s : Bool} {q : Queue} → k ≡ keyAt bs at → p ≡ getD bs (at + 2) 0 → l ≡ eqb (getD bs (at + 3) 0) 1
+    → s ≡ eqb (getD bs (at + 4) 0) 1 → q ≡ queueAt bs (at + 5)
+    → _≡_ {A = Channel} (record { key = k; prec = p; locked = l; stopped = s; writes = q }) (channelAt bs at)
+unfolding channelAt
+channel-read bs at k p l s q i = record { key = k i; prec = p i; locked = l i; stopped = s i; writes = q i }
+
 pub channel-wrote : (l : List ℕ) (at : ℕ) (c : Channel) {m₁ m₂ : ℕ} {l₁ l₂ : List ℕ} → at + 70 ≤ length l
     → l₁ ≡ splice l at (keyBytes (c .key)) → m₁ ≡ markOf (c .locked) → m₂ ≡ markOf (c .stopped)
     → Wrote (set (set (set l₁ (at + 2) (c .prec)) (at + 3) m₁) (at + 4) m₂) (at + 5) (queueBytes (c .writes)) 65 l₂

@@ -1,6 +1,7 @@
 -- The state as 414 bytes that a caller keeps: four channels of 70 bytes from 0 on, the locks at 280, the waiting requests at 345,
 -- the open count at 410 and the last key at 412. Assumes nothing.
 --
+--   CHANNEL, LOCKS, WAITING, OPENS, LAST, STATE   the size of a channel, where the other parts begin, the size of all
 --   markOf b              a mark as a byte: 1 or 0
 --   keyBytes k            2 bytes, the high one first: a key, or the open count
 --   queueBytes q          65 bytes: the count, then the 64 ids
@@ -28,6 +29,24 @@ use Rattle.queue.specs.declared.Queue.{Queue}
 use Rattle.channel.specs.declared.Channel.{Channel}
 use Rattle.store.specs.declared.State.{State}
 use Rattle.store.specs.Store.{Each}
+
+abbrev pub CHANNEL : ℕ
+CHANNEL = 70
+
+abbrev pub LOCKS : ℕ
+LOCKS = 280
+
+abbrev pub WAITING : ℕ
+WAITING = 345
+
+abbrev pub OPENS : ℕ
+OPENS = 410
+
+abbrev pub LAST : ℕ
+LAST = 412
+
+abbrev pub STATE : ℕ
+STATE = 414
 
 -- ---- to bytes
 
@@ -72,10 +91,10 @@ unfoldable pub stateOf : List ℕ → State
 stateOf bs =
     record {
       channels = channelAt bs 0 ∷ channelAt bs 70 ∷ channelAt bs 140 ∷ channelAt bs 210 ∷ [];
-      locks = queueAt bs 280;
-      waiting = queueAt bs 345;
-      opens = keyAt bs 410;
-      last = keyAt bs 412;
+      locks = queueAt bs LOCKS;
+      waiting = queueAt bs WAITING;
+      opens = keyAt bs OPENS;
+      last = keyAt bs LAST;
     }
 
 -- ---- which bytes hold a struct
@@ -90,7 +109,7 @@ unfoldable pub marksAt : List ℕ → ℕ → Bool
 marksAt bs at = isMark (getD bs (at + 3) 0) && isMark (getD bs (at + 4) 0)
 
 unfoldable pub isWhole : List ℕ → Bool
-isWhole bs = eqb (length bs) 414 && (marksAt bs 0 && (marksAt bs 70 && (marksAt bs 140 && (marksAt bs 210 && all isByte bs))))
+isWhole bs = eqb (length bs) STATE && (marksAt bs 0 && (marksAt bs 70 && (marksAt bs 140 && (marksAt bs 210 && all isByte bs))))
 
 abbrev pub Whole : List ℕ → Type 0
 Whole bs = T (isWhole bs)

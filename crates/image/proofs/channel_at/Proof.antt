@@ -1,5 +1,6 @@
 -- `channel_at` meets its contract: each field is read at its place. Assumes nothing.
-use Rattle.image.specs.Image.{channelAt}
+use mathlib.Core.Path.{refl}
+use Rattle.image.proofs.Laws.{channel-read}
 use borrow.Author.Needs.{needs}
 use Rattle.image.proofs.channel_at.Statement.{statement}
 use Rattle.image.proofs.channel_at.Tie as tie
@@ -32,8 +33,10 @@ shared-slice-read-t14 : tie.Need-shared-slice-read-t14
 shared-slice-read-t14 c = search needs
 
 returns : tie.Need-returns
-unfolding channelAt
-returns c = rw (c .before .before .before .key-at .ensures, c .before .before .before .before .queue-at .ensures)
+returns c =
+    let k = c .before .before .before in
+    let a = k .before .before .before .args in
+    channel-read (a .bytes .now) (a .at) (k .key-at .ensures) refl refl refl (k .before .queue-at .ensures)
 
 pub channel-at-spec : {M : Type 1} → statement M
 channel-at-spec =

@@ -1,5 +1,6 @@
 -- `whole` meets its contract: each return is a case of the test. Assumes nothing.
-use mathlib.Core.Path.{sym, _∙_}
+use mathlib.Core.Path.{_≡_, sym, _∙_}
+use lib.ListN.{length}
 use borrow.Author.Tests.{not-true, not-false}
 use Rattle.image.proofs.Laws.{not-long, no-first, no-second, no-third, the-fourth}
 use borrow.Author.Needs.{needs}
@@ -7,7 +8,9 @@ use Rattle.image.proofs.whole.Statement.{statement}
 use Rattle.image.proofs.whole.Tie as tie
 
 returns : tie.Need-returns
-returns c = not-long _ (c .if1 .taken)
+returns c =
+    let n : length (c .before .before .args .bytes .now) ≡ 414 → ⊥ = c .if1 .taken in
+    not-long _ n
 
 marked-requires : tie.Need-marked-requires
 marked-requires c κs = search needs
