@@ -26,7 +26,7 @@ use Rattle.refusals.specs.declared.Op.{Op}
 use Rattle.refusals.specs.declared.Op.the-variants.{Open, Close, Abort, Event, Command}
 use Rattle.arbiter.specs.Arbiter.{Called}
 use Rattle.arbiter.proofs.Laws.{false-true}
-use Rattle.boundary.specs.Boundary.{TABLE, opFor, answerBytes, Begun, NotBegun, Started, Unanswered, Unread, Carried, Crossed}
+use Rattle.boundary.specs.Boundary.{TABLE, opFor, requestOf, answerBytes, Begun, NotBegun, Started, Unanswered, Unread, Carried, Crossed}
 
 -- ---- the operation
 
@@ -50,6 +50,12 @@ module _ (b : ℕ) where
   pub op-command : (b ≡ 0xF0 → ⊥) → (b ≡ 0xF1 → ⊥) → (b ≡ 0xF2 → ⊥) → (b ≡ 0xF3 → ⊥) → Command ≡ opFor (opOf b)
   unfolding opOf
   op-command n₀ n₁ n₂ n₃ = rw (ne-eqb b 0xF0 n₀, ne-eqb b 0xF1 n₁, ne-eqb b 0xF2 n₂, ne-eqb b 0xF3 n₃)
+
+-- ---- the request
+
+pub request-made : (op id flags map prec key : ℕ) {p : ℕ} → p ≡ (prec + 128) % 256
+    → _≡_ {A = Request} (record { command = op; id = id; flags = flags; map = map; prec = p; key = key }) (requestOf op id flags map prec key)
+request-made op id flags map prec key e = ap (λ (x : ℕ). record { command = op; id = id; flags = flags; map = map; prec = x; key = key }) e
 
 -- ---- the answer
 

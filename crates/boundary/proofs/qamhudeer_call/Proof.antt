@@ -3,7 +3,7 @@ use mathlib.Core.Path.{_≡_, sym, _∙_}
 use lib.ListN.{length}
 use borrow.Author.Tests.{not-true, not-false}
 use Rattle.sound.proofs.Laws.{yes-T}
-use Rattle.boundary.proofs.Laws.{no-answer, not-read, was-carried}
+use Rattle.boundary.proofs.Laws.{request-made, no-answer, not-read, was-carried}
 use borrow.Author.Needs.{needs}
 use Rattle.boundary.proofs.qamhudeer_call.Statement.{statement}
 use Rattle.boundary.proofs.qamhudeer_call.Tie as tie
@@ -65,7 +65,9 @@ returns-3 c =
     let p = o .before in
     let e = p .before in
     let w = e .before in
-    was-carried (w .before .before .if1 .left) (yes-T _ (sym (w .whole .ensures) ∙ not-false _ (e .if2 .left))) (o .op-of .ensures) (cc) (k .carry .ensures)
+    let a = w .before .before .before .before .before .before .before .before .args in
+    was-carried (w .before .before .if1 .left) (yes-T _ (sym (w .whole .ensures) ∙ not-false _ (e .if2 .left))) (o .op-of .ensures)
+    (request-made (a .op) (a .id) (a .flags) (a .map) (a .prec) (a .key) (p .stored .ensures)) (k .carry .ensures)
 
 pub qamhudeer-call-spec : {M : Type 1} → statement M
 qamhudeer-call-spec =
