@@ -1,11 +1,11 @@
--- What the promises come to: no second crossing fits, what is refused moves nothing, a fresh device is sound, and a sound state
--- is followed by a sound state, so that the next call takes it. Assumes nothing.
+-- What the promises come to: no second crossing fits, what is refused moves nothing, an answered call has at most 64 replies, a
+-- fresh device is sound, and a sound state is followed by a sound state, so that the next call takes it. Assumes nothing.
 use Prim.Native.Nat.{ℕ, zero, suc, _+_, _*_, _≤_}
-use mathlib.Core.Path.{_≡_, refl, ap, ap₂, sym, subst, _∙_}
+use mathlib.Core.Path.{_≡_, refl, ap, sym, subst, _∙_}
 use mathlib.Core.Bool.{Bool, true, false}
-use mathlib.Core.List.{List, [], _∷_, _++_}
+use mathlib.Core.List.{List, [], _++_}
 use native.Mathlib.Omega.{arith}
-use lib.Dec.{T, eqb, eqb→eq, eqb-refl}
+use lib.Dec.{T, eqb}
 use lib.ListN.{length, getD, replicate, replicate-append-replicate}
 use borrow.Author.Tests.{eqb-true, eqb-false}
 use Rattle.machine.specs.Lists.{if_then_else_, among}
@@ -14,21 +14,18 @@ use Rattle.machine.specs.Log.{opOf}
 use Rattle.machine.specs.Call.{call}
 use Rattle.machine.proofs.Sound.{parts, fresh-sound}
 use Rattle.machine.proofs.Refusals.{refusals}
+use Rattle.machine.proofs.Replies.{call-replies}
 use Rattle.store.specs.declared.State.{State}
 use Rattle.store.specs.Store.{structOf, items, writeItems, lookup, entries, tableOf, stateIn, Held}
 use Rattle.store.proofs.Store.{held-next}
-use Rattle.image.specs.Image.{imageOf, stateOf, isWhole, Whole, Saved}
+use Rattle.image.specs.Image.{STATE, imageOf, stateOf, isWhole, Whole}
 use Rattle.image.proofs.Round.{imageOf-stateOf, stateOf-imageOf}
 use Rattle.answers.specs.declared.Request.{Request}
-use Rattle.answers.specs.declared.Answer.{Answer}
 use Rattle.answers.specs.declared.Outcome.{Outcome}
-use Rattle.answers.specs.Answers.{Told}
 use Rattle.refusals.specs.declared.Op.{Op}
 use Rattle.refusals.specs.Refusals.{opIn, askedOf}
-use Rattle.arbiter.specs.Arbiter.{Called}
-use Rattle.arbiter.proofs.Laws.{false-true}
-use Rattle.arbiter.proofs.Outcome.{one-outcome, refused-unmoved, held-after}
-use Rattle.boundary.specs.Boundary.{TABLE, ANSWER, opFor, answerBytes, Begun, NotBegun, Started, Unanswered, Unread, Carried, Crossed}
+use Rattle.arbiter.proofs.Outcome.{one-outcome, held-or-not, refused-unmoved, held-after}
+use Rattle.boundary.specs.Boundary.{TABLE, ANSWER, opFor, answerBytes, Started, Unanswered, Unread, Carried, Crossed}
 
 -- ---- which case it is
 
@@ -100,18 +97,18 @@ module _ {st tb l : List ℕ} {n n₂ : ℕ} {st₁ st₂ tb₁ tb₂ l₁ l₂ 
 pub one-start : {st tb : List ℕ} {r r₂ : ℕ} {st₁ st₂ tb₁ tb₂ : List ℕ} → Started st tb r st₁ tb₁ → Started st tb r₂ st₂ tb₂
     → (r ≡ r₂) × (st₁ ≡ st₂) × (tb₁ ≡ tb₂)
 one-start {st} {tb} {r} {r₂} {st₁} {st₂} {tb₁} {tb₂} c e =
-    same-or-not (length st) 414 (λ h. same-or-not (length tb) TABLE (both h) (λ g. none (λ p. g (p .1)))) (λ h. none (λ p. h (p .0)))
+    same-or-not (length st) STATE (λ h. same-or-not (length tb) TABLE (both h) (λ g. none (λ p. g (p .1)))) (λ h. none (λ p. h (p .0)))
   where
-    both : length st ≡ 414 → length tb ≡ TABLE → (r ≡ r₂) × (st₁ ≡ st₂) × (tb₁ ≡ tb₂)
+    both : length st ≡ STATE → length tb ≡ TABLE → (r ≡ r₂) × (st₁ ≡ st₂) × (tb₁ ≡ tb₂)
     both h g =
         let x = c .begun h g in
         let y = e .begun h g in
         (x .result ∙ sym (y .result), x .state .bytes ∙ sym (y .state .bytes), x .table ∙ sym (y .table))
 
-    none : ((length st ≡ 414) × (length tb ≡ TABLE) → ⊥) → (r ≡ r₂) × (st₁ ≡ st₂) × (tb₁ ≡ tb₂)
+    none : ((length st ≡ STATE) × (length tb ≡ TABLE) → ⊥) → (r ≡ r₂) × (st₁ ≡ st₂) × (tb₁ ≡ tb₂)
     none h =
-        let x = c .not h in
-        let y = e .not h in
+        let x = c .otherwise h in
+        let y = e .otherwise h in
         (x .result ∙ sym (y .result), x .state ∙ sym (y .state), x .table ∙ sym (y .table))
 
 -- ---- what is refused moves no byte of state and table
@@ -132,6 +129,20 @@ module _ {op : ℕ} {r : Request} {ms st tb l an : List ℕ} {n : ℕ} {st′ tb
       whole w k =
           let u = refused-unmoved (k .called) (subst (λ (x : ℕ). T (among x refusals)) (error-told k) t) in
           (k .state .bytes ∙ ap imageOf (u .0) ∙ imageOf-stateOf st w, u .1)
+
+  -- ---- an answered call has at most 64 replies
+  pub few-replies : length an ≡ ANSWER → n ≤ 64
+  few-replies h = whole-or-not st (λ w. carried (c .carried h w)) (λ w. let e = c .unread h w .count in omega arith)
+    where
+      carried : Carried (opFor (opOf op)) r ms st tb l n st′ tb′ l′ an′ → n ≤ 64
+      carried k =
+          let e = k .count in
+          held-or-not (stateOf st) tb
+          (λ s.
+          let f = call-replies (stateIn (stateOf st) tb) (askedOf (opFor (opOf op)) r ms (length l)) (s .sane) .1 in
+          let g = k .called .sound s .did .count in
+          omega arith)
+          (λ s. let g = k .called .unsound s .count in omega arith)
 
   -- ---- a sound state is followed by a sound state: the one that the machine names
   module _ (h : length an ≡ ANSWER) (w : Whole st) (s : Held (stateOf st) tb) where
@@ -162,7 +173,7 @@ fresh-table : tableOf fresh ≡ replicate TABLE 0
 unfolding tableOf items writeItems
 fresh-table = entries-none 64 0
 
-pub fresh-after : {st tb : List ℕ} {r : ℕ} {st′ tb′ : List ℕ} → Started st tb r st′ tb′ → length st ≡ 414 → length tb ≡ TABLE
+pub fresh-after : {st tb : List ℕ} {r : ℕ} {st′ tb′ : List ℕ} → Started st tb r st′ tb′ → length st ≡ STATE → length tb ≡ TABLE
     → Whole st′ × Held (stateOf st′) tb′ × (stateIn (stateOf st′) tb′ ≡ fresh)
 fresh-after {tb = tb} {st′ = st′} {tb′ = tb′} c h g =
     let b = c .begun h g in

@@ -1,32 +1,28 @@
 -- How the functions meet their promises, case by case. Assumes nothing.
-use Prim.Native.Nat.{ℕ, _+_, _/_, _%_, _≤_}
+use Prim.Native.Nat.{ℕ, _+_, _/_, _%_}
 use mathlib.Core.Path.{_≡_, refl, ap, sym, subst, _∙_}
-use mathlib.Core.Bool.{Bool, true, false, not}
+use mathlib.Core.Bool.{Bool, false}
 use mathlib.Core.List.{List, [], _∷_}
 use native.Mathlib.Omega.{arith}
-use lib.Dec.{T}
 use lib.ListN.{length, replicate, set, length-replicate}
 use borrow.Author.Tests.{eq-eqb, ne-eqb}
 use Rattle.memory.specs.Splice.{splice}
 use Rattle.memory.proofs.Splice.{stores-splice}
-use Rattle.machine.specs.Lists.{if_then_else_}
 use Rattle.machine.specs.State.{fresh}
 use Rattle.machine.specs.Commands.{done}
 use Rattle.machine.specs.Log.{opOf}
 use Rattle.machine.proofs.Tests.{test-true}
 use Rattle.store.specs.declared.State.{State}
 use Rattle.store.specs.Store.{structOf}
-use Rattle.image.specs.Image.{markOf, isWhole, stateOf, Whole, Saved}
+use Rattle.image.specs.Image.{STATE, markOf, isWhole, Whole, Saved}
 use Rattle.image.proofs.Laws.{splice-whole}
 use Rattle.answers.specs.declared.Request.{Request}
 use Rattle.answers.specs.declared.Answer.{Answer}
-use Rattle.answers.specs.declared.Outcome.{Outcome}
 use Rattle.answers.specs.Answers.{answerOf}
 use Rattle.refusals.specs.declared.Op.{Op}
 use Rattle.refusals.specs.declared.Op.the-variants.{Open, Close, Abort, Event, Command}
-use Rattle.arbiter.specs.Arbiter.{Called}
 use Rattle.arbiter.proofs.Laws.{false-true}
-use Rattle.boundary.specs.Boundary.{TABLE, opFor, requestOf, answerBytes, Begun, NotBegun, Started, Unanswered, Unread, Carried, Crossed}
+use Rattle.boundary.specs.Boundary.{TABLE, opFor, requestOf, answerBytes, Started, Carried, Crossed}
 
 -- ---- the operation
 
@@ -69,11 +65,11 @@ answer-stored l a {m} h e =
 -- ---- a fresh device
 
 module _ {st tb : List ℕ} where
-  pub not-begun : ((length st ≡ 414) × (length tb ≡ TABLE) → ⊥) → Started st tb 1 st tb
+  pub not-begun : ((length st ≡ STATE) × (length tb ≡ TABLE) → ⊥) → Started st tb 1 st tb
   not-begun n =
-      record { begun = λ h g. absurd (n (h, g)); not = λ _. record { result = refl; state = refl; table = refl } }
+      record { begun = λ h g. absurd (n (h, g)); otherwise = λ _. record { result = refl; state = refl; table = refl } }
 
-  pub begun : length st ≡ 414 → length tb ≡ TABLE → {s : State} {st′ tb′ : List ℕ} → s ≡ structOf fresh → Saved s st′
+  pub begun : length st ≡ STATE → length tb ≡ TABLE → {s : State} {st′ tb′ : List ℕ} → s ≡ structOf fresh → Saved s st′
       → tb′ ≡ splice tb 0 (replicate (length tb) 0) → Started st tb 0 st′ tb′
   begun h g {s} {st′} e v c =
       record {
@@ -82,7 +78,7 @@ module _ {st tb : List ℕ} where
           state = subst (λ (x : State). Saved x st′) e v;
           table = c ∙ splice-whole tb _ (length-replicate {A = ℕ} (length tb) 0);
         };
-        not = λ n. absurd (n (h, g));
+        otherwise = λ n. absurd (n (h, g));
       }
 
 -- ---- a call

@@ -21,7 +21,7 @@ use Rattle.machine.specs.State.{Op as OpM, OPEN, CLOSE, ABORT, EVENT, COMMAND, 
 use Rattle.machine.specs.Commands.{done}
 use Rattle.machine.specs.Log.{opOf}
 use Rattle.store.specs.Store.{structOf}
-use Rattle.image.specs.Image.{markOf, keyBytes, imageOf, stateOf, Whole, Saved}
+use Rattle.image.specs.Image.{STATE, markOf, stateOf, Whole, Saved}
 use Rattle.answers.specs.declared.Request.{Request}
 use Rattle.answers.specs.declared.Answer.{Answer}
 use Rattle.answers.specs.declared.Outcome.{Outcome}
@@ -74,8 +74,8 @@ pub record NotBegun (st tb : List ℕ) (r : ℕ) (st′ tb′ : List ℕ) : Type
   pub table : tb′ ≡ tb
 
 pub record Started (st tb : List ℕ) (r : ℕ) (st′ tb′ : List ℕ) : Type 0 where
-  pub begun : length st ≡ 414 → length tb ≡ TABLE → Begun tb r st′ tb′
-  pub not : ((length st ≡ 414) × (length tb ≡ TABLE) → ⊥) → NotBegun st tb r st′ tb′
+  pub begun : length st ≡ STATE → length tb ≡ TABLE → Begun tb r st′ tb′
+  pub otherwise : ((length st ≡ STATE) × (length tb ≡ TABLE) → ⊥) → NotBegun st tb r st′ tb′
 
 -- ---- a call
 

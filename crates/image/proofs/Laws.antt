@@ -1,23 +1,22 @@
 -- A struct and its bytes: what the stores leave, and that each is read back from the other. Assumes nothing.
-use Prim.Native.Nat.{ℕ, zero, suc, _+_, _-_, _*_, _/_, _%_, _≤_, _<_}
-use mathlib.Core.Path.{_≡_, refl, ap, ap₂, sym, _∙_}
+use Prim.Native.Nat.{ℕ, zero, suc, _+_, _*_, _≤_, _<_}
+use mathlib.Core.Path.{_≡_, refl, ap, sym, _∙_}
 use mathlib.Core.Bool.{Bool, true, false, _&&_}
 use mathlib.Core.List.{List, [], _∷_, _++_, append-assoc, append-nil}
 use native.Mathlib.Omega.{arith}
 use native.Mathlib.Numerals.{add-one}
-use lib.Dec.{T, eqb, ltb, eqb→eq}
+use lib.Dec.{eqb, eqb→eq}
 use lib.ListN.{length, getD, take, drop, set, replicate, length-append, length-replicate, length-take, length-drop, drop-of-length-le}
 use lib.Seq.{take-suc, take-all}
 use borrow.Author.Tests.{lt-ltb, eq-eqb, ne-eqb}
 use Rattle.memory.specs.Splice.{splice}
 use Rattle.memory.proofs.Splice.{splice-none, set-splice, splice-append, splice-then, splice-snoc, length-splice}
 use Rattle.machine.specs.Lists.{all}
-use Rattle.machine.proofs.Tests.{and-left, and-right}
+use Rattle.machine.proofs.Tests.{and-left}
 use Rattle.queue.specs.declared.Queue.{Queue}
 use Rattle.channel.specs.declared.Channel.{Channel}
 use Rattle.store.specs.declared.State.{State}
-use Rattle.store.specs.Store.{Each}
-use Rattle.image.specs.Image.{markOf, keyBytes, queueBytes, channelBytes, channelsBytes, imageOf, keyAt, queueAt, channelAt, stateOf, isByte, marksAt, isWhole, Whole, Filled, AllFilled, Sized, Wrote, Entered, Saved}
+use Rattle.image.specs.Image.{markOf, keyBytes, queueBytes, channelBytes, channelsBytes, imageOf, keyAt, queueAt, channelAt, stateOf, isByte, marksAt, isWhole, Whole, Filled, AllFilled, Wrote, Entered}
 
 -- ---- the test
 

@@ -6,11 +6,11 @@ use mathlib.Core.List.{List, [], _∷_, _++_, append-assoc, append-nil}
 use native.Mathlib.Omega.{arith}
 use native.Mathlib.Nat.{div-add-mod'}
 use native.Mathlib.Numerals.{add-one}
-use lib.Dec.{T, eqb, ltb, ltb→lt}
+use lib.Dec.{T, eqb, ltb→lt}
 use lib.ListN.{length, getD, take, drop, length-append}
-use lib.Seq.{take-at, take-all, take-add, drop-at, drop-drop, drop-cons, drop-append-add, getD-append-add}
-use borrow.Author.Tests.{lt-ltb, eq-eqb}
-use Rattle.machine.specs.Lists.{if_then_else_, all}
+use lib.Seq.{take-at, take-all, take-add, drop-drop, drop-cons, drop-append-add, getD-append-add}
+use borrow.Author.Tests.{eq-eqb}
+use Rattle.machine.specs.Lists.{all}
 use Rattle.machine.proofs.Tests.{and-left, and-right}
 use Rattle.queue.specs.declared.Queue.{Queue}
 use Rattle.channel.specs.declared.Channel.{Channel}

@@ -12,7 +12,7 @@
 --   stateOf bs            the struct that 414 bytes hold
 --   isByte b, isMark b    a number that a byte can have; one that a mark can have
 --   marksAt bs at         the two marks of the channel at a place are marks
---   isWhole bs, Whole bs  414 bytes, and every mark of theirs is 0 or 1; other bytes hold no struct
+--   isWhole bs, Whole bs  414 bytes, each below 256, and every mark of theirs is 0 or 1; others hold no struct
 --   Wrote l at vs n l′    the n bytes vs were written at a place, and every other byte is as before
 --   Filled q, AllFilled cs, Sized s   a queue, the queues of channels, a struct, of the lengths that the code's types keep
 --   Entered l cs l′       the bytes of four channels were written in front of a list
