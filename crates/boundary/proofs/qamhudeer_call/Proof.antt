@@ -2,6 +2,8 @@
 use mathlib.Core.Path.{_≡_, sym, _∙_}
 use lib.ListN.{length}
 use borrow.Author.Tests.{not-true, not-false}
+use Rattle.machine.specs.Commands.{done}
+use Rattle.answers.specs.Answers.{answerOf}
 use Rattle.sound.proofs.Laws.{yes-T}
 use Rattle.boundary.proofs.Laws.{request-made, no-answer, not-read, was-carried}
 use borrow.Author.Needs.{needs}
@@ -32,7 +34,9 @@ returns-2 c =
     let d = p .before in
     let t = d .before .before in
     let w = t .before in
-    not-read (w .before .before .if1 .left) (w .whole .ensures) (not-true _ (t .if2 .taken)) (d .done .ensures) (p .put-answer .ensures)
+    let key = w .before .before .before .before .before .before .before .before .args .key in
+    let e : d .done .result ≡ answerOf (done 1 0 key 255) = d .done .ensures in
+    not-read (w .before .before .if1 .left) (w .whole .ensures) (not-true _ (t .if2 .taken)) e (p .put-answer .ensures)
 
 stored-requires : tie.Need-stored-requires
 stored-requires c κs = search needs
