@@ -1,0 +1,199 @@
+-- What the promises come to: no second crossing fits, what is refused moves nothing, an answered call has at most 64 replies, a
+-- fresh device is sound, and a sound state is followed by a sound state, so that the next call takes it. Assumes nothing.
+use Prim.Native.Nat.{ℕ, zero, suc, _+_, _*_, _≤_}
+use mathlib.Core.Path.{_≡_, refl, ap, sym, subst, _∙_}
+use mathlib.Core.Bool.{Bool, true, false}
+use mathlib.Core.List.{List, [], _++_}
+use native.Mathlib.Omega.{arith}
+use lib.Dec.{T, eqb}
+use lib.ListN.{length, getD, replicate, replicate-append-replicate}
+use borrow.Author.Tests.{eqb-true, eqb-false}
+use Rattle.machine.specs.Lists.{if_then_else_, among}
+use Rattle.machine.specs.State.{State as StateM, Op as OpM, OPEN, CLOSE, ABORT, EVENT, COMMAND, fresh}
+use Rattle.machine.specs.Log.{opOf}
+use Rattle.machine.specs.Call.{call}
+use Rattle.machine.proofs.Sound.{parts, fresh-sound}
+use Rattle.machine.proofs.Refusals.{refusals}
+use Rattle.machine.proofs.Replies.{call-replies}
+use Rattle.store.specs.declared.State.{State}
+use Rattle.store.specs.Store.{structOf, items, writeItems, lookup, entries, tableOf, stateIn, Held}
+use Rattle.store.proofs.Store.{held-next}
+use Rattle.image.specs.Image.{STATE, imageOf, stateOf, isWhole, Whole}
+use Rattle.image.proofs.Round.{imageOf-stateOf, stateOf-imageOf}
+use Rattle.answers.specs.declared.Request.{Request}
+use Rattle.answers.specs.declared.Outcome.{Outcome}
+use Rattle.refusals.specs.declared.Op.{Op}
+use Rattle.refusals.specs.Refusals.{opIn, askedOf}
+use Rattle.arbiter.proofs.Outcome.{one-outcome, held-or-not, refused-unmoved, held-after}
+use Rattle.boundary.specs.Boundary.{TABLE, ANSWER, opFor, answerBytes, Started, Unanswered, Unread, Carried, Crossed}
+
+-- ---- which case it is
+
+-- two numbers are the same, or not
+same-or-not {ℓ} : {R : Type ℓ} (m n : ℕ) → (m ≡ n → R) → ((m ≡ n → ⊥) → R) → R
+same-or-not {R = R} m n y z = go (eqb m n) refl
+  where
+    go : (b : Bool) → eqb m n ≡ b → R
+    go true e = y (eqb-true m n e)
+    go false e = z (eqb-false m n e)
+
+whole-or-not {ℓ} : {R : Type ℓ} (bs : List ℕ) → (Whole bs → R) → ((Whole bs → ⊥) → R) → R
+whole-or-not {R = R} bs y z = go (isWhole bs) refl
+  where
+    go : (b : Bool) → isWhole bs ≡ b → R
+    go true e = y (subst (λ (b : Bool). T b) (sym e) tt)
+    go false e = z (λ w. subst (λ (b : Bool). T b) e w)
+
+-- ---- no second crossing fits
+
+-- the same result and the same bytes
+pub record Same (n n₂ : ℕ) (st st₂ tb tb₂ l l₂ an an₂ : List ℕ) : Type 0 where
+  pub count : n ≡ n₂
+  pub state : st ≡ st₂
+  pub table : tb ≡ tb₂
+  pub list : l ≡ l₂
+  pub answer : an ≡ an₂
+
+module _ {st tb l : List ℕ} {n n₂ : ℕ} {st₁ st₂ tb₁ tb₂ l₁ l₂ an₁ an₂ : List ℕ} where
+  unanswered-same : {an : List ℕ} → Unanswered st tb l an n st₁ tb₁ l₁ an₁ → Unanswered st tb l an n₂ st₂ tb₂ l₂ an₂ → Same n n₂ st₁ st₂ tb₁ tb₂ l₁ l₂ an₁ an₂
+  unanswered-same c e =
+      record {
+        count = c .count ∙ sym (e .count);
+        state = c .state ∙ sym (e .state);
+        table = c .table ∙ sym (e .table);
+        list = c .list ∙ sym (e .list);
+        answer = c .answer ∙ sym (e .answer);
+      }
+
+  unread-same : {k : ℕ} → Unread k st tb l n st₁ tb₁ l₁ an₁ → Unread k st tb l n₂ st₂ tb₂ l₂ an₂ → Same n n₂ st₁ st₂ tb₁ tb₂ l₁ l₂ an₁ an₂
+  unread-same c e =
+      record {
+        count = c .count ∙ sym (e .count);
+        state = c .state ∙ sym (e .state);
+        table = c .table ∙ sym (e .table);
+        list = c .list ∙ sym (e .list);
+        answer = c .answer ∙ sym (e .answer);
+      }
+
+  carried-same : {o : Op} {r : Request} {ms : List ℕ} → Carried o r ms st tb l n st₁ tb₁ l₁ an₁ → Carried o r ms st tb l n₂ st₂ tb₂ l₂ an₂ → Same n n₂ st₁ st₂ tb₁ tb₂ l₁ l₂ an₁ an₂
+  carried-same c e =
+      let s = one-outcome (c .called) (e .called) in
+      record {
+        count = c .count ∙ ap (λ (d : Outcome). d .n) (s .outcome) ∙ sym (e .count);
+        state = c .state .bytes ∙ ap (λ (d : Outcome). imageOf (d .state)) (s .outcome) ∙ sym (e .state .bytes);
+        table = s .table;
+        list = s .list;
+        answer = c .answer ∙ ap (λ (d : Outcome). answerBytes (d .answer)) (s .outcome) ∙ sym (e .answer);
+      }
+
+  pub one-crossing : {op : ℕ} {r : Request} {ms an : List ℕ} → Crossed op r ms st tb l an n st₁ tb₁ l₁ an₁ → Crossed op r ms st tb l an n₂ st₂ tb₂ l₂ an₂
+      → Same n n₂ st₁ st₂ tb₁ tb₂ l₁ l₂ an₁ an₂
+  one-crossing {an = an} c e =
+      same-or-not (length an) ANSWER
+      (λ h. whole-or-not st (λ w. carried-same (c .carried h w) (e .carried h w)) (λ w. unread-same (c .unread h w) (e .unread h w)))
+      (λ h. unanswered-same (c .unanswered h) (e .unanswered h))
+
+-- a second start does not fit either
+pub one-start : {st tb : List ℕ} {r r₂ : ℕ} {st₁ st₂ tb₁ tb₂ : List ℕ} → Started st tb r st₁ tb₁ → Started st tb r₂ st₂ tb₂
+    → (r ≡ r₂) × (st₁ ≡ st₂) × (tb₁ ≡ tb₂)
+one-start {st} {tb} {r} {r₂} {st₁} {st₂} {tb₁} {tb₂} c e =
+    same-or-not (length st) STATE (λ h. same-or-not (length tb) TABLE (both h) (λ g. none (λ p. g (p .1)))) (λ h. none (λ p. h (p .0)))
+  where
+    both : length st ≡ STATE → length tb ≡ TABLE → (r ≡ r₂) × (st₁ ≡ st₂) × (tb₁ ≡ tb₂)
+    both h g =
+        let x = c .begun h g in
+        let y = e .begun h g in
+        (x .result ∙ sym (y .result), x .state .bytes ∙ sym (y .state .bytes), x .table ∙ sym (y .table))
+
+    none : ((length st ≡ STATE) × (length tb ≡ TABLE) → ⊥) → (r ≡ r₂) × (st₁ ≡ st₂) × (tb₁ ≡ tb₂)
+    none h =
+        let x = c .otherwise h in
+        let y = e .otherwise h in
+        (x .result ∙ sym (y .result), x .state ∙ sym (y .state), x .table ∙ sym (y .table))
+
+-- ---- what is refused moves no byte of state and table
+
+error-told : {o : Op} {r : Request} {ms st tb l : List ℕ} {n : ℕ} {st′ tb′ l′ an′ : List ℕ} (c : Carried o r ms st tb l n st′ tb′ l′ an′)
+    → getD an′ 1 0 ≡ c .outcome .answer .error
+unfolding answerBytes
+error-told c = ap (λ (x : List ℕ). getD x 1 0) (c .answer)
+
+module _ {op : ℕ} {r : Request} {ms st tb l an : List ℕ} {n : ℕ} {st′ tb′ l′ an′ : List ℕ} (c : Crossed op r ms st tb l an n st′ tb′ l′ an′) where
+  pub refused-still : T (among (getD an′ 1 0) refusals) → (st′ ≡ st) × (tb′ ≡ tb)
+  refused-still t =
+      same-or-not (length an) ANSWER
+      (λ h. whole-or-not st (λ w. whole w (c .carried h w)) (λ w. (c .unread h w .state, c .unread h w .table)))
+      (λ h. (c .unanswered h .state, c .unanswered h .table))
+    where
+      whole : Whole st → Carried (opFor (opOf op)) r ms st tb l n st′ tb′ l′ an′ → (st′ ≡ st) × (tb′ ≡ tb)
+      whole w k =
+          let u = refused-unmoved (k .called) (subst (λ (x : ℕ). T (among x refusals)) (error-told k) t) in
+          (k .state .bytes ∙ ap imageOf (u .0) ∙ imageOf-stateOf st w, u .1)
+
+  -- ---- an answered call has at most 64 replies
+  pub few-replies : length an ≡ ANSWER → n ≤ 64
+  few-replies h = whole-or-not st (λ w. carried (c .carried h w)) (λ w. let e = c .unread h w .count in omega arith)
+    where
+      carried : Carried (opFor (opOf op)) r ms st tb l n st′ tb′ l′ an′ → n ≤ 64
+      carried k =
+          let e = k .count in
+          held-or-not (stateOf st) tb
+          (λ s.
+          let f = call-replies (stateIn (stateOf st) tb) (askedOf (opFor (opOf op)) r ms (length l)) (s .sane) .1 in
+          let g = k .called .sound s .did .count in
+          omega arith)
+          (λ s. let g = k .called .unsound s .count in omega arith)
+
+  -- ---- a sound state is followed by a sound state: the one that the machine names
+  module _ (h : length an ≡ ANSWER) (w : Whole st) (s : Held (stateOf st) tb) where
+    abbrev o₀ : Op
+    o₀ = opFor (opOf op)
+
+    abbrev next : StateM
+    next = call (stateIn (stateOf st) tb) (askedOf o₀ r ms (length l)) .next
+
+    pub sound-after : (r .prec ≤ 255) × (r .key ≤ 65535) → Whole st′ × Held (stateOf st′) tb′ × (stateIn (stateOf st′) tb′ ≡ next)
+    sound-after g =
+        let k = c .carried h w in
+        let d = k .outcome in
+        let a = held-after o₀ r ms l s g (k .called .sound s) in
+        let e : d .state ≡ stateOf st′ = sym (ap stateOf (k .state .bytes) ∙ stateOf-imageOf (d .state) (k .state .sized)) in
+        (k .state .whole, subst (λ (x : State). Held x tb′) e (a .0), subst (λ (x : State). stateIn x tb′ ≡ next) e (a .1))
+
+-- ---- a fresh device is sound
+
+entries-none : (n i : ℕ) → entries n i [] ≡ replicate (n * 23) 0
+unfolding entries lookup
+entries-none zero i = refl
+entries-none (suc n) i =
+    let e : suc n * 23 ≡ 23 + n * 23 = omega arith in
+    ap (λ (x : List ℕ). replicate 23 0 ++ x) (entries-none n (suc i)) ∙ replicate-append-replicate {A = ℕ} 23 (n * 23) 0 ∙ ap (λ (k : ℕ). replicate k 0) (sym e)
+
+fresh-table : tableOf fresh ≡ replicate TABLE 0
+unfolding tableOf items writeItems
+fresh-table = entries-none 64 0
+
+pub fresh-after : {st tb : List ℕ} {r : ℕ} {st′ tb′ : List ℕ} → Started st tb r st′ tb′ → length st ≡ STATE → length tb ≡ TABLE
+    → Whole st′ × Held (stateOf st′) tb′ × (stateIn (stateOf st′) tb′ ≡ fresh)
+fresh-after {tb = tb} {st′ = st′} {tb′ = tb′} c h g =
+    let b = c .begun h g in
+    let e : structOf fresh ≡ stateOf st′ = sym (ap stateOf (b .state .bytes) ∙ stateOf-imageOf (structOf fresh) (b .state .sized)) in
+    let t : tb′ ≡ tableOf fresh = b .table ∙ ap (λ (k : ℕ). replicate k 0) g ∙ sym fresh-table in
+    let a = held-next fresh (stateOf st′) tb′ (parts _ fresh-sound) refl (sym e) t in
+    (b .state .whole, a .0, a .1)
+
+-- ---- the operation that the machine is asked for is that of the number
+
+abbrev pick : Bool → Bool → Bool → Bool → ℕ → OpM
+pick p q r s b = if p then OPEN else if q then CLOSE else if r then ABORT else if s then EVENT else COMMAND b
+
+pick-asked : (p q r s : Bool) (b : ℕ) → opIn (opFor (pick p q r s b)) b ≡ pick p q r s b
+pick-asked true q r s b = refl
+pick-asked false true r s b = refl
+pick-asked false false true s b = refl
+pick-asked false false false true b = refl
+pick-asked false false false false b = refl
+
+pub op-asked : (b : ℕ) → opIn (opFor (opOf b)) b ≡ opOf b
+unfolding opOf
+op-asked b = pick-asked (eqb b 0xF0) (eqb b 0xF1) (eqb b 0xF2) (eqb b 0xF3) b

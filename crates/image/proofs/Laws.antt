@@ -1,0 +1,199 @@
+-- A struct and its bytes: what the stores leave, and that each is read back from the other. Assumes nothing.
+use Prim.Native.Nat.{ℕ, zero, suc, _+_, _*_, _≤_, _<_}
+use mathlib.Core.Path.{_≡_, refl, ap, sym, _∙_}
+use mathlib.Core.Bool.{Bool, true, false, _&&_}
+use mathlib.Core.List.{List, [], _∷_, _++_, append-assoc, append-nil}
+use native.Mathlib.Omega.{arith}
+use native.Mathlib.Numerals.{add-one}
+use lib.Dec.{eqb, eqb→eq}
+use lib.ListN.{length, getD, take, drop, set, replicate, length-append, length-replicate, length-take, length-drop, drop-of-length-le}
+use lib.Seq.{take-suc, take-all}
+use borrow.Author.Tests.{lt-ltb, eq-eqb, ne-eqb}
+use Rattle.memory.specs.Splice.{splice}
+use Rattle.memory.proofs.Splice.{splice-none, set-splice, splice-append, splice-then, splice-snoc, length-splice}
+use Rattle.machine.specs.Lists.{all}
+use Rattle.machine.proofs.Tests.{and-left}
+use Rattle.queue.specs.declared.Queue.{Queue}
+use Rattle.channel.specs.declared.Channel.{Channel}
+use Rattle.store.specs.declared.State.{State}
+use Rattle.image.specs.Image.{markOf, keyBytes, queueBytes, channelBytes, channelsBytes, imageOf, keyAt, queueAt, channelAt, stateOf, isByte, marksAt, isWhole, Whole, Filled, AllFilled, Wrote, Entered}
+
+-- ---- the test
+
+and-on : (b : Bool) → (b && true) ≡ b
+and-on true = refl
+and-on false = refl
+
+-- what stands in a lent slice are bytes
+pub bytes-all : (bs : List ℕ) → ((i : ℕ) → getD bs i 0 < 256) → all isByte bs ≡ true
+unfolding all
+bytes-all [] h = refl
+bytes-all (b ∷ bs) h = rw (lt-ltb b 256 (h 0)) (bytes-all bs (λ i. h (suc i)))
+
+module _ (bs : List ℕ) where
+  pub not-long : (length bs ≡ 414 → ⊥) → false ≡ isWhole bs
+  unfolding isWhole
+  not-long n = rw (ne-eqb (length bs) 414 n)
+
+  pub whole-long : Whole bs → length bs ≡ 414
+  unfolding isWhole
+  whole-long w = eqb→eq (length bs) 414 (and-left (eqb (length bs) 414) _ w)
+
+  module _ (l : length bs ≡ 414) where
+    pub no-first : marksAt bs 0 ≡ false → false ≡ isWhole bs
+    unfolding isWhole
+    no-first a = rw (eq-eqb (length bs) 414 l, a)
+
+    pub no-second : marksAt bs 0 ≡ true → marksAt bs 70 ≡ false → false ≡ isWhole bs
+    unfolding isWhole
+    no-second a b = rw (eq-eqb (length bs) 414 l, a, b)
+
+    pub no-third : marksAt bs 0 ≡ true → marksAt bs 70 ≡ true → marksAt bs 140 ≡ false → false ≡ isWhole bs
+    unfolding isWhole
+    no-third a b c = rw (eq-eqb (length bs) 414 l, a, b, c)
+
+    pub the-fourth : marksAt bs 0 ≡ true → marksAt bs 70 ≡ true → marksAt bs 140 ≡ true → ((i : ℕ) → getD bs i 0 < 256)
+        → marksAt bs 210 ≡ isWhole bs
+    unfolding isWhole
+    the-fourth a b c h = rw (eq-eqb (length bs) 414 l, a, b, c, bytes-all bs h) (sym (and-on (marksAt bs 210)))
+
+-- ---- splice
+
+-- a run over all of a list is the list
+pub splice-whole : (l vs : List ℕ) → length vs ≡ length l → splice l 0 vs ≡ vs
+unfolding splice
+splice-whole l vs h =
+    let z : 0 + length vs ≡ length l = omega arith in
+    let e : drop (0 + length vs) l ≡ [] = drop-of-length-le l {i = 0 + length vs} (omega arith) in
+    ap (λ (x : List ℕ). vs ++ x) e ∙ append-nil vs
+
+pub wrote-length : {l : List ℕ} {at : ℕ} {vs : List ℕ} {n : ℕ} {l′ : List ℕ} → Wrote l at vs n l′ → at + n ≤ length l → length l′ ≡ length l
+wrote-length {l} {at} {vs} w h = let e = w .size in ap length (w .bytes) ∙ length-splice l at vs (omega arith)
+
+-- ---- a queue
+
+pub queue-wrote : (l : List ℕ) (at n : ℕ) (ids : List ℕ) → length ids ≡ 64 → at + 65 ≤ length l
+    → Wrote l at (n ∷ ids) 65 (splice (set l at n) (at + 1) ids)
+queue-wrote l at n ids h g =
+    record {
+      bytes = rw (set-splice l at n (omega arith)) (splice-append l at (n ∷ []) ids (omega arith));
+      size = omega arith;
+    }
+
+pub queue-read : (bs : List ℕ) (at m : ℕ) {ids : List ℕ} → ids ≡ splice (replicate 64 0) 0 (take m (drop (at + 1) bs)) → m ≡ 64 → at + 65 ≤ length bs
+    → _≡_ {A = Queue} (record { n = getD bs at 0; ids = ids }) (queueAt bs at)
+unfolding queueAt
+queue-read bs at m h k g =
+    let e : length (take 64 (drop (at + 1) bs)) ≡ 64 = simp (length-take, length-drop) (omega arith) in
+    ap (λ (x : List ℕ). record { n = getD bs at 0; ids = x }) (h ∙ ap (λ (x : ℕ). splice (replicate 64 0) 0 (take x (drop (at + 1) bs))) k ∙ splice-whole (replicate 64 0) _ (e ∙ sym (length-replicate {A = ℕ} 64 0)))
+
+pub queue-filled : {l : List ℕ} {at : ℕ} {q : Queue} {l′ : List ℕ} → Wrote l at (queueBytes q) 65 l′ → Filled q
+queue-filled w = let e = w .size in omega arith
+
+-- ---- channels
+
+pub channel-read : (bs : List ℕ) (at : ℕ) {k p : ℕ} {l s : Bool} {q : Queue} → k ≡ keyAt bs at → p ≡ getD bs (at + 2) 0 → l ≡ eqb (getD bs (at + 3) 0) 1
+    → s ≡ eqb (getD bs (at + 4) 0) 1 → q ≡ queueAt bs (at + 5)
+    → _≡_ {A = Channel} (record { key = k; prec = p; locked = l; stopped = s; writes = q }) (channelAt bs at)
+unfolding channelAt
+channel-read bs at k p l s q i = record { key = k i; prec = p i; locked = l i; stopped = s i; writes = q i }
+
+pub channel-wrote : (l : List ℕ) (at : ℕ) (c : Channel) {m₁ m₂ : ℕ} {l₁ l₂ : List ℕ} → at + 70 ≤ length l
+    → l₁ ≡ splice l at (keyBytes (c .key)) → m₁ ≡ markOf (c .locked) → m₂ ≡ markOf (c .stopped)
+    → Wrote (set (set (set l₁ (at + 2) (c .prec)) (at + 3) m₁) (at + 4) m₂) (at + 5) (queueBytes (c .writes)) 65 l₂
+    → Wrote l at (channelBytes c) 70 l₂
+unfolding channelBytes
+channel-wrote l at c h p a b w =
+    let k = keyBytes (c .key) in
+    record {
+      bytes =
+          w .bytes ∙ (rw (p, a, b, splice-snoc l at k (c .prec) (omega arith), splice-snoc l at (k ++ c .prec ∷ []) (markOf (c .locked)) (omega arith), splice-snoc l at (k ++ c .prec ∷ markOf (c .locked) ∷ []) (markOf (c .stopped)) (omega arith))
+          (splice-append l at (k ++ c .prec ∷ markOf (c .locked) ∷ markOf (c .stopped) ∷ []) (queueBytes (c .writes)) (omega arith)));
+      size = let e = w .size in omega arith;
+    }
+
+pub channels-append : (cs ds : List Channel) → channelsBytes (cs ++ ds) ≡ channelsBytes cs ++ channelsBytes ds
+unfolding channelsBytes
+channels-append [] ds = refl
+channels-append (c ∷ cs) ds = ap (λ (x : List ℕ). channelBytes c ++ x) (channels-append cs ds) ∙ sym (append-assoc (channelBytes c) (channelsBytes cs) (channelsBytes ds))
+
+pub channels-one : (c : Channel) → channelsBytes (c ∷ []) ≡ channelBytes c
+unfolding channelsBytes
+channels-one c = append-nil (channelBytes c)
+
+pub channels-none : channelsBytes [] ≡ []
+unfolding channelsBytes
+channels-none = refl
+
+pub channels-start : (l : List ℕ) (cs : List Channel) → Wrote l 0 (channelsBytes (take 0 cs)) 0 l
+channels-start l cs = record { bytes = rw channels-none (sym (splice-none l 0)); size = rw channels-none refl }
+
+-- one channel more
+pub channels-turn : (l : List ℕ) (cs : List Channel) (i : ℕ) (d : Channel) {l₁ l₂ : List ℕ} → i < length cs → i * 70 ≤ length l
+    → Wrote l 0 (channelsBytes (take i cs)) (i * 70) l₁ → Wrote l₁ (i * 70) (channelBytes (getD cs i d)) 70 l₂
+    → Wrote l 0 (channelsBytes (take (i + 1) cs)) ((i + 1) * 70) l₂
+channels-turn l cs i d h g p w =
+    let c = getD cs i d in
+    let vs = channelsBytes (take i cs) in
+    let e : channelsBytes (take (i + 1) cs) ≡ vs ++ channelBytes c =
+    rw (add-one, take-suc cs i d h) (channels-append (take i cs) (c ∷ []) ∙ ap (λ (x : List ℕ). vs ++ x) (channels-one c)) in
+    let z = p .size in
+    let y = w .size in
+    record {
+      bytes = w .bytes ∙ (rw (p .bytes, e) (splice-then l 0 vs (channelBytes c) (i * 70) (omega arith) (omega arith)));
+      size = rw (e, length-append) (omega arith);
+    }
+
+channel-filled : (c : Channel) → length (channelBytes c) ≡ 70 → Filled (c .writes)
+unfolding channelBytes
+channel-filled c h = omega arith
+
+-- what holds of each of the first, and of the next one
+each-more : (cs : List Channel) (i : ℕ) (d : Channel) → i < length cs → AllFilled (take i cs) → Filled (getD cs i d .writes) → AllFilled (take (suc i) cs)
+each-more [] i d h a f = absurd (omega arith)
+each-more (c ∷ cs) zero d h a f = (f, tt)
+each-more (c ∷ cs) (suc i) d h a f = (a .0, each-more cs i d (omega arith) (a .1) f)
+
+pub filled-turn : (cs : List Channel) (i : ℕ) (d : Channel) {at : ℕ} {l₁ l₂ : List ℕ} → i < length cs → AllFilled (take i cs)
+    → Wrote l₁ at (channelBytes (getD cs i d)) 70 l₂ → AllFilled (take (i + 1) cs)
+filled-turn cs i d h a w = rw add-one (each-more cs i d h a (channel-filled (getD cs i d) (w .size)))
+
+pub channels-entered : (l : List ℕ) (cs : List Channel) {l₁ : List ℕ} → length cs ≡ 4 → AllFilled (take 4 cs) → Wrote l 0 (channelsBytes (take 4 cs)) 280 l₁
+    → Entered l cs l₁
+channels-entered l cs h a w = let e = take-all 4 cs (omega arith) in record { four = h; filled = rw e at a; wrote = rw e at w }
+
+-- ---- the whole
+
+module _ (l : List ℕ) (s : State) (h : length l ≡ 414) where
+  pub state-wrote : {l₁ l₂ l₃ l₄ l₅ : List ℕ} → Wrote l 0 (channelsBytes (s .channels)) 280 l₁ → Wrote l₁ 280 (queueBytes (s .locks)) 65 l₂
+      → Wrote l₂ 345 (queueBytes (s .waiting)) 65 l₃ → l₄ ≡ splice l₃ 410 (keyBytes (s .opens)) → l₅ ≡ splice l₄ 412 (keyBytes (s .last))
+      → l₅ ≡ imageOf s
+  unfolding imageOf
+  state-wrote a b c d e =
+      let u = channelsBytes (s .channels) in
+      let v = queueBytes (s .locks) in
+      let w = queueBytes (s .waiting) in
+      let x = keyBytes (s .opens) in
+      let y = keyBytes (s .last) in
+      let p = a .size in
+      let q = b .size in
+      let r = c .size in
+      let uv : length (u ++ v) ≡ 345 = rw length-append (omega arith) in
+      let uvw : length ((u ++ v) ++ w) ≡ 410 = rw length-append (omega arith) in
+      let uvwx : length (((u ++ v) ++ w) ++ x) ≡ 412 = rw length-append (omega arith) in
+      let all : length ((((u ++ v) ++ w) ++ x) ++ y) ≡ 414 = rw length-append (omega arith) in
+      e ∙ (rw (d, c .bytes, b .bytes, a .bytes)
+      (rw (
+        splice-then l 0 u v 280 (omega arith) (omega arith),
+        splice-then l 0 (u ++ v) w 345 (omega arith) (omega arith),
+        splice-then l 0 ((u ++ v) ++ w) x 410 (omega arith) (omega arith),
+        splice-then l 0 (((u ++ v) ++ w) ++ x) y 412 (omega arith) (omega arith),
+        splice-whole l ((((u ++ v) ++ w) ++ x) ++ y) (omega arith),
+      )
+      (simp append-assoc)))
+
+pub state-parts : (bs : List ℕ) {a b c d : Channel} {p q : Queue} {m n : ℕ} → a ≡ channelAt bs 0 → b ≡ channelAt bs 70 → c ≡ channelAt bs 140 → d ≡ channelAt bs 210
+    → p ≡ queueAt bs 280 → q ≡ queueAt bs 345 → m ≡ keyAt bs 410 → n ≡ keyAt bs 412
+    → _≡_ {A = State} (record { channels = a ∷ b ∷ c ∷ d ∷ []; locks = p; waiting = q; opens = m; last = n }) (stateOf bs)
+unfolding stateOf
+state-parts bs e f g h j k m n i = record { channels = e i ∷ f i ∷ g i ∷ h i ∷ []; locks = j i; waiting = k i; opens = m i; last = n i }

@@ -1,0 +1,145 @@
+-- The state as 414 bytes that a caller keeps: four channels of 70 bytes from 0 on, the locks at 280, the waiting requests at 345,
+-- the open count at 410 and the last key at 412. Assumes nothing.
+--
+--   CHANNEL, LOCKS, WAITING, OPENS, LAST, STATE   the size of a channel, where the other parts begin, the size of all
+--   markOf b              a mark as a byte: 1 or 0
+--   keyBytes k            2 bytes, the high one first: a key, or the open count
+--   queueBytes q          65 bytes: the count, then the 64 ids
+--   channelBytes c        70 bytes: its key, its precedence as it is stored (itself plus 128), its lock mark, its stop mark, its queue
+--   channelsBytes cs      the bytes of channels, one behind the other
+--   imageOf s             the 414 bytes of a struct
+--   keyAt, queueAt, channelAt bs at   the key, the queue, the channel that stand at a place
+--   stateOf bs            the struct that 414 bytes hold
+--   isByte b, isMark b    a number that a byte can have; one that a mark can have
+--   marksAt bs at         the two marks of the channel at a place are marks
+--   isWhole bs, Whole bs  414 bytes, each below 256, and every mark of theirs is 0 or 1; others hold no struct
+--   Wrote l at vs n l′    the n bytes vs were written at a place, and every other byte is as before
+--   Filled q, AllFilled cs, Sized s   a queue, the queues of channels, a struct, of the lengths that the code's types keep
+--   Entered l cs l′       the bytes of four channels were written in front of a list
+--   Saved s l′            what `save` promises: the bytes of the struct, which hold it
+use Prim.Native.Nat.{ℕ, _+_, _*_, _/_, _%_}
+use mathlib.Core.Path.{_≡_}
+use mathlib.Core.Bool.{Bool, _&&_}
+use mathlib.Core.List.{List, [], _∷_, _++_}
+use lib.Dec.{T, eqb, ltb}
+use lib.ListN.{length, getD, take, drop}
+use Rattle.memory.specs.Splice.{splice}
+use Rattle.machine.specs.Lists.{if_then_else_, all}
+use Rattle.queue.specs.declared.Queue.{Queue}
+use Rattle.channel.specs.declared.Channel.{Channel}
+use Rattle.store.specs.declared.State.{State}
+use Rattle.store.specs.Store.{Each}
+
+abbrev pub CHANNEL : ℕ
+CHANNEL = 70
+
+abbrev pub LOCKS : ℕ
+LOCKS = 280
+
+abbrev pub WAITING : ℕ
+WAITING = 345
+
+abbrev pub OPENS : ℕ
+OPENS = 410
+
+abbrev pub LAST : ℕ
+LAST = 412
+
+abbrev pub STATE : ℕ
+STATE = 414
+
+-- ---- to bytes
+
+abbrev pub markOf : Bool → ℕ
+markOf b = if b then 1 else 0
+
+abbrev pub keyBytes : ℕ → List ℕ
+keyBytes k = (k / 256) ∷ (k % 256) ∷ []
+
+abbrev pub queueBytes : Queue → List ℕ
+queueBytes q = q .n ∷ q .ids
+
+unfoldable pub channelBytes : Channel → List ℕ
+channelBytes c = keyBytes (c .key) ++ (c .prec ∷ markOf (c .locked) ∷ markOf (c .stopped) ∷ queueBytes (c .writes))
+
+unfoldable pub channelsBytes : List Channel → List ℕ
+channelsBytes [] = []
+channelsBytes (c ∷ cs) = channelBytes c ++ channelsBytes cs
+
+unfoldable pub imageOf : State → List ℕ
+imageOf s = channelsBytes (s .channels) ++ (queueBytes (s .locks) ++ (queueBytes (s .waiting) ++ (keyBytes (s .opens) ++ keyBytes (s .last))))
+
+-- ---- from bytes
+
+abbrev pub keyAt : List ℕ → ℕ → ℕ
+keyAt bs at = getD bs at 0 * 256 + getD bs (at + 1) 0
+
+unfoldable pub queueAt : List ℕ → ℕ → Queue
+queueAt bs at = record { n = getD bs at 0; ids = take 64 (drop (at + 1) bs) }
+
+unfoldable pub channelAt : List ℕ → ℕ → Channel
+channelAt bs at =
+    record {
+      key = keyAt bs at;
+      prec = getD bs (at + 2) 0;
+      locked = eqb (getD bs (at + 3) 0) 1;
+      stopped = eqb (getD bs (at + 4) 0) 1;
+      writes = queueAt bs (at + 5);
+    }
+
+unfoldable pub stateOf : List ℕ → State
+stateOf bs =
+    record {
+      channels = channelAt bs 0 ∷ channelAt bs 70 ∷ channelAt bs 140 ∷ channelAt bs 210 ∷ [];
+      locks = queueAt bs LOCKS;
+      waiting = queueAt bs WAITING;
+      opens = keyAt bs OPENS;
+      last = keyAt bs LAST;
+    }
+
+-- ---- which bytes hold a struct
+
+abbrev pub isByte : ℕ → Bool
+isByte b = ltb b 256
+
+abbrev pub isMark : ℕ → Bool
+isMark b = ltb b 2
+
+unfoldable pub marksAt : List ℕ → ℕ → Bool
+marksAt bs at = isMark (getD bs (at + 3) 0) && isMark (getD bs (at + 4) 0)
+
+unfoldable pub isWhole : List ℕ → Bool
+isWhole bs = eqb (length bs) STATE && (marksAt bs 0 && (marksAt bs 70 && (marksAt bs 140 && (marksAt bs 210 && all isByte bs))))
+
+abbrev pub Whole : List ℕ → Type 0
+Whole bs = T (isWhole bs)
+
+-- ---- which structs have bytes
+
+abbrev pub Filled : Queue → Type 0
+Filled q = length (q .ids) ≡ 64
+
+abbrev pub AllFilled : List Channel → Type 0
+AllFilled cs = Each (λ c. Filled (c .writes)) cs
+
+pub record Sized (s : State) : Type 0 where
+  pub four : length (s .channels) ≡ 4
+  pub channels : AllFilled (s .channels)
+  pub locks : Filled (s .locks)
+  pub waiting : Filled (s .waiting)
+
+-- ---- the promises
+
+pub record Wrote (l : List ℕ) (at : ℕ) (vs : List ℕ) (n : ℕ) (l′ : List ℕ) : Type 0 where
+  pub bytes : l′ ≡ splice l at vs
+  pub size : length vs ≡ n
+
+pub record Entered (l : List ℕ) (cs : List Channel) (l′ : List ℕ) : Type 0 where
+  pub four : length cs ≡ 4
+  pub filled : AllFilled cs
+  pub wrote : Wrote l 0 (channelsBytes cs) 280 l′
+
+pub record Saved (s : State) (l′ : List ℕ) : Type 0 where
+  pub bytes : l′ ≡ imageOf s
+  pub sized : Sized s
+  pub whole : Whole l′

@@ -1,0 +1,168 @@
+/* qamhudeer.h: the audio.device arbiter for firmware in C.
+ *
+ * The arbiter keeps nothing. The caller lends four pieces of memory to each call, as a pointer and a length:
+ *   state    QAMHUDEER_STATE_SIZE bytes, kept from call to call
+ *   table    QAMHUDEER_TABLE_SIZE bytes, the 64 request blocks, kept from call to call
+ *   replies  QAMHUDEER_REPLIES_SIZE bytes, room for 64 replies
+ *   answer   QAMHUDEER_ANSWER_SIZE bytes
+ * They must not overlap. No pointer is null, also where its length is 0. There is no other duty: whatever the bytes are and
+ * whatever the numbers, each function returns, and each comment below says what every byte that was lent holds afterwards.
+ * That is proved of the code (crates/boundary).
+ */
+#ifndef QAMHUDEER_H
+#define QAMHUDEER_H
+
+#include <stddef.h>
+#include <stdint.h>
+
+#ifdef __cplusplus
+extern "C" {
+#endif
+
+/* ---- sizes in bytes */
+
+#define QAMHUDEER_STATE_SIZE 414
+#define QAMHUDEER_TABLE_SIZE 1472
+#define QAMHUDEER_REPLIES_SIZE 384
+#define QAMHUDEER_ANSWER_SIZE 6
+#define QAMHUDEER_REPLY_SIZE 6
+#define QAMHUDEER_CHANNEL_SIZE 70
+
+/* ---- what a caller may read of a state. Numbers of two bytes have the high one first. */
+
+/* Channel c, of 0 to 3, begins at c * QAMHUDEER_CHANNEL_SIZE: its key (two bytes; 0: the channel is free), its precedence
+ * plus 128, its lock mark, its stop mark (each 0 or 1), then its queue of writes. */
+#define QAMHUDEER_CHANNEL_KEY 0
+#define QAMHUDEER_CHANNEL_PRECEDENCE 2
+#define QAMHUDEER_CHANNEL_LOCKED 3
+#define QAMHUDEER_CHANNEL_STOPPED 4
+#define QAMHUDEER_CHANNEL_WRITES 5
+/* A queue is its count, then 64 request ids, front first, with zeros behind them. */
+#define QAMHUDEER_OFFSET_OF_LOCKS 280
+#define QAMHUDEER_OFFSET_OF_WAITING 345
+#define QAMHUDEER_OFFSET_OF_OPENS 410
+#define QAMHUDEER_OFFSET_OF_LAST 412
+
+/* ---- an answer */
+
+#define QAMHUDEER_ANSWER_OUTSTANDING 0 /* 1: replied when it ends; 0: done */
+#define QAMHUDEER_ANSWER_ERROR 1
+#define QAMHUDEER_ANSWER_MAP 2
+#define QAMHUDEER_ANSWER_KEY 3   /* two bytes */
+#define QAMHUDEER_ANSWER_EXTRA 5 /* CMD_READ's id; ABORT: 1 aborted, 0 not; else 255 */
+
+/* ---- a reply: record n begins at n * QAMHUDEER_REPLY_SIZE */
+
+#define QAMHUDEER_REPLY_ID 0
+#define QAMHUDEER_REPLY_COMMAND 1
+#define QAMHUDEER_REPLY_ERROR 2
+#define QAMHUDEER_REPLY_MAP 3
+#define QAMHUDEER_REPLY_KEY 4 /* two bytes */
+
+/* An error byte as a number: the errors below are negative, the refusals are not. */
+#define QAMHUDEER_ERROR(byte) ((byte) > 127 ? (int)(byte)-256 : (int)(byte))
+
+/* ---- operations: these, or the number of a command */
+
+#define QAMHUDEER_OPEN 0xF0
+#define QAMHUDEER_CLOSE 0xF1
+#define QAMHUDEER_ABORT 0xF2
+#define QAMHUDEER_EVENT 0xF3 /* the front write of the lowest channel of the map has ended */
+
+/* exec/io.h */
+#ifndef CMD_RESET
+#define CMD_RESET 1
+#define CMD_READ 2
+#define CMD_WRITE 3
+#define CMD_UPDATE 4
+#define CMD_CLEAR 5
+#define CMD_STOP 6
+#define CMD_START 7
+#define CMD_FLUSH 8
+#endif
+#ifndef IOF_QUICK
+#define IOF_QUICK 1
+#endif
+
+/* devices/audio.h */
+#ifndef ADCMD_ALLOCATE
+#define ADCMD_FREE 9
+#define ADCMD_SETPREC 10
+#define ADCMD_LOCK 13
+#define ADCMD_ALLOCATE 32
+#endif
+#ifndef ADIOF_NOWAIT
+#define ADIOF_NOWAIT 64
+#endif
+
+/* ---- errors */
+
+/* exec/errors.h */
+#ifndef IOERR_OPENFAIL
+#define IOERR_OPENFAIL (-1)
+#define IOERR_ABORTED (-2)
+#define IOERR_NOCMD (-3)
+#define IOERR_BADLENGTH (-4)
+#endif
+#ifndef IOERR_BADADDRESS
+#define IOERR_BADADDRESS (-5)
+#endif
+
+/* devices/audio.h */
+#ifndef ADIOERR_NOALLOCATION
+#define ADIOERR_NOALLOCATION (-10)
+#define ADIOERR_ALLOCFAILED (-11)
+#define ADIOERR_CHANNELSTOLEN (-12)
+#endif
+
+/* Refusals of the arbiter's own; the state is as before. */
+#define QAMHUDEER_UNSOUND 1 /* the state and the table that were lent are not sound */
+#define QAMHUDEER_NOTOPEN 2 /* CLOSE or a command at open count 0 */
+#define QAMHUDEER_INUSE 3   /* the id is outstanding */
+#define QAMHUDEER_BADID 4   /* an id above 63 */
+#define QAMHUDEER_NOROOM 5  /* the reply list has room for fewer than 64 replies */
+
+/* The result of a call whose answer has no room. */
+#define QAMHUDEER_UNANSWERED 255
+
+/* ---- functions */
+
+/* A fresh device. Where state_len is QAMHUDEER_STATE_SIZE and table_len is QAMHUDEER_TABLE_SIZE: returns 0, the state is
+ * that of a fresh device, and each byte of the table is 0. Otherwise: returns 1, and no byte has changed. */
+uint8_t qamhudeer_fresh(uint8_t *state, size_t state_len, uint8_t *table, size_t table_len);
+
+/* One call. The precedence is in two's complement, so that -128 to 127 are handed over as they are.
+ *
+ * Where answer_len is not QAMHUDEER_ANSWER_SIZE: returns QAMHUDEER_UNANSWERED, and no byte has changed.
+ *
+ * Otherwise the answer holds six new bytes, and the result is the number of replies, at most 64. They stand in the list from
+ * its first byte on, and the bytes behind them have not changed.
+ *
+ * Where the state's bytes hold no state (another length, or a mark that is neither 0 nor 1), and where state and table are not
+ * sound: the answer is done, QAMHUDEER_UNSOUND, map 0, the key given, 255; there are no replies; no other byte has changed.
+ *
+ * Where they are sound: answer, replies, state and table are those of the rules, and state and table are sound again. After a
+ * refusal (1 to 5, -1, -3, -4, -5) no byte of state and table has changed. */
+size_t qamhudeer_call(uint8_t op, uint8_t id, uint8_t flags, uint8_t map, uint8_t prec, uint16_t key,
+                      const uint8_t *combos, size_t combos_len,
+                      uint8_t *state, size_t state_len,
+                      uint8_t *table, size_t table_len,
+                      uint8_t *replies, size_t replies_len,
+                      uint8_t *answer, size_t answer_len);
+
+/* The sizes and offsets above, as the library has them: each returns the number of its name. */
+size_t qamhudeer_state_size(void);
+size_t qamhudeer_table_size(void);
+size_t qamhudeer_replies_size(void);
+size_t qamhudeer_answer_size(void);
+size_t qamhudeer_channel_size(void);
+size_t qamhudeer_offset_of_locks(void);
+size_t qamhudeer_offset_of_waiting(void);
+size_t qamhudeer_offset_of_opens(void);
+size_t qamhudeer_offset_of_last(void);
+
+#ifdef __cplusplus
+}
+#endif
+
+#endif

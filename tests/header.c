@@ -1,0 +1,105 @@
+/* The numbers of qamhudeer.h are those of the library. Writes nothing and returns 0 where they are. */
+#include <stdio.h>
+#include <string.h>
+
+#include "qamhudeer.h"
+
+static int wrong;
+
+static void same(const char *name, size_t header, size_t library)
+{
+    if (header != library) {
+        printf("%s: %lu in the header, %lu in the library\n", name, (unsigned long)header, (unsigned long)library);
+        wrong = 1;
+    }
+}
+
+/* What the comments say of a state's bytes: channel 2 with key 258 and precedence 5, locked, stopped, with a write. */
+static void places(void)
+{
+    static uint8_t state[QAMHUDEER_STATE_SIZE], table[QAMHUDEER_TABLE_SIZE], replies[QAMHUDEER_REPLIES_SIZE], answer[QAMHUDEER_ANSWER_SIZE];
+    static const uint8_t combos[1] = {4};
+    const uint8_t *c = state + 2 * QAMHUDEER_CHANNEL_SIZE;
+#define CALL(op, id, map, prec, key, combos, n)                                                                                  \
+    qamhudeer_call(op, id, 0, map, prec, key, combos, n, state, sizeof state, table, sizeof table, replies, sizeof replies, answer, sizeof answer)
+    same("fresh", 0, qamhudeer_fresh(state, sizeof state, table, sizeof table));
+    CALL(QAMHUDEER_OPEN, 0, 0, 0, 258, combos, 0);
+    CALL(ADCMD_ALLOCATE, 1, 0, 5, 258, combos, 1);
+    CALL(CMD_STOP, 2, 4, 0, 258, combos, 0);
+    CALL(CMD_WRITE, 3, 4, 0, 258, combos, 0);
+    CALL(ADCMD_LOCK, 9, 4, 0, 258, combos, 0);
+    CALL(ADCMD_ALLOCATE, 11, 0, 0, 0, combos, 1);
+    CALL(QAMHUDEER_OPEN, 0, 0, 0, 0, combos, 0);
+    same("key", 258, 256u * c[QAMHUDEER_CHANNEL_KEY] + c[QAMHUDEER_CHANNEL_KEY + 1]);
+    same("precedence", 133, c[QAMHUDEER_CHANNEL_PRECEDENCE]);
+    same("locked", 1, c[QAMHUDEER_CHANNEL_LOCKED]);
+    same("stopped", 1, c[QAMHUDEER_CHANNEL_STOPPED]);
+    same("writes", 1, c[QAMHUDEER_CHANNEL_WRITES]);
+    same("front write", 3, c[QAMHUDEER_CHANNEL_WRITES + 1]);
+    same("locks", 1, state[QAMHUDEER_OFFSET_OF_LOCKS]);
+    same("oldest lock", 9, state[QAMHUDEER_OFFSET_OF_LOCKS + 1]);
+    same("waiting", 1, state[QAMHUDEER_OFFSET_OF_WAITING]);
+    same("first waiting", 11, state[QAMHUDEER_OFFSET_OF_WAITING + 1]);
+    same("open count", 2, 256u * state[QAMHUDEER_OFFSET_OF_OPENS] + state[QAMHUDEER_OFFSET_OF_OPENS + 1]);
+    same("last key", 1, 256u * state[QAMHUDEER_OFFSET_OF_LAST] + state[QAMHUDEER_OFFSET_OF_LAST + 1]);
+}
+
+/* What is refused changes nothing but the answer. */
+static void refusals(void)
+{
+    static uint8_t state[QAMHUDEER_STATE_SIZE], table[QAMHUDEER_TABLE_SIZE], replies[QAMHUDEER_REPLIES_SIZE], answer[QAMHUDEER_ANSWER_SIZE + 1];
+    static uint8_t state0[sizeof state], table0[sizeof table], replies0[sizeof replies];
+    static const uint8_t unsound[6] = {0, QAMHUDEER_UNSOUND, 0, 1, 2, 255};
+    static const uint8_t zeros[sizeof answer] = {0};
+#define KEEP() (memcpy(state0, state, sizeof state), memcpy(table0, table, sizeof table), memcpy(replies0, replies, sizeof replies))
+#define KEPT(name)                                                                                                               \
+    same(name, 0, (size_t)(memcmp(state0, state, sizeof state) || memcmp(table0, table, sizeof table) || memcmp(replies0, replies, sizeof replies)))
+    same("fresh", 0, qamhudeer_fresh(state, sizeof state, table, sizeof table));
+    memset(replies, 77, sizeof replies);
+    KEEP();
+    same("fresh, state too short", 1, qamhudeer_fresh(state, sizeof state - 1, table, sizeof table));
+    same("fresh, table too short", 1, qamhudeer_fresh(state, sizeof state, table, sizeof table - 1));
+    same("no room", QAMHUDEER_UNANSWERED, qamhudeer_call(QAMHUDEER_OPEN, 0, 0, 0, 0, 0, answer, 0, state, sizeof state, table, sizeof table, replies, sizeof replies, answer, 5));
+    same("too much room", QAMHUDEER_UNANSWERED, qamhudeer_call(QAMHUDEER_OPEN, 0, 0, 0, 0, 0, answer, 0, state, sizeof state, table, sizeof table, replies, sizeof replies, answer, 7));
+    same("no answer", 0, (size_t)memcmp(answer, zeros, sizeof answer));
+    KEPT("nothing moved");
+    /* a mark of 2 */
+    state[QAMHUDEER_CHANNEL_LOCKED] = 2;
+    KEEP();
+    same("mark", 0, qamhudeer_call(QAMHUDEER_OPEN, 0, 0, 0, 0, 258, zeros, 0, state, sizeof state, table, sizeof table, replies, sizeof replies, answer, 6));
+    same("unsound", 0, (size_t)memcmp(answer, unsound, 6));
+    KEPT("mark: nothing moved");
+    /* a free channel that is locked */
+    state[QAMHUDEER_CHANNEL_LOCKED] = 1;
+    memset(answer, 0, sizeof answer);
+    KEEP();
+    same("locked", 0, qamhudeer_call(QAMHUDEER_OPEN, 0, 0, 0, 0, 258, zeros, 0, state, sizeof state, table, sizeof table, replies, sizeof replies, answer, 6));
+    same("unsound", 0, (size_t)memcmp(answer, unsound, 6));
+    KEPT("locked: nothing moved");
+    /* a state that is one byte short, and a list of 63 records */
+    state[QAMHUDEER_CHANNEL_LOCKED] = 0;
+    memset(answer, 0, sizeof answer);
+    KEEP();
+    same("short", 0, qamhudeer_call(QAMHUDEER_OPEN, 0, 0, 0, 0, 258, zeros, 0, state, sizeof state - 1, table, sizeof table, replies, sizeof replies, answer, 6));
+    same("unsound", 0, (size_t)memcmp(answer, unsound, 6));
+    same("list", 0, qamhudeer_call(QAMHUDEER_OPEN, 0, 0, 0, 0, 258, zeros, 0, state, sizeof state, table, sizeof table, replies, 383, answer, 6));
+    same("list", QAMHUDEER_NOROOM, answer[QAMHUDEER_ANSWER_ERROR]);
+    KEPT("short: nothing moved");
+}
+
+int main(void)
+{
+    same("state", QAMHUDEER_STATE_SIZE, qamhudeer_state_size());
+    same("table", QAMHUDEER_TABLE_SIZE, qamhudeer_table_size());
+    same("replies", QAMHUDEER_REPLIES_SIZE, qamhudeer_replies_size());
+    same("answer", QAMHUDEER_ANSWER_SIZE, qamhudeer_answer_size());
+    same("channel", QAMHUDEER_CHANNEL_SIZE, qamhudeer_channel_size());
+    same("locks", QAMHUDEER_OFFSET_OF_LOCKS, qamhudeer_offset_of_locks());
+    same("waiting", QAMHUDEER_OFFSET_OF_WAITING, qamhudeer_offset_of_waiting());
+    same("opens", QAMHUDEER_OFFSET_OF_OPENS, qamhudeer_offset_of_opens());
+    same("last", QAMHUDEER_OFFSET_OF_LAST, qamhudeer_offset_of_last());
+    same("a reply list of 64", QAMHUDEER_REPLIES_SIZE, 64 * QAMHUDEER_REPLY_SIZE);
+    places();
+    refusals();
+    return wrong;
+}
