@@ -32,7 +32,7 @@ serve-requires : tie.Need-serve-requires
 serve-requires c κs = let r = c .before .before .before .before .before .before .read .ensures in let e = c .before .before .before .before .read2 .given .1 in let k = reads-length r e refl in let b = asked-frame r e .few in (c .before .before .before .before .before .before .before .before .before .before .pre, omega arith)
 
 tell-requires : tie.Need-tell-requires
-tell-requires c κs = let v = c .before .before .before .before .before .before in served-few (v .before .before .before .before .before .before .before .before .before .before .before .pre) (v .serve .ensures)
+tell-requires c κs = let v = c .before .before .before .before .before .before in let k = served-few (v .before .before .before .before .before .before .before .before .before .before .before .pre) (v .serve .ensures) in omega arith
 
 same-length : tie.Need-same-length
 same-length c = search needs
