@@ -1,26 +1,28 @@
-// What a call is given beside the request, and the ways to spoil it. Assumes nothing.
+// What a call is given beside the request, and the ways to change it. Assumes nothing.
 use crate::same;
 use crate::show;
-use answers::Answer;
+use crate::words;
+use crate::words::at;
 use answers::Outcome;
 use answers::Request;
 use channel::Channel;
 use queue::Queue;
 use refusals::Op;
 use store::State;
-ghost use Prim.Native.Nat.{_≤_, _<_};
+ghost use Prim.Native.Nat.{_≤_};
 
-// A state, the bytes of which the first `lent` are lent as the table, and how many bytes of reply list are lent.
+// A state, the bytes of which the first `lent` are lent as the table, how many bytes of reply list are lent, and how many zeros
+// stand in the place of the frame's combinations, if any do.
 pub struct Scene {
     pub state: State,
     pub table: [u8; 1500],
     pub lent: usize,
     pub room: usize,
+    pub zeros: usize,
 }
 
 // ---- a request
 
-// The operation that a number stands for in the log.
 fn op_of(number: u8) -> Op {
     match number {
         0xF0 => Op::Open,
@@ -31,23 +33,25 @@ fn op_of(number: u8) -> Op {
     }
 }
 
-// The numbers of a frame in the log's order. A precedence from 0 to 127 stands as itself plus 128.
-pub fn ask(command: u8, id: u8, flags: u8, map: u8, prec: u8, key: u16) -> Request
-    requires { ⌜ prec < 128 ⌝ }
-{
+// A precedence stands as itself plus 128.
+fn prec_of(b: u8) -> u8 {
+    if b < 128 { b + 128 } else { b - 128 }
+}
+
+fn ask(w: &[u8]) -> Request {
     Request {
-        command,
-        id,
-        flags,
-        map,
-        prec: prec + 128,
-        key,
+        command: at(w, 0),
+        id: at(w, 1),
+        flags: at(w, 2),
+        map: at(w, 3),
+        prec: prec_of(at(w, 4)),
+        key: words::pair(at(w, 5), at(w, 6)),
     }
 }
 
 // ---- a call
 
-// No more than what there is.
+// No more than there is.
 fn least(n: usize, most: usize) -> usize
     ensures { λ r. ⌜ r ≤ most ⌝ }
 {
@@ -67,60 +71,39 @@ fn pattern() -> [u8; 400] {
 
 // The call, on the first bytes of the table and of the reply list.
 fn cut(
-    r: Request,
     s: State,
-    combos: &[u8],
+    w: &[u8],
+    n: usize,
     table: &mut [u8],
     lent: usize,
     list: &mut [u8],
     room: usize,
 ) -> Outcome {
-    let n = least(lent, table.len());
+    let k = least(lent, table.len());
     let m = least(room, list.len());
+    let r = ask(w);
     let op = op_of(r.command);
-    arbiter::call(op, r, s, combos, &mut table[..n], &mut list[..m])
+    arbiter::call(
+        op,
+        r,
+        s,
+        words::part(w, 7, n),
+        &mut table[..k],
+        &mut list[..m],
+    )
 }
 
 // The same with arrays, whose lengths need no proof.
 fn make(
-    r: Request,
     s: State,
-    combos: &[u8],
+    w: &[u8],
+    n: usize,
     table: &mut [u8; 1500],
     lent: usize,
     list: &mut [u8; 400],
     room: usize,
 ) -> Outcome {
-    cut(r, s, combos, table, lent, list, room)
-}
-
-fn tell_answer(a: Answer) {
-    if a.outstanding {
-        show::text(b": A1");
-    } else {
-        show::text(b": A0");
-    }
-    show::signed(a.error);
-    show::number(b" map ", a.map as u16);
-    show::number(b" key ", a.key);
-    show::number(b" last ", a.extra as u16);
-}
-
-// Whether the state and the table are as before the call, and the reply list beyond the replies.
-fn tell_moved(state: bool, table: bool, list: bool) {
-    if state && table && list {
-        show::text(b"; nothing moved");
-    }
-    if !state {
-        show::text(b"; state moved");
-    }
-    if !table {
-        show::text(b"; table moved");
-    }
-    if !list {
-        show::text(b"; list moved");
-    }
-    show::text(b"\n");
+    cut(s, w, n, table, lent, list, room)
 }
 
 fn tell(
@@ -132,51 +115,65 @@ fn tell(
     list: &[u8; 400],
 ) {
     let t = d.state;
-    tell_answer(d.answer);
-    show::amount(b"; replies ", d.n);
+    show::text(b": ");
+    show::answer(d.answer);
+    show::text(b", replies ");
+    show::count(d.n);
     show::records(list, d.n);
-    let behind = least(d.n, 66) * 6;
-    tell_moved(
+    let beyond = least(d.n, 66) * 6;
+    show::moved(
         same::states(s, t),
         same::bytes(before, table, 0),
-        same::bytes(clean, list, behind),
+        same::bytes(clean, list, beyond),
     );
 }
 
+// ---- what a word says
+
+// Where byte k of an id's entry stands in the table.
+fn place(id: u8, k: u8) -> usize {
+    words::large(id) * 23 + words::large(k)
+}
+
+// A queue with any count, and any ids at its first three places and its last.
+fn queue(w: &[u8]) -> Queue {
+    let mut ids = [0u8; 64];
+    ids[0] = at(w, 2);
+    ids[1] = at(w, 3);
+    ids[2] = at(w, 4);
+    ids[63] = at(w, 5);
+    Queue { n: at(w, 1), ids }
+}
+
 impl Scene {
-    pub fn new(state: State) -> Self {
+    pub fn new() -> Self {
+        let state = State::fresh();
         Scene {
             state,
             table: [0u8; 1500],
             lent: 1472,
             room: 390,
+            zeros: 0,
         }
     }
 
-    // Makes the call and hands on what it left.
-    pub fn quiet(self, r: Request) -> Self {
-        let s = self.state;
-        let mut table = self.table;
-        let mut list = pattern();
-        let d = make(r, s, b"", &mut table, self.lent, &mut list, self.room);
-        let t = d.state;
-        Scene {
-            state: t,
-            table,
-            lent: self.lent,
-            room: self.room,
+    // How many bytes a word has, with the zeros that are asked for.
+    pub fn length(self, n: usize) -> usize {
+        if self.zeros == 0 {
+            n
+        } else {
+            least(self.zeros, 1000000) + 7
         }
     }
 
-    // The same, and writes its line.
-    pub fn call(self, name: &[u8], r: Request, combos: &[u8]) -> Self {
+    // Makes the call of a frame and the combinations behind it, n bytes, says what came of it, and hands on what it left.
+    pub fn call(self, w: &[u8], n: usize) -> Self {
         let s = self.state;
         let before = self.table;
         let mut table = self.table;
         let clean = pattern();
         let mut list = clean;
-        let d = make(r, s, combos, &mut table, self.lent, &mut list, self.room);
-        show::text(name);
+        let d = make(s, w, n, &mut table, self.lent, &mut list, self.room);
         tell(d, s, &before, &table, &clean, &list);
         let t = d.state;
         Scene {
@@ -184,33 +181,17 @@ impl Scene {
             table,
             lent: self.lent,
             room: self.room,
+            zeros: 0,
         }
     }
 
-    // FREE of channels 0 and 1, which moves much where it is not refused.
-    pub fn free(self, name: &[u8]) {
-        self.call(name, ask(9, 63, 0, 3, 0, 5), b"");
-    }
+    // ---- changes
 
-    // ---- the ways to spoil it
-
-    pub fn lending(mut self, lent: usize) -> Self {
-        self.lent = lent;
-        self
-    }
-
-    pub fn with_room(mut self, room: usize) -> Self {
-        self.room = room;
-        self
-    }
-
-    // Byte k of an id's entry.
-    pub fn with_byte(mut self, id: usize, k: usize, b: u8) -> Self
-        requires { ⌜ (id < 64) × (k < 23) ⌝ }
-    {
-        let at = id * 23 + k;
+    fn with_byte(mut self, at: usize, b: u8) -> Self {
         let mut table = self.table;
-        table[at] = b;
+        if at < 1500 {
+            table[at] = b;
+        }
         self.table = table;
         self
     }
@@ -220,70 +201,80 @@ impl Scene {
         self
     }
 
-    pub fn with_opens(self, opens: u16) -> Self {
+    fn with_opens(self, opens: u16) -> Self {
         let mut s = self.state;
         s.opens = opens;
         self.with_state(s)
     }
 
-    pub fn with_locks(self, q: Queue) -> Self {
-        let mut s = self.state;
-        s.locks = q;
-        self.with_state(s)
-    }
-
-    pub fn with_waiting(self, q: Queue) -> Self {
-        let mut s = self.state;
-        s.waiting = q;
-        self.with_state(s)
-    }
-
-    fn with_channel(self, i: usize, c: Channel) -> Self
-        requires { ⌜ i < 4 ⌝ }
-    {
+    fn with_channel(self, i: usize, c: Channel) -> Self {
         let mut s = self.state;
         let mut cs = s.channels;
-        cs[i] = c;
+        if i < 4 {
+            cs[i] = c;
+        }
         s.channels = cs;
         self.with_state(s)
     }
 
-    pub fn with_writes(self, i: usize, q: Queue) -> Self
-        requires { ⌜ i < 4 ⌝ }
-    {
+    fn channel(self, i: usize) -> Channel {
         let s = self.state;
         let cs = s.channels;
-        let c = cs[i];
-        self.with_channel(i, c.with_writes(q))
+        if i < 4 { cs[i] } else { Channel::unused() }
     }
 
-    // The numbers of a channel, but for its writes.
-    pub fn with_numbers(self, i: usize, key: u16, prec: u8, locked: bool, stopped: bool) -> Self
-        requires { ⌜ i < 4 ⌝ }
-    {
-        let s = self.state;
-        let cs = s.channels;
-        let c = cs[i];
+    // The writes of a channel, the locks at place 4, the waiting requests at any other.
+    fn with_queue(self, place: usize, q: Queue) -> Self {
+        if place < 4 {
+            let c = self.channel(place);
+            return self.with_channel(place, c.with_writes(q));
+        }
+        let mut s = self.state;
+        if place == 4 {
+            s.locks = q;
+        } else {
+            s.waiting = q;
+        }
+        self.with_state(s)
+    }
+
+    fn with_numbers(self, i: usize, w: &[u8]) -> Self {
+        let c = self.channel(i);
         let writes = c.writes;
-        self.with_channel(
-            i,
-            Channel {
-                key,
-                prec,
-                locked,
-                stopped,
-                writes,
-            },
-        )
+        let d = Channel {
+            key: words::pair(at(w, 1), at(w, 2)),
+            prec: prec_of(at(w, 3)),
+            locked: at(w, 4) == 1,
+            stopped: at(w, 5) == 1,
+            writes,
+        };
+        self.with_channel(i, d)
     }
-}
 
-// A queue with any count, and any ids at its first three places and its last.
-pub fn queue(n: u8, a: u8, b: u8, c: u8, last: u8) -> Queue {
-    let mut ids = [0u8; 64];
-    ids[0] = a;
-    ids[1] = b;
-    ids[2] = c;
-    ids[63] = last;
-    Queue { n, ids }
+    // The sizes of what is lent.
+    fn with_size(mut self, kind: u8, n: usize) -> Self {
+        if kind == b'T' {
+            self.lent = n;
+        }
+        if kind == b'R' {
+            self.room = n;
+        }
+        if kind == b'Z' {
+            self.zeros = n;
+        }
+        self
+    }
+
+    // The change that a word says.
+    pub fn changed(self, kind: u8, w: &[u8]) -> Self {
+        let first = at(w, 0);
+        match kind {
+            b'N' => Scene::new(),
+            b'B' => self.with_byte(place(first, at(w, 1)), at(w, 2)),
+            b'C' => self.with_numbers(words::large(first), w),
+            b'W' => self.with_queue(words::large(first), queue(w)),
+            b'O' => self.with_opens(words::pair(first, at(w, 1))),
+            _ => self.with_size(kind, words::triple(first, at(w, 1), at(w, 2))),
+        }
+    }
 }

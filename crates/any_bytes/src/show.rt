@@ -1,42 +1,14 @@
-// What a trial writes: text, numbers and bytes. Assumes nothing.
-ghost use Prim.Native.Nat.{_<_, _≤_};
+// What a trial writes. Assumes nothing.
+use answers::Answer;
+ghost use Prim.Native.Nat.{_<_};
 
 pub fn text(words: &[u8]) {
     io::write_all(1, words);
 }
 
-fn wide(x: u16) -> u64 {
-    x as u64
-}
-
-fn count(n: usize) -> u64 {
-    n as u64
-}
-
-// Words, then a number.
-pub fn number(words: &[u8], n: u16) {
-    text(words);
-    io::print_decimal(1, wide(n));
-}
-
-pub fn amount(words: &[u8], n: usize) {
-    text(words);
-    io::print_decimal(1, count(n));
-}
-
-fn below_zero(e: u8) -> u16
-    requires { ⌜ 128 ≤ e ⌝ }
-{
-    256 - e as u16
-}
-
-// An error number. Those from 128 on are the ones below 0.
-pub fn signed(e: u8) {
-    if e < 128 {
-        number(b" ", e as u16);
-        return;
-    }
-    number(b" -", below_zero(e));
+// How many replies there are.
+pub fn count(n: usize) {
+    io::print_decimal(1, n as u64);
 }
 
 fn digit(n: u8) -> u8
@@ -63,4 +35,34 @@ pub fn records(list: &[u8], n: usize) {
         byte(list[i]);
         i += 1;
     }
+}
+
+fn kind(outstanding: bool) -> u8 {
+    if outstanding { 0xA1 } else { 0xA0 }
+}
+
+// An answer as the log has it.
+pub fn answer(a: Answer) {
+    byte(kind(a.outstanding));
+    byte(a.error);
+    byte(a.map);
+    byte((a.key / 256) as u8);
+    byte((a.key % 256) as u8);
+    byte(a.extra);
+}
+
+fn unless(same: bool, words: &[u8]) {
+    if !same {
+        text(words);
+    }
+}
+
+// Whether the state and the table are as before the call, and the reply list beyond the replies.
+pub fn moved(state: bool, table: bool, list: bool) {
+    unless(state, b", state moved");
+    unless(table, b", table moved");
+    unless(list, b", list moved");
+    let some = !(state && table && list);
+    unless(some, b", nothing moved");
+    text(b"\n");
 }

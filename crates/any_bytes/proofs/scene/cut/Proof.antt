@@ -11,20 +11,26 @@ least-requires c κs = search needs
 least-requires-2 : tie.Need-least-requires-2
 least-requires-2 c κs = search needs
 
+ask-requires : tie.Need-ask-requires
+ask-requires c κs = search needs
+
 op-of-requires : tie.Need-op-of-requires
 op-of-requires c κs = search needs
+
+part-requires : tie.Need-part-requires
+part-requires c κs = search needs
 
 slice-relend-prefix-call : tie.Need-slice-relend-prefix-call
 slice-relend-prefix-call c = search needs
 
 slice-aggregate-call : tie.Need-slice-aggregate-call
-slice-aggregate-call c = sym (length-take-le _ _ (c .before .before .before .least .ensures))
+slice-aggregate-call c = sym (length-take-le _ _ (c .before .before .before .before .before .least .ensures))
 
 slice-relend-prefix-call-2 : tie.Need-slice-relend-prefix-call-2
 slice-relend-prefix-call-2 c = search needs
 
 slice-aggregate-call-2 : tie.Need-slice-aggregate-call-2
-slice-aggregate-call-2 c = sym (length-take-le _ _ (c .before .before .before .least2 .ensures))
+slice-aggregate-call-2 c = sym (length-take-le _ _ (c .before .before .before .before .before .least2 .ensures))
 
 call-requires : tie.Need-call-requires
 call-requires c κs = search needs
@@ -44,7 +50,9 @@ cut-spec =
     (tie.spec
     least-requires
     least-requires-2
+    ask-requires
     op-of-requires
+    part-requires
     slice-relend-prefix-call
     slice-aggregate-call
     slice-relend-prefix-call-2
