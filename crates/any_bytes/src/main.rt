@@ -5,7 +5,7 @@
 //   N                     a fresh device
 //   B id k b              byte k of the id's entry in the table
 //   C i key prec l s      the numbers of channel i: key (two bytes), precedence, lock mark, stop mark
-//   W i n a b c z         the writes of channel i (the locks at 4, the waiting requests at 5): count, first three ids, last one
+//   W i n k id            the writes of channel i (the locks at 4, the waiting requests at 5): their count, and the id at place k
 //   O n                   the open count (two bytes)
 //   T n, R n              how many bytes of the table and of the reply list are lent (three bytes)
 //   Z n                   so many combinations 0, in the place of the frame's (three bytes)

@@ -135,13 +135,13 @@ fn place(id: u8, k: u8) -> usize {
     words::large(id) * 23 + words::large(k)
 }
 
-// A queue with any count, and any ids at its first three places and its last.
-fn queue(w: &[u8]) -> Queue {
-    let mut ids = [0u8; 64];
-    ids[0] = at(w, 2);
-    ids[1] = at(w, 3);
-    ids[2] = at(w, 4);
-    ids[63] = at(w, 5);
+// The queue with another count, and another id at a place.
+fn edited(q: Queue, w: &[u8]) -> Queue {
+    let mut ids = q.ids;
+    let k = words::large(at(w, 2));
+    if k < 64 {
+        ids[k] = at(w, 3);
+    }
     Queue { n: at(w, 1), ids }
 }
 
@@ -224,6 +224,18 @@ impl Scene {
     }
 
     // The writes of a channel, the locks at place 4, the waiting requests at any other.
+    fn queue(self, place: usize) -> Queue {
+        let s = self.state;
+        let c = self.channel(place);
+        let writes = c.writes;
+        let locks = s.locks;
+        let waiting = s.waiting;
+        if place < 4 {
+            return writes;
+        }
+        if place == 4 { locks } else { waiting }
+    }
+
     fn with_queue(self, place: usize, q: Queue) -> Self {
         if place < 4 {
             let c = self.channel(place);
@@ -236,6 +248,11 @@ impl Scene {
             s.waiting = q;
         }
         self.with_state(s)
+    }
+
+    fn with_edit(self, place: usize, w: &[u8]) -> Self {
+        let q = self.queue(place);
+        self.with_queue(place, edited(q, w))
     }
 
     fn with_numbers(self, i: usize, w: &[u8]) -> Self {
@@ -272,7 +289,7 @@ impl Scene {
             b'N' => Scene::new(),
             b'B' => self.with_byte(place(first, at(w, 1)), at(w, 2)),
             b'C' => self.with_numbers(words::large(first), w),
-            b'W' => self.with_queue(words::large(first), queue(w)),
+            b'W' => self.with_edit(words::large(first), w),
             b'O' => self.with_opens(words::pair(first, at(w, 1))),
             _ => self.with_size(kind, words::triple(first, at(w, 1), at(w, 2))),
         }
