@@ -1,0 +1,297 @@
+// What a call is given beside the request, and the ways to change it. Assumes nothing.
+use crate::same;
+use crate::show;
+use crate::words;
+use crate::words::at;
+use answers::Outcome;
+use answers::Request;
+use channel::Channel;
+use queue::Queue;
+use refusals::Op;
+use store::State;
+ghost use Prim.Native.Nat.{_≤_};
+
+// A state, the bytes of which the first `lent` are lent as the table, how many bytes of reply list are lent, and how many zeros
+// stand in the place of the frame's combinations, if any do.
+pub struct Scene {
+    pub state: State,
+    pub table: [u8; 1500],
+    pub lent: usize,
+    pub room: usize,
+    pub zeros: usize,
+}
+
+// ---- a request
+
+fn op_of(number: u8) -> Op {
+    match number {
+        0xF0 => Op::Open,
+        0xF1 => Op::Close,
+        0xF2 => Op::Abort,
+        0xF3 => Op::Event,
+        _ => Op::Command,
+    }
+}
+
+// A precedence stands as itself plus 128.
+fn prec_of(b: u8) -> u8 {
+    if b < 128 { b + 128 } else { b - 128 }
+}
+
+fn ask(w: &[u8]) -> Request {
+    Request {
+        command: at(w, 0),
+        id: at(w, 1),
+        flags: at(w, 2),
+        map: at(w, 3),
+        prec: prec_of(at(w, 4)),
+        key: words::pair(at(w, 5), at(w, 6)),
+    }
+}
+
+// ---- a call
+
+// No more than there is.
+fn least(n: usize, most: usize) -> usize
+    ensures { λ r. ⌜ r ≤ most ⌝ }
+{
+    if n < most { n } else { most }
+}
+
+// A reply list in which no byte is like its neighbours.
+fn pattern() -> [u8; 400] {
+    let mut list = [0u8; 400];
+    let mut i: usize = 0;
+    while i < 400 {
+        list[i] = (i % 251) as u8;
+        i += 1;
+    }
+    list
+}
+
+// The call, on the first bytes of the table and of the reply list.
+fn cut(
+    s: State,
+    w: &[u8],
+    n: usize,
+    table: &mut [u8],
+    lent: usize,
+    list: &mut [u8],
+    room: usize,
+) -> Outcome {
+    let k = least(lent, table.len());
+    let m = least(room, list.len());
+    let r = ask(w);
+    let op = op_of(r.command);
+    arbiter::call(
+        op,
+        r,
+        s,
+        words::part(w, 7, n),
+        &mut table[..k],
+        &mut list[..m],
+    )
+}
+
+// The same with arrays, whose lengths need no proof.
+fn make(
+    s: State,
+    w: &[u8],
+    n: usize,
+    table: &mut [u8; 1500],
+    lent: usize,
+    list: &mut [u8; 400],
+    room: usize,
+) -> Outcome {
+    cut(s, w, n, table, lent, list, room)
+}
+
+fn tell(
+    d: Outcome,
+    s: State,
+    before: &[u8; 1500],
+    table: &[u8; 1500],
+    clean: &[u8; 400],
+    list: &[u8; 400],
+) {
+    let t = d.state;
+    show::text(b": ");
+    show::answer(d.answer);
+    show::text(b", replies ");
+    show::count(d.n);
+    show::records(list, d.n);
+    let beyond = least(d.n, 66) * 6;
+    show::moved(
+        same::states(s, t),
+        same::bytes(before, table, 0),
+        same::bytes(clean, list, beyond),
+    );
+}
+
+// ---- what a word says
+
+// Where byte k of an id's entry stands in the table.
+fn place(id: u8, k: u8) -> usize {
+    words::large(id) * 23 + words::large(k)
+}
+
+// The queue with another count, and another id at a place.
+fn edited(q: Queue, w: &[u8]) -> Queue {
+    let mut ids = q.ids;
+    let k = words::large(at(w, 2));
+    if k < 64 {
+        ids[k] = at(w, 3);
+    }
+    Queue { n: at(w, 1), ids }
+}
+
+impl Scene {
+    pub fn new() -> Self {
+        let state = State::fresh();
+        Scene {
+            state,
+            table: [0u8; 1500],
+            lent: 1472,
+            room: 390,
+            zeros: 0,
+        }
+    }
+
+    // How many bytes a word has, with the zeros that are asked for.
+    pub fn length(self, n: usize) -> usize {
+        if self.zeros == 0 {
+            n
+        } else {
+            least(self.zeros, 1000000) + 7
+        }
+    }
+
+    // Makes the call of a frame and the combinations behind it, n bytes, says what came of it, and hands on what it left.
+    pub fn call(self, w: &[u8], n: usize) -> Self {
+        let s = self.state;
+        let before = self.table;
+        let mut table = self.table;
+        let clean = pattern();
+        let mut list = clean;
+        let d = make(s, w, n, &mut table, self.lent, &mut list, self.room);
+        tell(d, s, &before, &table, &clean, &list);
+        let t = d.state;
+        Scene {
+            state: t,
+            table,
+            lent: self.lent,
+            room: self.room,
+            zeros: 0,
+        }
+    }
+
+    // ---- changes
+
+    fn with_byte(mut self, at: usize, b: u8) -> Self {
+        let mut table = self.table;
+        if at < 1500 {
+            table[at] = b;
+        }
+        self.table = table;
+        self
+    }
+
+    fn with_state(mut self, s: State) -> Self {
+        self.state = s;
+        self
+    }
+
+    fn with_opens(self, opens: u16) -> Self {
+        let mut s = self.state;
+        s.opens = opens;
+        self.with_state(s)
+    }
+
+    fn with_channel(self, i: usize, c: Channel) -> Self {
+        let mut s = self.state;
+        let mut cs = s.channels;
+        if i < 4 {
+            cs[i] = c;
+        }
+        s.channels = cs;
+        self.with_state(s)
+    }
+
+    fn channel(self, i: usize) -> Channel {
+        let s = self.state;
+        let cs = s.channels;
+        if i < 4 { cs[i] } else { Channel::unused() }
+    }
+
+    // The writes of a channel, the locks at place 4, the waiting requests at any other.
+    fn queue(self, place: usize) -> Queue {
+        let s = self.state;
+        let c = self.channel(place);
+        let writes = c.writes;
+        let locks = s.locks;
+        let waiting = s.waiting;
+        if place < 4 {
+            return writes;
+        }
+        if place == 4 { locks } else { waiting }
+    }
+
+    fn with_queue(self, place: usize, q: Queue) -> Self {
+        if place < 4 {
+            let c = self.channel(place);
+            return self.with_channel(place, c.with_writes(q));
+        }
+        let mut s = self.state;
+        if place == 4 {
+            s.locks = q;
+        } else {
+            s.waiting = q;
+        }
+        self.with_state(s)
+    }
+
+    fn with_edit(self, place: usize, w: &[u8]) -> Self {
+        let q = self.queue(place);
+        self.with_queue(place, edited(q, w))
+    }
+
+    fn with_numbers(self, i: usize, w: &[u8]) -> Self {
+        let c = self.channel(i);
+        let writes = c.writes;
+        let d = Channel {
+            key: words::pair(at(w, 1), at(w, 2)),
+            prec: prec_of(at(w, 3)),
+            locked: at(w, 4) == 1,
+            stopped: at(w, 5) == 1,
+            writes,
+        };
+        self.with_channel(i, d)
+    }
+
+    // The sizes of what is lent.
+    fn with_size(mut self, kind: u8, n: usize) -> Self {
+        if kind == b'T' {
+            self.lent = n;
+        }
+        if kind == b'R' {
+            self.room = n;
+        }
+        if kind == b'Z' {
+            self.zeros = n;
+        }
+        self
+    }
+
+    // The change that a word says.
+    pub fn changed(self, kind: u8, w: &[u8]) -> Self {
+        let first = at(w, 0);
+        match kind {
+            b'N' => Scene::new(),
+            b'B' => self.with_byte(place(first, at(w, 1)), at(w, 2)),
+            b'C' => self.with_numbers(words::large(first), w),
+            b'W' => self.with_edit(words::large(first), w),
+            b'O' => self.with_opens(words::pair(first, at(w, 1))),
+            _ => self.with_size(kind, words::triple(first, at(w, 1), at(w, 2))),
+        }
+    }
+}
