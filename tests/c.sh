@@ -1,22 +1,82 @@
-#!/usr/bin/env bash
-# c.sh [COMPILER]: the header by itself as C99 and as C++, the library held against it, the paper's log and the example through
-# the library. Wants the archive that `rt staticlib boundary` writes. The last line is 'ok'.
-set -euo pipefail
-cd "$(dirname "${BASH_SOURCE[0]}")/.."
-cc=${1:-cc}
-work=$(mktemp -d)
+#!/bin/sh
+# The C side: the header by itself as C99 and as C++, the library held against it, document 01's log and the example desk
+# through the library. The last line is 'N passed, M failed'. What cannot be run here is told by a line 'NOT RUN: ..', and
+# counts as neither. scripts/library.sh says which compilers are used.
+set -u
+LC_ALL=C
+export LC_ALL
+root=$(cd "$(dirname "$0")/.." && pwd -P) || exit 2
+. "$root/scripts/program.sh"
+. "$root/scripts/library.sh"
+work=$(mktemp -d) || exit 2
 trap 'rm -rf "$work"' EXIT
-strict=(-Wall -Wextra -pedantic -Werror -Iinclude)
-library=target/staticlib/libboundary.a
+trap 'exit 2' HUP INT TERM
+cd "$root" || exit 2
+passed=0
+failed=0
+left=0
 
-"$cc" -std=c99 "${strict[@]}" -fsyntax-only -x c include/qamhudeer.h
-"$cc" -std=c++11 "${strict[@]}" -fsyntax-only -x c++ include/qamhudeer.h
-for program in tests/header tests/log examples/desk; do
-    "$cc" -std=c99 -O1 "${strict[@]}" "$program.c" "$library" -o "$work/$(basename "$program")"
-done
-"$work/header"
-"$work/log" <tests/log.in >"$work/out"
-cmp "$work/out" tests/log.out
-"$work/desk" >"$work/out"
-cmp "$work/out" examples/desk.out
-echo ok
+# check NAME COMMAND..
+check() {
+    name=$1
+    shift
+    if "$@" >"$work/said" 2>&1; then
+        passed=$((passed + 1))
+    else
+        failed=$((failed + 1))
+        tail -n 20 "$work/said"
+        echo "FAILED: $name"
+    fi
+}
+
+leave() {
+    left=1
+    not_run "$*"
+}
+
+# ---- The header by itself. Only its syntax is at stake, so that the machine's own compilers will do.
+
+strict='-Wall -Wextra -pedantic -Werror -fsyntax-only'
+
+find_cxx() {
+    for cxx in ${CXX:-} g++ c++ clang++; do
+        echo 'int main() { return 0; }' | $cxx -std=c++11 -fsyntax-only -x c++ - >/dev/null 2>&1 && return
+    done
+    return 1
+}
+
+check "the header is C99" ${CC:-cc} -std=c99 $strict -x c include/qamhudeer.h
+if find_cxx || { install_packages g++ && find_cxx; }; then
+    check "the header is C++" $cxx -std=c++11 $strict -x c++ include/qamhudeer.h
+else
+    leave "the header as C++: no C++ compiler is here, and none could be installed"
+fi
+
+# ---- With the library
+
+# gives EXPECTED PROGRAM INPUT: it ends well, and writes just this.
+gives() {
+    run_c "$2" <"$3" >"$work/out" && cmp "$work/out" "$1"
+}
+
+# tried NAME EXPECTED SOURCE INPUT
+tried() {
+    made=$work/$(basename "$3" .c)
+    check "$3 compiles" link_c "$made" "$3"
+    [ ! -x "$made" ] || check "$1" gives "$2" "$made" "$4"
+}
+
+if ! library_ready; then
+    failed=$((failed + 1))
+    echo "FAILED: the library is not built"
+elif linker_ready; then
+    tried "the header's numbers are the library's" /dev/null tests/header.c /dev/null
+    tried "document 01's log through the library" tests/log.out tests/log.c tests/log.in
+    tried "the example desk" examples/desk.out examples/desk.c /dev/null
+else
+    leave "the library from C: it is for x86-64, and no $linker or no emulator is here, and none could be installed"
+fi
+
+echo "$passed passed, $failed failed"
+[ $failed -eq 0 ] || exit 1
+[ $left -eq 0 ] || exit $skipped

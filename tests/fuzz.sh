@@ -1,0 +1,249 @@
+#!/bin/sh
+# Any bytes through the library, held against the second program (tests/fuzz.c says how).
+#
+#   tests/fuzz.sh [SEED [COUNT]]   COUNT logs of 150 lines; 1 and 150 where not given
+#   tests/fuzz.sh gate             the fixed set of the gate, then the wrong programs. Its last line is 'N passed, M failed'
+#   tests/fuzz.sh wrong            only the wrong programs
+#
+# The logs are made by second/generate, in each of its styles, and lead through good states. Each of their calls is also
+# made on eight damaged copies. The same words give the same calls on every machine. At a difference it says how to make it
+# again, and shows the call.
+#
+# A wrong program has one mistake: in the second program, in the translation of states, or in a library that touches what it
+# should not. Each must be found: they show that the trial can fail.
+#
+# Where the library cannot be run it says 'NOT RUN: ..', and passes nothing.
+set -u
+LC_ALL=C
+export LC_ALL
+root=$(cd "$(dirname "$0")/.." && pwd -P) || exit 2
+. "$root/scripts/program.sh"
+. "$root/scripts/library.sh"
+work=$(mktemp -d) || exit 2
+trap 'rm -rf "$work"' EXIT
+trap 'exit 2' HUP INT TERM
+cd "$root" || exit 2
+
+styles='0 1 2 3 4 5 6 7 8 9 10 13 14 15 16'
+lines=150
+tries=8
+passed=0
+failed=0
+
+die() {
+    complain "$*"
+    exit 2
+}
+
+# finish: the gate's last line, and the status.
+finish() {
+    echo "$passed passed, $failed failed"
+    [ $failed -eq 0 ]
+    exit
+}
+
+prepare() {
+    if ! linker_ready; then
+        not_run "the library with any bytes: it is for x86-64, and no $linker or no emulator is here, and none could be installed"
+        echo "0 passed, 0 failed"
+        exit $skipped
+    fi
+    library_ready && make -C second -s ${CC:+CC="$CC"} generate >"$work/made" 2>&1 &&
+        link_c "$work/fuzz" tests/fuzz.c second/chance.c second/log.c second/arbiter.c >>"$work/made" 2>&1 && return
+    [ ! -f "$work/made" ] || cat "$work/made"
+    echo "FAILED: the library or its trial does not build"
+    echo "0 passed, 1 failed"
+    exit 1
+}
+
+# A library that hangs is a difference too.
+limit() {
+    ! command -v timeout >/dev/null || how="timeout $1"
+}
+
+# ---- The logs
+
+# log NUMBER: how this log is made; in $work/log.
+log() {
+    number=$1
+    set -- $styles
+    shift $((number % $#))
+    made="$((seed * 100000 + number)) $lines $1"
+    second/generate $made >"$work/log" || die "second/generate $made fails"
+}
+
+play_logs() {
+    at=0
+    : >"$work/counts"
+    limit 300
+    while [ $at -lt "$count" ]; do
+        log $at
+        if run_c "$work/fuzz" ${made%% *} $tries <"$work/log" >"$work/said" 2>&1; then
+            passed=$((passed + 1))
+            cat "$work/said" >>"$work/counts"
+        else
+            failed=$((failed + 1))
+            echo "DIFFERENT: log $at of seed $seed: second/generate $made | fuzz ${made%% *} $tries"
+            [ $failed -gt 3 ] || grep -v '^count' "$work/said"
+        fi
+        at=$((at + 1))
+    done
+}
+
+# What was tried, and which numbers came back.
+tell_counts() {
+    echo "seed $seed, $count logs, $failed of them with a difference:"
+    awk '
+        { name = $0; sub(/^count [0-9]* /, "", name) }
+        !(name in sum) { order[++names] = name }
+        { sum[name] += $2 }
+        END {
+            for (i = 1; i <= names; i++) {
+                name = order[i]
+                if (name !~ /^(answer|outstanding|reply) /)
+                    printf "%9d %s\n", sum[name], name
+                else if (sum[name]) {
+                    split(name, word, " ")
+                    met[word[1]] = met[word[1]] sprintf("%s %s: %d", met[word[1]] ? "," : "", word[2], sum[name])
+                }
+            }
+            printf "answers, by error:%s\noutstanding:%s\nreplies, by error:%s\n", met["answer"], met["outstanding"], met["reply"]
+        }' "$work/counts"
+}
+
+# reaches: every number that a call can give back has come back, and every kind of call was made.
+reaches() {
+    awk '
+        { name = $0; sub(/^count [0-9]* /, "", name); sum[name] += $2 }
+        END {
+            want = "answer 0,answer 1,answer 2,answer 3,answer 4,answer 5,answer -1,answer -3,answer -4,answer -5,answer -10,answer -11"
+            want = want ",outstanding 0,reply 0,reply -2,reply -3,reply -4,reply -5,reply -10,reply -11,reply -12"
+            want = want ",sound: accepted,sound: refused,sound: state or table was damaged,not sound,no state: a length or a mark"
+            want = want ",no room for an answer,fresh devices"
+            count = split(want, wanted, ",")
+            for (i = 1; i <= count; i++)
+                if (!sum[wanted[i]]) {
+                    print "never met: " wanted[i]
+                    missing = 1
+                }
+            exit missing
+        }' "$work/counts"
+}
+
+# ---- The wrong programs
+
+# must_differ NAME WORDS..: the program made from these finds a difference in one of fifteen logs.
+must_differ() {
+    name=$1
+    shift
+    if ! link_c "$work/wrong" -w "$@" >"$work/said" 2>&1; then
+        cat "$work/said"
+        failed=$((failed + 1))
+        echo "FAILED: does not build: $name"
+        return
+    fi
+    at=0
+    log 0
+    while [ $at -lt 15 ] && run_c "$work/wrong" ${made%% *} $tries <"$work/log" >"$work/said" 2>&1; do
+        at=$((at + 1))
+        log $at
+    done
+    if [ $at -lt 15 ] && grep -q '^DIFFERENT: ' "$work/said"; then
+        passed=$((passed + 1))
+        echo "found: $name: $(sed -n 's/^DIFFERENT: //p' "$work/said" | head -n 1)"
+    else
+        failed=$((failed + 1))
+        echo "FAILED: not found: $name"
+    fi
+}
+
+# wrong NAME FILE OLD NEW: in a copy of the file OLD, which stands there once, is NEW.
+wrong() {
+    OLD=$3 NEW=$4 awk '
+        at = index($0, ENVIRON["OLD"]) {
+            found++
+            $0 = substr($0, 1, at - 1) ENVIRON["NEW"] substr($0, at + length(ENVIRON["OLD"]))
+        }
+        { print }
+        END { exit found != 1 }' "$2" >"$work/tree/$2" || die "not once in $2: $3"
+    case $2 in
+    tests/*) must_differ "$1" "$work/tree/$2" "$work/chance.o" "$work/log.o" "$work/arbiter.o" ;;
+    *) must_differ "$1" "$work/tree/$2" "$work/chance.o" "$work/log.o" "$work/fuzz.o" ;;
+    esac
+}
+
+# spoilt NAME STATEMENT: a library that does this after each call.
+spoilt() {
+    {
+        echo '#include "qamhudeer.h"'
+        echo '#define WORDS uint8_t op, uint8_t id, uint8_t flags, uint8_t map, uint8_t prec, uint16_t key, \'
+        echo '    uint8_t *combos, size_t combos_len, uint8_t *state, size_t state_len, uint8_t *table, size_t table_len, \'
+        echo '    uint8_t *replies, size_t replies_len, uint8_t *answer, size_t answer_len'
+        echo 'size_t __real_qamhudeer_call(WORDS); size_t __wrap_qamhudeer_call(WORDS); volatile uint8_t seen;'
+        echo 'size_t __wrap_qamhudeer_call(WORDS) {'
+        echo '    size_t n = __real_qamhudeer_call(op, id, flags, map, prec, key, combos, combos_len, state, state_len,'
+        echo '                                     table, table_len, replies, replies_len, answer, answer_len);'
+        echo "    $2; return n; }"
+    } >"$work/spoilt.c"
+    must_differ "$1" -Wl,--wrap=qamhudeer_call "$work/spoilt.c" "$work/fuzz.o" "$work/chance.o" "$work/log.o" "$work/arbiter.o"
+}
+
+play_wrong() {
+    mkdir -p "$work/tree/tests" "$work/tree/second" && cp second/*.h "$work/tree/second" || exit 2
+    for file in tests/fuzz second/chance second/log second/arbiter; do
+        $linker -std=c99 -O2 -Iinclude -c -o "$work/${file#*/}.o" $file.c || die "$file.c does not compile"
+    done
+    limit 60
+    arbiter=second/arbiter.c
+    wrong "equal precedence steals" $arbiter 'cost < precedence && cost < least' 'cost <= precedence && cost < least'
+    wrong "the last of equal costs wins" $arbiter 'cost < precedence && cost < least' 'cost < precedence && cost <= least'
+    wrong "a stolen lock unlocks" $arbiter 'if ((map & chosen) != 0)' 'if ((map & chosen) != 0 && (a->channel[lowest_channel(map)].locked = 0, 1))'
+    wrong "65,535 is followed by 2" $arbiter 'LAST_OF_KEYS ? 1' 'LAST_OF_KEYS ? 2'
+    wrong "63 records are enough" $arbiter 'r->capacity < REQUESTS' 'r->capacity < REQUESTS - 1'
+    wrong "sixteen combinations are too many" $arbiter 'f->length > COMBINATIONS' 'f->length >= COMBINATIONS'
+    wrong "any bytes behind a queue are sound" $arbiter 'return all_zero(&list->id[list->count], REQUESTS - list->count);' 'return 1;'
+    wrong "an id in two places is sound" $arbiter 'id >= REQUESTS || met[id] ||' 'id >= REQUESTS ||'
+    wrong "any order of the waiting is sound" $arbiter 'precedence < q->precedence' 'precedence < -128'
+    wrong "257 combinations are one" tests/fuzz.c '(n < 255 ? n : 255)' 'n'
+    wrong "a table of 65 entries is a table" tests/fuzz.c 'c->piece[TABLE].length != QAMHUDEER_TABLE_SIZE' 'c->piece[TABLE].length < QAMHUDEER_TABLE_SIZE'
+    wrong "the sixteenth combination is lost" tests/fuzz.c 'memcpy(b + 7, q->combination, COMBINATIONS);' 'memcpy(b + 7, q->combination, COMBINATIONS - 1);'
+    spoilt "a byte behind the table is read" 'seen = table[table_len]'
+    spoilt "a byte before the state is written" 'state[-1] ^= 1'
+    spoilt "a byte behind the answer is written" 'answer[answer_len] ^= 1'
+    spoilt "a record behind the last is written" 'if (n < 64 && replies_len >= 384) replies[6 * n + 5] ^= 1'
+    spoilt "a combination is written" 'if (combos_len > 0) combos[0] ^= 1'
+    spoilt "an unsound table moves" 'if (answer_len == 6 && answer[1] == 1 && table_len > 9) table[9] ^= 1'
+    spoilt "an answer without room is written" 'if (n == 255 && answer_len > 0) answer[0] ^= 1'
+}
+
+# ---- The three ways to run it
+
+case ${1:-} in
+gate)
+    prepare
+    seed=1 count=150
+    play_logs
+    tell_counts
+    if reaches; then
+        passed=$((passed + 1))
+    else
+        failed=$((failed + 1))
+    fi
+    play_wrong
+    finish
+    ;;
+wrong)
+    prepare
+    seed=1
+    play_wrong
+    finish
+    ;;
+*)
+    seed=${1:-1} count=${2:-150}
+    case $seed$count in *[!0-9]*) die "usage: tests/fuzz.sh [SEED [COUNT]], tests/fuzz.sh gate or tests/fuzz.sh wrong" ;; esac
+    prepare
+    play_logs
+    tell_counts
+    [ $failed -eq 0 ]
+    ;;
+esac
