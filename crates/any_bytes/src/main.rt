@@ -1,9 +1,9 @@
 // Plays the trials of standard input through `arbiter::call`, and says of each what came of it. Assumes nothing.
 //
-// A line has words, a space apart, each a sign and the bytes that it spells, and then the trial's name. A letter changes what the
-// call is given:
+// A line has words, a space apart, each a sign and the bytes that it spells, and then the trial's name. Bytes left out are 0. A letter
+// changes what the call is given:
 //   N                     a fresh device
-//   B id k b              byte k of the id's entry in the table
+//   B id k b              byte k of the id's entry in the table; id 64 stands behind the 64 that are lent
 //   C i key prec l s      the numbers of channel i: key (two bytes), precedence, lock mark, stop mark
 //   W i n k id            the writes of channel i (the locks at 4, the waiting requests at 5): their count, and the id at place k
 //   O n                   the open count (two bytes)
@@ -12,7 +12,7 @@
 // The last word is the call, a frame as in the log but without its length:
 //   = frame               the next line starts from what the call left
 //   ! frame               the next line starts from where this one did
-// Lines that begin with anything else are remarks.
+// A line that begins with # is a remark.
 //
 // It writes the name, the answer and the replies as the log has them, and what has moved: the state, the table, or the reply list
 // beyond the replies. These are compared with copies made before the call.
