@@ -1,0 +1,143 @@
+/* The library's call beside the second program's, in one process: calls NAME REPETITIONS <LOG. The log's frames are read
+   first, and both play them once, to be compared. Then each plays them from a fresh device, in turns, and writes a line
+   'NAME REPETITION library|second SECONDS SECONDS 0 CALLS', with the seconds of the processor; so bench/run has them.
+   Malformed lines are no calls. The library reads and writes its state as bytes; the second program has a struct at hand. */
+#define _DEFAULT_SOURCE
+#include <stdio.h>
+#include <stdlib.h>
+#include <string.h>
+#include <time.h>
+
+/* The second program's enums come first: the header's macros then stand over them, with the same numbers. */
+#include "../second/log.h"
+#include "qamhudeer.h"
+
+static struct Frame *frame;
+static size_t frames;
+
+static uint8_t state[QAMHUDEER_STATE_SIZE], table[QAMHUDEER_TABLE_SIZE];
+static uint8_t replies[QAMHUDEER_REPLIES_SIZE], answer[QAMHUDEER_ANSWER_SIZE];
+
+static struct Arbiter arbiter;
+static struct Reply record[REQUESTS];
+static struct Replies list = {record, REQUESTS, 0};
+
+static void read_log(void)
+{
+    size_t room = 0;
+    enum Line kind;
+    struct Frame f;
+
+    while ((kind = log_read(stdin, &f)) != LINE_NONE) {
+        if (kind != LINE_FRAME)
+            continue;
+        if (frames == room) {
+            room = 2 * room + 1000;
+            frame = realloc(frame, room * sizeof *frame);
+            if (frame == NULL)
+                exit(2);
+        }
+        frame[frames++] = f;
+    }
+}
+
+static size_t library_call(const struct Frame *f)
+{
+    return qamhudeer_call(f->operation, f->id, f->flags, f->map, (uint8_t)f->precedence, f->key, f->combination, f->length,
+                          state, sizeof state, table, sizeof table, replies, sizeof replies, answer, sizeof answer);
+}
+
+static void library_fresh(void)
+{
+    if (qamhudeer_fresh(state, sizeof state, table, sizeof table) != 0)
+        exit(2);
+}
+
+static int same_reply(const uint8_t *b, const struct Reply *r)
+{
+    return b[0] == r->id && b[1] == r->command && b[2] == (uint8_t)r->error && b[3] == r->map && 256u * b[4] + b[5] == r->key;
+}
+
+static int same_outcome(size_t n, const struct Answer *a)
+{
+    if (n != list.count || answer[0] != a->outstanding || answer[1] != (uint8_t)a->error || answer[2] != a->map
+        || 256u * answer[3] + answer[4] != a->key || answer[5] != a->last)
+        return 0;
+    for (size_t i = 0; i < n; i++)
+        if (!same_reply(replies + i * QAMHUDEER_REPLY_SIZE, &record[i]))
+            return 0;
+    return 1;
+}
+
+static void compare(void)
+{
+    library_fresh();
+    arbiter_fresh(&arbiter);
+    for (size_t i = 0; i < frames; i++) {
+        size_t n = library_call(&frame[i]);
+        struct Answer a = arbiter_call(&arbiter, &frame[i], &list);
+
+        if (!same_outcome(n, &a)) {
+            fprintf(stderr, "calls: the two differ at frame %lu\n", (unsigned long)i + 1);
+            exit(1);
+        }
+    }
+}
+
+static void tell(const char *name, long repetition, const char *who, double took)
+{
+    printf("%s %ld %s %.6f %.6f 0 %lu\n", name, repetition, who, took, took, (unsigned long)frames);
+}
+
+static double now(void)
+{
+    struct timespec t;
+
+    clock_gettime(CLOCK_PROCESS_CPUTIME_ID, &t);
+    return (double)t.tv_sec + (double)t.tv_nsec / 1e9;
+}
+
+static double play_library(void)
+{
+    double began = now();
+
+    library_fresh();
+    for (size_t i = 0; i < frames; i++)
+        library_call(&frame[i]);
+    return now() - began;
+}
+
+static double play_second(void)
+{
+    double began = now();
+
+    arbiter_fresh(&arbiter);
+    for (size_t i = 0; i < frames; i++)
+        arbiter_call(&arbiter, &frame[i], &list);
+    return now() - began;
+}
+
+int main(int words, char **word)
+{
+    double library, second;
+    long repetitions = words == 3 ? strtol(word[2], NULL, 10) : 0;
+
+    if (repetitions < 1) {
+        fputs("usage: calls NAME REPETITIONS <LOG\n", stderr);
+        return 2;
+    }
+    read_log();
+    compare();
+    for (long r = 1; r <= repetitions; r++) {
+        if (r % 2 == 1) {
+            library = play_library();
+            second = play_second();
+        } else {
+            second = play_second();
+            library = play_library();
+        }
+        tell(word[1], r, "library", library);
+        tell(word[1], r, "second", second);
+    }
+    return fflush(stdout) != 0 || ferror(stdout);
+}
