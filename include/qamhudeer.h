@@ -5,8 +5,9 @@
  *   table    QAMHUDEER_TABLE_SIZE bytes, the 64 request blocks, kept from call to call
  *   replies  QAMHUDEER_REPLIES_SIZE bytes, room for 64 replies
  *   answer   QAMHUDEER_ANSWER_SIZE bytes
- * They must not overlap. No pointer is null, also where its length is 0. There is no other duty: whatever the bytes are and
- * whatever the numbers, each function returns, and each comment below says what every byte that was lent holds afterwards.
+ * A call also reads a list of combinations. No two of these five overlap, nobody else writes to them during the call, and no
+ * pointer is null, also where its length is 0. There is no other duty: whatever the bytes are and whatever the numbers, each
+ * function returns, and each comment below says what every byte that was lent holds afterwards.
  * That is proved of the code (crates/boundary).
  */
 #ifndef QAMHUDEER_H

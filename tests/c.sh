@@ -1,6 +1,6 @@
 #!/bin/sh
-# The C side: the header by itself as C99 and as C++, the library held against it, document 01's log and the example desk
-# through the library. The last line is 'N passed, M failed'. What cannot be run here is told by a line 'NOT RUN: ..', and
+# The C side: the header by itself as C99 and as C++, the library held against it, document 01's log and the example desks
+# of examples/ and docs/desk.md through the library. The last line is 'N passed, M failed'. What cannot be run here is told by a line 'NOT RUN: ..', and
 # counts as neither. scripts/library.sh says which compilers are used.
 set -u
 LC_ALL=C
@@ -66,6 +66,11 @@ tried() {
     [ ! -x "$made" ] || check "$1" gives "$2" "$made" "$4"
 }
 
+# quoted LANGUAGE: the page's lines that stand between fences of this language.
+quoted() {
+    awk -v fence='```'"$1" '$0 == fence { on = 1; next } /^```/ { on = 0 } on' docs/desk.md
+}
+
 if ! library_ready; then
     failed=$((failed + 1))
     echo "FAILED: the library is not built"
@@ -73,6 +78,9 @@ elif linker_ready; then
     tried "the header's numbers are the library's" /dev/null tests/header.c /dev/null
     tried "document 01's log through the library" tests/log.out tests/log.c tests/log.in
     tried "the example desk" examples/desk.out examples/desk.c /dev/null
+    quoted c >"$work/page.c"
+    quoted text >"$work/page.out"
+    tried "the desk of docs/desk.md" "$work/page.out" "$work/page.c" /dev/null
 else
     leave "the library from C: it is for x86-64, and no $linker or no emulator is here, and none could be installed"
 fi
