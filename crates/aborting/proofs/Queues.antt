@@ -17,8 +17,8 @@ use Rattle.machine.specs.State.{Channel as ChannelM, Request as RequestM, State
 use Rattle.machine.specs.Sound.{writesOf, ids}
 use Rattle.machine.specs.Commands.{without}
 use Rattle.machine.proofs.Tests.{by-test, test-true, test-false, eqb-flip, nor-left, nor-right, and-left, and-right}
-use Rattle.machine.proofs.Lists.{Sub, sub-refl, sub-nil, sub-append, sub-distinct}
-use Rattle.machine.proofs.Sound.{Parts}
+use Rattle.machine_laws.proofs.Lists.{Sub, sub-refl, sub-nil, sub-append, sub-distinct}
+use Rattle.machine_laws.proofs.Sound.{Parts}
 use Rattle.store.specs.declared.State.{State}
 use Rattle.store.specs.Store.{structOf, stateIn, requestIn, Held, Each}
 use Rattle.store.proofs.Store.{held-parts, held-waiting, waiting-count, ids-few}
@@ -97,7 +97,7 @@ four f (u ∷ v ∷ w ∷ x ∷ y ∷ cs) d₀ d₁ d₂ d₃ h a b c d = absurd
 
 pub sub-left : (xs ys : List ℕ) → Sub xs (xs ++ ys)
 sub-left [] ys = sub-nil ys
-sub-left (x ∷ xs) ys = Rattle.machine.proofs.Lists.take (sub-left xs ys)
+sub-left (x ∷ xs) ys = Rattle.machine_laws.proofs.Lists.take (sub-left xs ys)
 
 pub sub-right : (xs ys : List ℕ) → Sub ys (xs ++ ys)
 sub-right xs ys = sub-append (sub-nil xs) (sub-refl ys)

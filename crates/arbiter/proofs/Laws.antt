@@ -21,12 +21,13 @@ use Rattle.machine.specs.Kinds.{kind}
 use Rattle.machine.specs.Refusals.{Refusal, accepted, refused, first, refusal, refuse}
 use Rattle.machine.specs.Call.{settling, openSettling, accept, answering, call, inRange, perform}
 use Rattle.machine.proofs.Tests.{by-test, test-true, test-false, and-right, and-both}
-use Rattle.machine.proofs.Refusals.{first-none, first-past}
-use Rattle.machine.proofs.Sound.{Parts}
-use Rattle.machine.proofs.Replies.{call-replies}
-use Rattle.machine.proofs.KeepingSettle.{look-unlocked}
-use Rattle.machine.proofs.KeepingCalls.{id-small, range-prec, range-key, open-sound, close-sound, abort-sound, event-sound, perform-sound}
-use Rattle.machine.proofs.Board.{Wide, open-wide, close-wide, abort-wide, event-wide, perform-wide}
+use Rattle.machine_laws.proofs.Refusals.{first-past}
+use Rattle.machine.proofs.Steps.{first-none}
+use Rattle.machine_laws.proofs.Sound.{Parts}
+use Rattle.machine_laws.proofs.Replies.{call-replies}
+use Rattle.machine_laws.proofs.KeepingSettle.{look-unlocked}
+use Rattle.machine_laws.proofs.KeepingCalls.{id-small, range-prec, range-key, open-sound, close-sound, abort-sound, event-sound, perform-sound}
+use Rattle.machine_laws.proofs.Board.{Wide, open-wide, close-wide, abort-wide, event-wide, perform-wide}
 use Rattle.memory.specs.Splice.{splice}
 use Rattle.reply.specs.Replies.{sent}
 use Rattle.reply.proofs.Laws.{sent-append, length-sent}

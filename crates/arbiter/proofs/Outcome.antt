@@ -10,10 +10,10 @@ use Rattle.machine.specs.Lists.{among}
 use Rattle.machine.specs.State.{State as StateM, Outcome as OutcomeM}
 use Rattle.machine.specs.Call.{call, inRange}
 use Rattle.machine.proofs.Tests.{and-both}
-use Rattle.machine.proofs.Sound.{Parts, parts}
-use Rattle.machine.proofs.Refusals.{refusals, refused-same}
-use Rattle.machine.proofs.KeepingCalls.{call-sound}
-use Rattle.machine.proofs.Board.{call-wide}
+use Rattle.machine_laws.proofs.Sound.{Parts, parts}
+use Rattle.machine_laws.proofs.Refusals.{refusals, refused-same}
+use Rattle.machine_laws.proofs.KeepingCalls.{call-sound}
+use Rattle.machine_laws.proofs.Board.{call-wide}
 use Rattle.store.specs.declared.State.{State}
 use Rattle.store.specs.Store.{structOf, tableOf, stateIn, Held}
 use Rattle.store.specs.Work.{Did}

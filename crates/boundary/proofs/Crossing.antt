@@ -12,9 +12,9 @@ use Rattle.machine.specs.Lists.{if_then_else_, among}
 use Rattle.machine.specs.State.{State as StateM, Op as OpM, OPEN, CLOSE, ABORT, EVENT, COMMAND, fresh}
 use Rattle.machine.specs.Log.{opOf}
 use Rattle.machine.specs.Call.{call}
-use Rattle.machine.proofs.Sound.{parts, fresh-sound}
-use Rattle.machine.proofs.Refusals.{refusals}
-use Rattle.machine.proofs.Replies.{call-replies}
+use Rattle.machine_laws.proofs.Sound.{parts, fresh-sound}
+use Rattle.machine_laws.proofs.Refusals.{refusals}
+use Rattle.machine_laws.proofs.Replies.{call-replies}
 use Rattle.store.specs.declared.State.{State}
 use Rattle.store.specs.Store.{structOf, items, writeItems, lookup, entries, tableOf, stateIn, Held}
 use Rattle.store.proofs.Store.{held-next}

@@ -14,9 +14,9 @@ use Rattle.machine.specs.State.{Call, Op as OpM, OPEN, CLOSE, ABORT, EVENT, COM
 use Rattle.machine.specs.Call.{call, inRange}
 use Rattle.machine.specs.Sound.{sound}
 use Rattle.machine.proofs.Tests.{and-left, and-right}
-use Rattle.machine.proofs.Sound.{parts}
-use Rattle.machine.proofs.KeepingCalls.{call-sound}
-use Rattle.machine.proofs.Board.{call-wide}
+use Rattle.machine_laws.proofs.Sound.{parts}
+use Rattle.machine_laws.proofs.KeepingCalls.{call-sound}
+use Rattle.machine_laws.proofs.Board.{call-wide}
 use Rattle.reply.specs.Replies.{sent}
 use Rattle.store.specs.Store.{structOf, tableOf, stateIn, Held}
 use Rattle.store.proofs.Store.{held-of, stateIn-of}

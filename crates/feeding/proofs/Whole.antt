@@ -8,7 +8,7 @@ use lib.ListN.{length, take, drop}
 use lib.Seq.{take-at}
 use Rattle.machine.specs.State.{State as StateM, fresh}
 use Rattle.machine.specs.Log.{Fed as FedM, lines, feed, run, log}
-use Rattle.machine.proofs.Sound.{parts, fresh-sound}
+use Rattle.machine_laws.proofs.Sound.{parts, fresh-sound}
 use Rattle.memory.specs.Splice.{splice}
 use Rattle.store.specs.declared.State.{State}
 use Rattle.store.specs.Store.{structOf, tableOf, stateIn, Held}

@@ -14,9 +14,9 @@ use Rattle.machine.specs.Maps.{minus, meets}
 use Rattle.machine.specs.Commands.{cleared, isEmpty, ended}
 use Rattle.machine.specs.Sound.{soundLock}
 use Rattle.machine.proofs.Tests.{by-test, test-true, test-false, and-left, and-right}
-use Rattle.machine.proofs.Maps.{minus-lt}
-use Rattle.machine.proofs.Sound.{Parts}
-use Rattle.machine.proofs.Keeping.{lock-parts}
+use Rattle.machine_laws.proofs.Maps.{minus-lt}
+use Rattle.machine_laws.proofs.Sound.{Parts}
+use Rattle.machine_laws.proofs.Keeping.{lock-parts}
 use Rattle.queue.specs.declared.Queue.{Queue}
 use Rattle.queue.specs.Queue.{queueOf}
 use Rattle.table.specs.Entry.{lockEntry}

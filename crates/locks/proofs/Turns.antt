@@ -13,7 +13,7 @@ use Rattle.machine.specs.Lists.{keep}
 use Rattle.machine.specs.State.{Lock, Reply as ReplyM}
 use Rattle.machine.specs.Commands.{ended}
 use Rattle.machine.proofs.Tests.{by-test, test-true, test-false}
-use Rattle.machine.proofs.Lists.{keep-append}
+use Rattle.machine_laws.proofs.Lists.{keep-append}
 use Rattle.memory.specs.Splice.{splice}
 use Rattle.memory.proofs.Splice.{splice-none}
 use Rattle.queue.specs.declared.Queue.{Queue}

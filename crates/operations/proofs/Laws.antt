@@ -17,8 +17,8 @@ use Rattle.machine.specs.Allocating.{doOpen, opening, doAllocate, allocating, w
 use Rattle.machine.specs.Kinds.{Kind, RESET, READ, WRITE, UPDATE, CLEAR, STOP, START, FLUSH, FREE, SETPREC, LOCK, ALLOCATE, UNKNOWN, kind, unknown, allocates}
 use Rattle.machine.specs.Refusals.{accepted, refusal, badList, badMap, badMaps}
 use Rattle.machine.specs.Call.{perform}
-use Rattle.machine.proofs.Sound.{ids-few}
-use Rattle.machine.proofs.Refusals.{first-none}
+use Rattle.machine_laws.proofs.Sound.{ids-few}
+use Rattle.machine.proofs.Steps.{first-none}
 use Rattle.store.specs.declared.State.{State}
 use Rattle.store.specs.Store.{stateIn, Held}
 use Rattle.store.specs.Work.{Ready}

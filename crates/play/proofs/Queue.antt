@@ -17,11 +17,11 @@ use Rattle.channel.specs.Channel.{channelOf, channelIn, withWrites}
 use Rattle.table.specs.Entry.{idle, writeEntry}
 use Rattle.machine.specs.Lists.{among, all, distinct}
 use Rattle.machine.proofs.Tests.{and-both}
-use Rattle.machine.proofs.Lists.{pigeon}
+use Rattle.machine_laws.proofs.Lists.{pigeon}
 use Rattle.machine.specs.State.{Channel as ChannelM, Lock, Request, State as StateM, free, withChannels}
 use Rattle.machine.specs.Commands.{setWrites, back}
 use Rattle.machine.specs.Sound.{writesOf, ids}
-use Rattle.machine.proofs.Sound.{Parts}
+use Rattle.machine_laws.proofs.Sound.{Parts}
 use Rattle.store.specs.declared.State.{State}
 use Rattle.store.specs.Store.{Item, writeItem, lockItem, waitItem, writeItems, items, structOf, tableOf, stateIn, Held, Small}
 use Rattle.store.proofs.Table.{Ins, here, ins-left, ins-right, ins-at, entry-added, entry-removed, good-add}

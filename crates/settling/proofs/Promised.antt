@@ -13,11 +13,11 @@ use Rattle.machine.specs.State.{Channel as ChannelM, Request, Reply, State as S
 use Rattle.machine.specs.Choosing.{Choice, none, chosen, eligible, allFree, cost, firstFree, cheaper, cheapest, orElse, choose, Look, fails, held, grants, standing, look}
 use Rattle.machine.specs.Maps.{named}
 use Rattle.machine.specs.Granting.{keyFor, abortedIn, granted, taken}
-use Rattle.machine.proofs.Maps.{length-change}
+use Rattle.machine_laws.proofs.Maps.{length-change}
 use Rattle.machine.specs.Settling.{Settled, replied, settle}
 use Rattle.machine.proofs.Tests.{if-elim, and-left, and-right}
-use Rattle.machine.proofs.Looking.{behind, resume, resume-stays, resume-drops, resume-held, resume-grants}
-use Rattle.machine.proofs.Sound.{Parts}
+use Rattle.machine_laws.proofs.Looking.{behind, resume, resume-stays, resume-drops, resume-held, resume-grants}
+use Rattle.machine_laws.proofs.Sound.{Parts}
 use Rattle.store.specs.declared.State.{State}
 use Rattle.store.specs.Store.{structOf, tableOf, stateIn, Held}
 use Rattle.store.specs.Work.{Ready, Did}

@@ -17,7 +17,7 @@ use Rattle.machine.specs.Lists.{if_then_else_}
 use Rattle.machine.specs.State.{Channel as ChannelM, Request, State as StateM, Reply}
 use Rattle.machine.specs.Granting.{keyFor, abortedIn, granted}
 use Rattle.machine.specs.Settling.{replied}
-use Rattle.machine.proofs.Sound.{Parts}
+use Rattle.machine_laws.proofs.Sound.{Parts}
 use Rattle.store.specs.declared.State.{State}
 use Rattle.store.specs.Store.{structOf, tableOf, stateIn, requestIn, Held}
 use Rattle.store.specs.Work.{Ready, Did}

@@ -18,11 +18,11 @@ use Rattle.machine.specs.Granting.{keyFor, abortedIn, granted}
 use Rattle.machine.specs.Sound.{soundRequest, soundLock, ids, writesOf}
 use Rattle.machine.specs.Settling.{Settled, replied, settle}
 use Rattle.machine.proofs.Tests.{and-left, and-right}
-use Rattle.machine.proofs.Lists.{Sub, sub-refl, sub-append, sub-map, sub-keep, sub-all}
-use Rattle.machine.proofs.Keeping.{parts-sub, grant-sound}
-use Rattle.machine.proofs.KeepingSettle.{Unlocked, look-unlocked}
-use Rattle.machine.proofs.Looking.{behind, resume, settle-resume, resume-end, resume-stays, resume-drops, resume-held, resume-grants, resume-waiting}
-use Rattle.machine.proofs.Sound.{Parts}
+use Rattle.machine_laws.proofs.Lists.{Sub, sub-refl, sub-append, sub-map, sub-keep, sub-all}
+use Rattle.machine_laws.proofs.Keeping.{parts-sub, grant-sound}
+use Rattle.machine_laws.proofs.KeepingSettle.{Unlocked, look-unlocked}
+use Rattle.machine_laws.proofs.Looking.{behind, resume, settle-resume, resume-end, resume-stays, resume-drops, resume-held, resume-grants, resume-waiting}
+use Rattle.machine_laws.proofs.Sound.{Parts}
 use Rattle.store.specs.declared.State.{State}
 use Rattle.store.specs.Store.{structOf, tableOf, stateIn, Held}
 use Rattle.store.specs.Work.{Ready, Did}

@@ -19,8 +19,8 @@ use Rattle.machine.specs.Lists.{if_then_else_, any, all, among, distinct}
 use Rattle.machine.specs.State.{Channel as ChannelM, Lock, Request, State as StateM}
 use Rattle.machine.specs.Sound.{sound, soundRequest, writesOf, ids}
 use Rattle.machine.proofs.Tests.{if-elim, and-left, and-right, nor-left, nor-right, nor-both, test-false, eqb-flip}
-use Rattle.machine.proofs.Lists.{pigeon}
-use Rattle.machine.proofs.Sound.{Parts, parts, unparts}
+use Rattle.machine_laws.proofs.Lists.{pigeon}
+use Rattle.machine_laws.proofs.Sound.{Parts, parts, unparts}
 use Rattle.store.specs.declared.State.{State}
 use Rattle.store.specs.Store.{structOf, Item, writeItem, lockItem, waitItem, writeItems, items, lookup, entries, tableOf, lockIn, requestIn, stateIn, Held, Each, Small, keys, Long, Good}
 use Rattle.store.proofs.Table.{lookup-there, lookup-here, length-entries, block-entries}

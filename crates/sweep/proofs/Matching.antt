@@ -13,8 +13,8 @@ use Rattle.machine.specs.State.{Channel as ChannelM}
 use Rattle.machine.specs.Maps.{odd, half, bit, named}
 use Rattle.machine.specs.Commands.{matches, matching, mismatch}
 use Rattle.machine.proofs.Tests.{if-elim, by-test, test-true, test-false, and-left, and-right}
-use Rattle.machine.proofs.Maps.{bit-of}
-use Rattle.machine.proofs.KeepingCalls.{matching-named}
+use Rattle.machine_laws.proofs.Maps.{bit-of}
+use Rattle.machine_laws.proofs.KeepingCalls.{matching-named}
 use Rattle.channel.specs.Channel.{matchingEach}
 use Rattle.channel.proofs.Laws.{matching-is}
 use Rattle.store.specs.declared.State.{State}

@@ -13,7 +13,7 @@ use Rattle.machine.specs.Maps.{odd, half, change}
 use Rattle.machine.specs.Granting.{abortedIn}
 use Rattle.machine.specs.Commands.{matching, freed, cleared, isEmpty, freeing, freeingReplies, done, each, silent, owned, doFree, doClose}
 use Rattle.machine.proofs.Tests.{if-elim}
-use Rattle.machine.proofs.Lists.{Sub, end, sub-refl, sub-nil, sub-append}
+use Rattle.machine_laws.proofs.Lists.{Sub, end, sub-refl, sub-nil, sub-append}
 use Rattle.queue.specs.Queue.{queueOf}
 use Rattle.channel.specs.declared.Change.the-variants.{Free}
 use Rattle.channel.specs.declared.Channel.{Channel}

@@ -20,27 +20,13 @@ use Rattle.machine.specs.Allocating.{allocating, doAllocate, doOpen, opening, w
 use Rattle.machine.specs.Call.{accept, answering, call, openSettling, perform, settling}
 use Rattle.machine.specs.Kinds.{ALLOCATE, CLEAR, FLUSH, FREE, Kind, LOCK, READ, RESET, SETPREC, START, STOP, UNKNOWN, UPDATE, WRITE, kind}
 use Rattle.machine.specs.Refusals.{Refusal, accepted, first, refusal, refuse, refused}
-use Rattle.machine.specs.Settling.{Found, Settled, Walk, goOn, nobody, rounds, settle, somebody, walk, walked}
 use Rattle.machine.proofs.Tests.{if-elim}
-use Rattle.machine.proofs.Refusals.{refuse-same}
+use Rattle.machine_laws.proofs.Refusals.{refuse-same}
+use Rattle.machine_laws.proofs.Opens.{settling-opens}
 use Rattle.two_runs.specs.TwoRuns.{Party, balance, mayClose, maySend}
 use Rattle.two_runs.proofs.Part.{Theirs}
 
 -- ---- settling and the commands leave the open count
-
-goOn-opens : (f : Found) (w : Walk) (s : State) (again : State → Settled) → ((u : State) → again u .state .opens ≡ u .opens) → goOn f w s again .state .opens ≡ s .opens
-unfolding goOn walked granted
-goOn-opens nobody w s again ih = refl
-goOn-opens (somebody r m) w s again ih = ih (granted m (r .key) (r .prec) (walked w s))
-
-rounds-opens : (n : ℕ) (s : State) → rounds n s .state .opens ≡ s .opens
-unfolding rounds
-rounds-opens zero s = refl
-rounds-opens (suc n) s = goOn-opens (walk (s .channels) (s .waiting) (s .locks) .found) (walk (s .channels) (s .waiting) (s .locks)) s (rounds n) (rounds-opens n)
-
-pub settling-opens : (o : Outcome) → settling o .next .opens ≡ o .next .opens
-unfolding settling settle
-settling-opens o = rounds-opens (suc (length (o .next .waiting))) (o .next)
 
 abbrev Same : State → Outcome → Type 0
 Same s o = o .next .opens ≡ s .opens

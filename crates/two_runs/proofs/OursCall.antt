@@ -17,7 +17,8 @@ use Rattle.machine.specs.Kinds.{ALLOCATE, CLEAR, FLUSH, FREE, Kind, LOCK, READ,
 use Rattle.machine.specs.Refusals.{Refusal, accepted, badMap, badMaps, refusal, refuse, refused}
 use Rattle.machine.specs.Sound.{sound}
 use Rattle.machine.proofs.Tests.{and-left, and-right, by-test, test-false, test-true}
-use Rattle.machine.proofs.Refusals.{first-none, refuse-same}
+use Rattle.machine_laws.proofs.Refusals.{refuse-same}
+use Rattle.machine.proofs.Steps.{first-none}
 use Rattle.two_runs.specs.TwoRuns.{Party, holds, mask, maySend, ofK, onK}
 use Rattle.two_runs.proofs.Part.{Ours, Ready, allowed, allowed-kind, project, projectOut}
 use Rattle.two_runs.proofs.Settle.{Loop, ready-loop, settle-calm}

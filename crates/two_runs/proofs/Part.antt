@@ -25,7 +25,7 @@ use Rattle.machine.specs.Kinds.{ALLOCATE, CLEAR, FLUSH, FREE, Kind, LOCK, READ,
 use Rattle.machine.specs.Refusals.{accepted, refusal}
 use Rattle.machine.specs.Sound.{sound}
 use Rattle.machine.proofs.Tests.{and-left, and-right, by-test, if-elim, or-named, test-false, test-true}
-use Rattle.machine.proofs.Lists.{keep-twice}
+use Rattle.machine_laws.proofs.Lists.{keep-twice}
 use Rattle.two_runs.specs.TwoRuns.{ByK, ByOthers, Party, avoids, holds, keepsFloor, mask, mayClose, maySend, modest, ofK, ownReplies, selected, sets, view}
 
 -- ---- the part

@@ -19,10 +19,10 @@ use Rattle.machine.specs.Commands.{ended}
 use Rattle.machine.specs.Settling.{Found, Settled, Walk, goOn, nobody, onLook, replied, rounds, saying, settle, somebody, staying, walk, walked}
 use Rattle.machine.specs.Sound.{soundLock}
 use Rattle.machine.proofs.Tests.{and-both, and-left, and-right, by-test, if-elim, test-false, test-true}
-use Rattle.machine.proofs.Choosing.{Spares, look-spares}
-use Rattle.machine.proofs.Lists.{all-keep}
-use Rattle.machine.proofs.Maps.{apart-meets, length-change, named-mono}
-use Rattle.machine.proofs.Sound.{parts, waiting-few}
+use Rattle.machine_laws.proofs.Choosing.{Spares, look-spares}
+use Rattle.machine_laws.proofs.Lists.{all-keep}
+use Rattle.machine_laws.proofs.Maps.{apart-meets, length-change, named-mono}
+use Rattle.machine_laws.proofs.Sound.{parts, waiting-few}
 use Rattle.two_runs.specs.TwoRuns.{Party, holds, mask, ownReplies}
 use Rattle.two_runs.proofs.Part.{Ready, fitting, fittingLock, lower, ownLocks, project}
 use Rattle.two_runs.proofs.Away.{abortedIn-quiet, any-view, change-fit, change-view, keyFor-not, named-view, own-append, spared}

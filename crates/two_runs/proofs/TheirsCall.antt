@@ -18,9 +18,9 @@ use Rattle.machine.specs.Kinds.{ALLOCATE, CLEAR, FLUSH, FREE, Kind, LOCK, READ,
 use Rattle.machine.specs.Refusals.{Refusal, accepted, badMap, refusal, refuse, refused}
 use Rattle.machine.specs.Settling.{settle}
 use Rattle.machine.proofs.Tests.{and-left, and-right, if-elim}
-use Rattle.machine.proofs.Choosing.{look-spares}
-use Rattle.machine.proofs.Refusals.{first-none}
-use Rattle.machine.proofs.Sound.{parts, waiting-few}
+use Rattle.machine_laws.proofs.Choosing.{look-spares}
+use Rattle.machine.proofs.Steps.{first-none}
+use Rattle.machine_laws.proofs.Sound.{parts, waiting-few}
 use Rattle.two_runs.specs.TwoRuns.{Party, avoids, holds, modest, onK, ownReplies}
 use Rattle.two_runs.proofs.Part.{Ready, Theirs, modest-kind, modestly}
 use Rattle.two_runs.proofs.Away.{own-append}

@@ -21,7 +21,7 @@ use Rattle.machine.specs.Log.{opened}
 use Rattle.machine.specs.Refusals.{Refusal, accepted, badList, badMap, badMaps, refusal, refuse, refused}
 use Rattle.machine.specs.Sound.{sound}
 use Rattle.machine.proofs.Tests.{and-both, and-left, and-right, test-false}
-use Rattle.machine.proofs.KeepingCalls.{call-sound}
+use Rattle.machine_laws.proofs.KeepingCalls.{call-sound}
 use Rattle.two_runs.specs.TwoRuns.{ByK, ByOthers, Demand3, Keeps, Party, Run, Start, Step, balance, calls, lends, our, own, ownReplies, reached, said, seen, their, view}
 use Rattle.two_runs.proofs.Part.{Ready, fittingLock, ours-of, ownReplies-twice, project, projectOut, theirs-of, view-part}
 use Rattle.two_runs.proofs.Opens.{ours-opened, theirs-opened}

@@ -1,0 +1,91 @@
+-- Why a flag bit without a meaning changes nothing: a call reads its flags by `quick` and `nowait` alone.
+-- Assumes nothing.
+use Prim.Native.Nat.{ℕ, _/_, _%_}
+use mathlib.Core.Path.{_≡_, refl, ap, _∙_}
+use mathlib.Core.Bool.{Bool, true, false}
+use mathlib.Core.List.{List}
+use lib.Dec.{eqb}
+use Rattle.machine.specs.Numbers.{quick, nowait}
+use Rattle.machine.specs.Lists.{if_then_else_}
+use Rattle.machine.specs.State.{State, Reply, Answer, Outcome, Call, Op, OPEN, CLOSE, ABORT, EVENT, COMMAND}
+use Rattle.machine.specs.Choosing.{Look, fails, held, grants, look}
+use Rattle.machine.specs.Commands.{finished, silent, each, eachChange, doFree, doLock, doRead, doWrite, doEvent, doClose, doAbort}
+use Rattle.machine.specs.Allocating.{waits, allocating, doAllocate, opening, doOpen}
+use Rattle.machine.specs.Kinds.{Kind, RESET, READ, WRITE, UPDATE, CLEAR, STOP, START, FLUSH, FREE, SETPREC, LOCK, ALLOCATE, UNKNOWN, kind}
+use Rattle.machine.specs.Refusals.{Refusal, accepted, refused, badList, badMaps, badMap, refusal, refuse}
+use Rattle.machine.specs.Call.{perform, accept, answering, call}
+
+abbrev pub withFlags : ℕ → Call → Call
+withFlags f c =
+    record { op = c .op; id = c .id; flags = f; map = c .map; prec = c .prec; key = c .key; combos = c .combos; room = c .room }
+
+-- no refusal reads a flag
+refusal-flagged : (o : Op) (f : ℕ) (c : Call) (s : State) → refusal o (withFlags f c) s ≡ refusal o c s
+unfolding refusal badList badMaps badMap
+refusal-flagged OPEN f c s = refl
+refusal-flagged CLOSE f c s = refl
+refusal-flagged ABORT f c s = refl
+refusal-flagged EVENT f c s = refl
+refusal-flagged (COMMAND n) f c s = refl
+
+module _ (f : ℕ) (c : Call) (q : quick f ≡ quick (c .flags)) (w : nowait f ≡ nowait (c .flags)) where
+  finished-flagged : (n : ℕ) (a : Answer) (rs : List Reply) (s : State) → finished n (withFlags f c) a rs s ≡ finished n c a rs s
+  unfolding finished
+  finished-flagged n a rs s = rw q refl
+
+  refuse-flagged : (o : Op) (e : ℕ) (s : State) → refuse o e (withFlags f c) s ≡ refuse o e c s
+  unfolding refuse
+  refuse-flagged OPEN e s = refl
+  refuse-flagged CLOSE e s = refl
+  refuse-flagged ABORT e s = refl
+  refuse-flagged EVENT e s = refl
+  refuse-flagged (COMMAND n) e s = rw (finished-flagged n _ _ s) refl
+
+  allocating-flagged : (l : Look) (s : State) → allocating l (withFlags f c) s ≡ allocating l c s
+  unfolding allocating waits finished
+  allocating-flagged fails s = rw (q, w) refl
+  allocating-flagged (held m) s = rw w refl
+  allocating-flagged (grants m) s = rw q refl
+
+  opening-flagged : (l : Look) (s : State) → opening l (withFlags f c) s ≡ opening l c s
+  unfolding opening
+  opening-flagged fails s = refl
+  opening-flagged (held m) s = refl
+  opening-flagged (grants m) s = refl
+
+  perform-flagged : (k : Kind) (s : State) → perform k (withFlags f c) s ≡ perform k c s
+  unfolding perform eachChange each doFree doLock doRead doWrite doAllocate finished
+  perform-flagged RESET s = rw q refl
+  perform-flagged READ s = rw q refl
+  perform-flagged WRITE s = rw q refl
+  perform-flagged UPDATE s = rw q refl
+  perform-flagged CLEAR s = rw q refl
+  perform-flagged STOP s = rw q refl
+  perform-flagged START s = rw q refl
+  perform-flagged FLUSH s = rw q refl
+  perform-flagged FREE s = rw q refl
+  perform-flagged SETPREC s = rw q refl
+  perform-flagged LOCK s = rw q refl
+  perform-flagged ALLOCATE s = allocating-flagged (look (c .prec) (c .combos) (s .channels)) s
+  perform-flagged UNKNOWN s = refl
+
+  accept-flagged : (o : Op) (s : State) → accept o (withFlags f c) s ≡ accept o c s
+  unfolding accept doOpen doClose doAbort doEvent
+  accept-flagged OPEN s = rw (opening-flagged (look (c .prec) (c .combos) (s .channels)) s) refl
+  accept-flagged CLOSE s = refl
+  accept-flagged ABORT s = refl
+  accept-flagged EVENT s = refl
+  accept-flagged (COMMAND n) s = rw (perform-flagged (kind n) s) refl
+
+  answering-flagged : (r : Refusal) (s : State) → answering r (withFlags f c) s ≡ answering r c s
+  unfolding answering
+  answering-flagged accepted s = accept-flagged (c .op) s
+  answering-flagged (refused e) s = refuse-flagged (c .op) e s
+
+-- "Flag bits without a meaning here are ignored": where QUICK (1) and NOWAIT (64) stand alike, so does all that a call comes to
+pub other-flags-ignored : (s : State) (c : Call) (f : ℕ) → f % 2 ≡ c .flags % 2 → f / 64 % 2 ≡ c .flags / 64 % 2
+    → call s (withFlags f c) ≡ call s c
+unfolding call quick nowait
+other-flags-ignored s c f p q =
+    ap (λ (r : Refusal). answering r (withFlags f c) s) (refusal-flagged (c .op) f c s)
+    ∙ answering-flagged f c (ap (λ (n : ℕ). eqb n 1) p) (ap (λ (n : ℕ). eqb n 1) q) (refusal (c .op) c s) s

@@ -1,0 +1,183 @@
+-- Why a call is refused by the steps that concern it and by no other: the number of a refusal is that of a test in the operation's
+-- list, and a call passes exactly if it meets none of the tests there.
+-- Assumes nothing.
+use Prim.Native.Nat.{ℕ, zero, suc, _^_, _≤_, _<_}
+use mathlib.Core.Path.{_≡_, refl, ap, subst, sym, _∙_}
+use mathlib.Core.Logic.{_↔_}
+use mathlib.Core.Bool.{Bool, true, false, not, _&&_, _||_}
+use mathlib.Core.List.{List, [], _∷_, map}
+use borrow.Author.Tests.{lt-ltb, le-ltb, lt-leb}
+use native.Mathlib.Omega.{arith}
+use lib.Dec.{T, T-not, not-T, eqb, leb, ltb, eqb→eq, eqb-refl, eqb·suc-zero, nltb→le, nleb→lt, ltb→lt}
+use lib.ListN.{length}
+use Rattle.machine.specs.Numbers.{OPENFAIL, NOCMD, BADLENGTH, BADADDRESS, UNSOUND, NOTOPEN, INUSE, BADID, NOROOM, REQUESTS, COMBOS, ADCMD·ALLOCATE}
+use Rattle.machine.specs.Lists.{if_then_else_, any, all, among}
+use Rattle.machine.specs.State.{State, Call, Op, OPEN, CLOSE, ABORT, EVENT, COMMAND}
+use Rattle.machine.specs.Sound.{sound, ids}
+use Rattle.machine.specs.Kinds.{Kind, kind, unknown, allocates}
+use Rattle.machine.specs.Refusals.{Refusal, accepted, refused, first, badList, badMaps, badMap, refusal}
+use Rattle.machine.specs.Steps.{Listed, Mapped, Reads, Passes, steps}
+use Rattle.machine.specs.Bytes.{listed}
+use Rattle.machine.proofs.Known.{unknown-unless-listed, allocates-alone}
+
+-- ---- first
+
+-- the numbers of a list of tests
+abbrev pub numbers : List (Bool × ℕ) → List ℕ
+numbers [] = []
+numbers (t ∷ ts) = t .1 ∷ numbers ts
+
+or-one : (a b : Bool) → T a → T (a || b)
+or-one true b t = tt
+or-one false b t = absurd t
+
+or-other : (a b : Bool) → T b → T (a || b)
+or-other true b t = tt
+or-other false b t = t
+
+pub first-among : (ts : List (Bool × ℕ)) (e : ℕ) → first ts ≡ refused e → T (among e (numbers ts))
+unfolding first among any
+first-among [] e q = absurd (let z : _≡_ {A = ℕ} 0 1 = cc in omega arith)
+first-among (t ∷ ts) e q = go (t .0) (first-among ts e) q
+  where
+    go : (b : Bool) → (first ts ≡ refused e → T (among e (numbers ts))) → (if b then refused (t .1) else first ts) ≡ refused e
+        → T (eqb e (t .1) || among e (numbers ts))
+    go true ih f =
+        let same : t .1 ≡ e = cc in
+        or-one (eqb e (t .1)) (among e (numbers ts)) (subst (λ (x : ℕ). T (eqb e x)) (sym same) (eqb-refl e))
+    go false ih f = or-other (eqb e (t .1)) (among e (numbers ts)) (ih f)
+
+-- a list of tests none of which is met
+abbrev pub NoneOf : List (Bool × ℕ) → Type 0
+NoneOf [] = Unit {0}
+NoneOf (t ∷ ts) = T (not (t .0)) × NoneOf ts
+
+pub first-none : (ts : List (Bool × ℕ)) → first ts ≡ accepted → NoneOf ts
+unfolding first
+first-none [] e = tt
+first-none (t ∷ ts) e = go (t .0) (first-none ts) e
+  where
+    go : (b : Bool) → (first ts ≡ accepted → NoneOf ts) → (if b then refused (t .1) else first ts) ≡ accepted
+        → T (not b) × NoneOf ts
+    go true ih q = absurd (let z : _≡_ {A = ℕ} 0 1 = cc in omega arith)
+    go false ih q = (tt, ih q)
+
+pub none-first : (ts : List (Bool × ℕ)) → NoneOf ts → first ts ≡ accepted
+unfolding first
+none-first [] n = refl
+none-first (t ∷ ts) n = go (t .0) (n .0) (none-first ts (n .1))
+  where
+    go : (b : Bool) → T (not b) → first ts ≡ accepted → (if b then refused (t .1) else first ts) ≡ accepted
+    go true u ih = absurd u
+    go false u ih = ih
+
+-- ---- refusal
+
+-- a call is refused with the number of a step that concerns it
+pub refused-by-its-steps : (o : Op) (c : Call) (s : State) (e : ℕ) → refusal o c s ≡ refused e → T (among e (steps o))
+unfolding refusal steps
+refused-by-its-steps OPEN c s e q = first-among _ e q
+refused-by-its-steps CLOSE c s e q = first-among _ e q
+refused-by-its-steps ABORT c s e q = first-among _ e q
+refused-by-its-steps EVENT c s e q = first-among _ e q
+refused-by-its-steps (COMMAND n) c s e q = first-among _ e q
+
+-- ---- what each test says
+
+not-not : (b : Bool) → T (not (not b)) ↔ T b
+not-not true = (λ t. t, λ t. t)
+not-not false = (λ t. t, λ t. t)
+
+-- a number that is not too small, and one that is not too large
+enough : (m n : ℕ) → T (not (ltb m n)) ↔ (n ≤ m)
+enough m n = (nltb→le m n, λ h. rw (le-ltb m n h) tt)
+
+under : (m n : ℕ) → T (not (not (ltb m n))) ↔ (m < n)
+under m n = (λ t. ltb→lt m n (not-not (ltb m n) .0 t), λ h. rw (lt-ltb m n h) tt)
+
+short : (m n : ℕ) → T (not (leb n m)) ↔ (m < n)
+short m n = (nleb→lt n m, λ h. rw (lt-leb n m h) tt)
+
+some : (n : ℕ) → T (not (eqb n 0)) ↔ (0 < n)
+some zero = (λ t. absurd t, λ h. absurd (omega arith))
+some (suc n) = (λ t. omega arith, λ h. rw (eqb·suc-zero n) tt)
+
+-- no combination off the board: each is on it
+none-off : (p : ℕ → Bool) (xs : List ℕ) → T (not (any (λ x. not (p x)) xs)) ↔ T (all p xs)
+unfolding any all
+none-off p [] = (λ t. tt, λ t. tt)
+none-off p (x ∷ xs) = go (p x) (none-off p xs)
+  where
+    go : (b : Bool) → (T (not (any (λ y. not (p y)) xs)) ↔ T (all p xs))
+        → T (not (not b || any (λ y. not (p y)) xs)) ↔ T (b && all p xs)
+    go true ih = ih
+    go false ih = (λ t. t, λ t. t)
+
+mapped : (c : Call) (s : State) → T (not (badMap c s)) ↔ Mapped c s
+unfolding badMap
+mapped c s = under (c .map) (2 ^ length (s .channels))
+
+counted : (c : Call) → T (not (badList c)) ↔ (length (c .combos) ≤ COMBOS)
+unfolding badList
+counted c = enough COMBOS (length (c .combos))
+
+placed : (c : Call) (s : State) → T (not (badMaps c s)) ↔ T (all (λ m. ltb m (2 ^ length (s .channels))) (c .combos))
+unfolding badMaps
+placed c s = none-off (λ m. ltb m (2 ^ length (s .channels))) (c .combos)
+
+known : (n : ℕ) → T (not (unknown (kind n))) ↔ T (among n listed)
+known n = rw (unknown-unless-listed n) (not-not (among n listed))
+
+-- ALLOCATE reads its combinations, any other command its map
+reads : (b : Bool) (n : ℕ) (c : Call) (s : State) → b ≡ eqb n ADCMD·ALLOCATE
+    → (T (not (b && badList c)) × T (not (if b then badMaps c s else badMap c s))) ↔ Reads n c s
+reads true n c s e =
+    let allocate : n ≡ ADCMD·ALLOCATE = eqb→eq n ADCMD·ALLOCATE (subst (λ (b : Bool). T b) e tt) in (
+      λ h. (λ _. (counted c .0 (h .0), placed c s .0 (h .1)), λ other. absurd (other allocate)),
+      λ r. let l = r .0 allocate in (counted c .1 (l .0), placed c s .1 (l .1)),
+    )
+reads false n c s e =
+    let other : n ≡ ADCMD·ALLOCATE → ⊥ = λ q. subst (λ (b : Bool). T b) (sym (e ∙ ap (λ (m : ℕ). eqb m ADCMD·ALLOCATE) q)) tt in (
+      λ h. (λ q. absurd (other q), λ _. mapped c s .0 (h .1)),
+      λ r. (tt, mapped c s .1 (r .1 other)),
+    )
+
+-- ---- accepted
+
+-- a call is accepted exactly if it passes the steps that concern it
+pub accepted-exactly : (o : Op) (c : Call) (s : State) → (refusal o c s ≡ accepted) ↔ Passes o c s
+unfolding refusal Passes
+accepted-exactly OPEN c s = (
+  λ e. let n = first-none _ e in (
+    not-not (sound s) .0 (n .0), enough (c .room) REQUESTS .0 (n .1 .0),
+    (counted c .0 (n .1 .1 .0), placed c s .0 (n .1 .1 .1 .0)),
+    short (s .opens) 65535 .0 (n .1 .1 .1 .1 .0),
+  ),
+  λ p. none-first _
+    (not-not (sound s) .1 (p .0), (enough (c .room) REQUESTS .1 (p .1), (counted c .1 (p .2 .0), (placed c s .1 (p .2 .1), (short (s .opens) 65535 .1 (p .3), tt))))),
+)
+accepted-exactly CLOSE c s = (
+  λ e. let n = first-none _ e in
+    (not-not (sound s) .0 (n .0), enough (c .room) REQUESTS .0 (n .1 .0), some (s .opens) .0 (n .1 .1 .0)),
+  λ p. none-first _ (not-not (sound s) .1 (p .0), (enough (c .room) REQUESTS .1 (p .1), (some (s .opens) .1 (p .2), tt))),
+)
+accepted-exactly ABORT c s = (
+  λ e. let n = first-none _ e in
+    (not-not (sound s) .0 (n .0), enough (c .room) REQUESTS .0 (n .1 .0), enough 63 (c .id) .0 (n .1 .1 .0)),
+  λ p. none-first _ (not-not (sound s) .1 (p .0), (enough (c .room) REQUESTS .1 (p .1), (enough 63 (c .id) .1 (p .2), tt))),
+)
+accepted-exactly EVENT c s = (
+  λ e. let n = first-none _ e in
+    (not-not (sound s) .0 (n .0), enough (c .room) REQUESTS .0 (n .1 .0), mapped c s .0 (n .1 .1 .0)),
+  λ p. none-first _ (not-not (sound s) .1 (p .0), (enough (c .room) REQUESTS .1 (p .1), (mapped c s .1 (p .2), tt))),
+)
+accepted-exactly (COMMAND n) c s = (
+  λ e. let f = first-none _ e in (
+    not-not (sound s) .0 (f .0), enough (c .room) REQUESTS .0 (f .1 .0), enough 63 (c .id) .0 (f .1 .1 .0),
+    f .1 .1 .1 .0, some (s .opens) .0 (f .1 .1 .1 .1 .0), known n .0 (f .1 .1 .1 .1 .1 .0),
+    reads (allocates (kind n)) n c s (allocates-alone n) .0 (f .1 .1 .1 .1 .1 .1 .0, f .1 .1 .1 .1 .1 .1 .1 .0),
+  ),
+  λ p. let r = reads (allocates (kind n)) n c s (allocates-alone n) .1 (p .6) in
+    none-first _
+    (not-not (sound s) .1 (p .0), (enough (c .room) REQUESTS .1 (p .1), (enough 63 (c .id) .1 (p .2), (p .3, (some (s .opens) .1 (p .4), (known n .1 (p .5), (r .0, (r .1, tt)))))))),
+)

@@ -1,0 +1,58 @@
+-- Every command number and every flag byte: what is read in each of the 256 is computed, so that no number or bit can slip in.
+-- Assumes nothing.
+--
+--   below n       the numbers below n
+--   listed        the twelve command numbers that document 01 lists as in
+--   number k      the number of a command; 0 of an unknown one
+--   known         "-3: any command number not listed above": the known ones among the bytes are those listed
+--   numbered      each is the command whose number it is
+--   quicks        QUICK is flag 1: the odd bytes
+--   nowaits       NOWAIT is flag 64: the bytes 64 to 127 and 192 to 255
+use Prim.Native.Nat.{ℕ, zero, suc, _+_}
+use mathlib.Core.Path.{_≡_, refl}
+use mathlib.Core.Bool.{Bool, not}
+use mathlib.Core.List.{List, [], _∷_, _++_, map}
+use Rattle.machine.specs.Numbers.{quick, nowait, CMD·RESET, CMD·READ, CMD·WRITE, CMD·UPDATE, CMD·CLEAR, CMD·STOP, CMD·START, CMD·FLUSH, ADCMD·FREE, ADCMD·SETPREC, ADCMD·LOCK, ADCMD·ALLOCATE}
+use Rattle.machine.specs.Lists.{if_then_else_, keep}
+use Rattle.machine.specs.Kinds.{Kind, RESET, READ, WRITE, UPDATE, CLEAR, STOP, START, FLUSH, FREE, SETPREC, LOCK, ALLOCATE, UNKNOWN, kind, unknown}
+
+unfoldable pub below : ℕ → List ℕ
+below zero = []
+below (suc n) = below n ++ n ∷ []
+
+-- "the commands RESET 1, READ 2, WRITE 3, UPDATE 4, CLEAR 5, STOP 6, START 7, FLUSH 8, FREE 9, SETPREC 10, LOCK 13, ALLOCATE 32"
+abbrev pub listed : List ℕ
+listed = 1 ∷ 2 ∷ 3 ∷ 4 ∷ 5 ∷ 6 ∷ 7 ∷ 8 ∷ 9 ∷ 10 ∷ 13 ∷ 32 ∷ []
+
+unfoldable pub number : Kind → ℕ
+number RESET = CMD·RESET
+number READ = CMD·READ
+number WRITE = CMD·WRITE
+number UPDATE = CMD·UPDATE
+number CLEAR = CMD·CLEAR
+number STOP = CMD·STOP
+number START = CMD·START
+number FLUSH = CMD·FLUSH
+number FREE = ADCMD·FREE
+number SETPREC = ADCMD·SETPREC
+number LOCK = ADCMD·LOCK
+number ALLOCATE = ADCMD·ALLOCATE
+number UNKNOWN = 0
+
+pub known : keep (λ n. not (unknown (kind n))) (below 256) ≡ listed
+unfolding keep unknown kind below
+known = refl
+
+pub numbered : map (λ n. number (kind n)) listed ≡ listed
+unfolding number kind
+numbered = refl
+
+-- "QUICK (flag 1)"
+pub quicks : keep quick (below 256) ≡ map (λ k. k + k + 1) (below 128)
+unfolding keep quick below
+quicks = refl
+
+-- "NOWAIT (flag 64)"
+pub nowaits : keep nowait (below 256) ≡ map (λ k. 64 + k) (below 64) ++ map (λ k. 192 + k) (below 64)
+unfolding keep nowait below
+nowaits = refl

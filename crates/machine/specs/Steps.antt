@@ -1,0 +1,46 @@
+-- Document 01, "Numbers a caller can get back": which steps of the order concern each operation, and what a call must meet to be
+-- accepted. "Order: 1, 5, 4, 3, 2, -3, -4, -5, then -1 for OPEN, .. Steps that don't concern a call are skipped: OPEN, CLOSE and
+-- the event carry no id; OPEN, ABORT and the event don't need an open device; ABORT isn't refused for an outstanding id."
+-- Assumes nothing.
+--
+--   steps o         the numbers with which the operation may be refused, in their order
+--   Passes o c s    what an accepted call meets, without a walk over tests
+--   Reads n c s     what a command reads besides: ALLOCATE its combinations, any other its map
+use Prim.Native.Nat.{ℕ, _^_, _≤_, _<_}
+use mathlib.Core.Path.{_≡_}
+use mathlib.Core.Bool.{not}
+use mathlib.Core.List.{List, [], _∷_}
+use lib.Dec.{T, ltb}
+use lib.ListN.{length}
+use Rattle.machine.specs.Numbers.{OPENFAIL, NOCMD, BADLENGTH, BADADDRESS, UNSOUND, NOTOPEN, INUSE, BADID, NOROOM, REQUESTS, COMBOS, ADCMD·ALLOCATE}
+use Rattle.machine.specs.Lists.{among, all}
+use Rattle.machine.specs.State.{State, Call, Op, OPEN, CLOSE, ABORT, EVENT, COMMAND}
+use Rattle.machine.specs.Sound.{sound, ids}
+use Rattle.machine.specs.Bytes.{listed}
+
+unfoldable pub steps : Op → List ℕ
+steps OPEN = UNSOUND ∷ NOROOM ∷ BADLENGTH ∷ BADADDRESS ∷ OPENFAIL ∷ []
+steps CLOSE = UNSOUND ∷ NOROOM ∷ NOTOPEN ∷ []
+steps ABORT = UNSOUND ∷ NOROOM ∷ BADID ∷ []
+steps EVENT = UNSOUND ∷ NOROOM ∷ BADADDRESS ∷ []
+steps (COMMAND n) = UNSOUND ∷ NOROOM ∷ BADID ∷ INUSE ∷ NOTOPEN ∷ NOCMD ∷ BADLENGTH ∷ BADADDRESS ∷ []
+
+-- "at most 16 combinations", each on the board
+abbrev pub Listed : Call → State → Type 0
+Listed c s = (length (c .combos) ≤ COMBOS) × T (all (λ m. ltb m (2 ^ length (s .channels))) (c .combos))
+
+abbrev pub Mapped : Call → State → Type 0
+Mapped c s = c .map < 2 ^ length (s .channels)
+
+-- "-4: OPEN or ALLOCATE"; "-5: OPEN or ALLOCATE: a combination above 15; other commands and the event: a map above 15"
+abbrev pub Reads : ℕ → Call → State → Type 0
+Reads n c s = (n ≡ ADCMD·ALLOCATE → Listed c s) × ((n ≡ ADCMD·ALLOCATE → ⊥) → Mapped c s)
+
+unfoldable pub Passes : Op → Call → State → Type 0
+Passes OPEN c s = T (sound s) × (REQUESTS ≤ c .room) × Listed c s × (s .opens < 65535)
+Passes CLOSE c s = T (sound s) × (REQUESTS ≤ c .room) × (0 < s .opens)
+Passes ABORT c s = T (sound s) × (REQUESTS ≤ c .room) × (c .id ≤ 63)
+Passes EVENT c s = T (sound s) × (REQUESTS ≤ c .room) × Mapped c s
+Passes (COMMAND n) c s =
+    T (sound s) × (REQUESTS ≤ c .room) × (c .id ≤ 63) × T (not (among (c .id) (ids s))) × (0 < s .opens) × T (among n listed)
+    × Reads n c s
