@@ -149,35 +149,40 @@ pub accepted-exactly : (o : Op) (c : Call) (s : State) → (refusal o c s ≡ ac
 unfolding refusal Passes
 accepted-exactly OPEN c s = (
   λ e. let n = first-none _ e in (
-    not-not (sound s) .0 (n .0), enough (c .room) REQUESTS .0 (n .1 .0),
+    not-not (sound s) .0 (n .0),
+    enough (c .room) REQUESTS .0 (n .1 .0),
     (counted c .0 (n .1 .1 .0), placed c s .0 (n .1 .1 .1 .0)),
     short (s .opens) 65535 .0 (n .1 .1 .1 .1 .0),
   ),
   λ p. none-first _
-    (not-not (sound s) .1 (p .0), (enough (c .room) REQUESTS .1 (p .1), (counted c .1 (p .2 .0), (placed c s .1 (p .2 .1), (short (s .opens) 65535 .1 (p .3), tt))))),
+      (not-not (sound s) .1 (p .0), (enough (c .room) REQUESTS .1 (p .1), (counted c .1 (p .2 .0), (placed c s .1 (p .2 .1), (short (s .opens) 65535 .1 (p .3), tt))))),
 )
 accepted-exactly CLOSE c s = (
   λ e. let n = first-none _ e in
-    (not-not (sound s) .0 (n .0), enough (c .room) REQUESTS .0 (n .1 .0), some (s .opens) .0 (n .1 .1 .0)),
+      (not-not (sound s) .0 (n .0), enough (c .room) REQUESTS .0 (n .1 .0), some (s .opens) .0 (n .1 .1 .0)),
   λ p. none-first _ (not-not (sound s) .1 (p .0), (enough (c .room) REQUESTS .1 (p .1), (some (s .opens) .1 (p .2), tt))),
 )
 accepted-exactly ABORT c s = (
   λ e. let n = first-none _ e in
-    (not-not (sound s) .0 (n .0), enough (c .room) REQUESTS .0 (n .1 .0), enough 63 (c .id) .0 (n .1 .1 .0)),
+      (not-not (sound s) .0 (n .0), enough (c .room) REQUESTS .0 (n .1 .0), enough 63 (c .id) .0 (n .1 .1 .0)),
   λ p. none-first _ (not-not (sound s) .1 (p .0), (enough (c .room) REQUESTS .1 (p .1), (enough 63 (c .id) .1 (p .2), tt))),
 )
 accepted-exactly EVENT c s = (
   λ e. let n = first-none _ e in
-    (not-not (sound s) .0 (n .0), enough (c .room) REQUESTS .0 (n .1 .0), mapped c s .0 (n .1 .1 .0)),
+      (not-not (sound s) .0 (n .0), enough (c .room) REQUESTS .0 (n .1 .0), mapped c s .0 (n .1 .1 .0)),
   λ p. none-first _ (not-not (sound s) .1 (p .0), (enough (c .room) REQUESTS .1 (p .1), (mapped c s .1 (p .2), tt))),
 )
 accepted-exactly (COMMAND n) c s = (
   λ e. let f = first-none _ e in (
-    not-not (sound s) .0 (f .0), enough (c .room) REQUESTS .0 (f .1 .0), enough 63 (c .id) .0 (f .1 .1 .0),
-    f .1 .1 .1 .0, some (s .opens) .0 (f .1 .1 .1 .1 .0), known n .0 (f .1 .1 .1 .1 .1 .0),
+    not-not (sound s) .0 (f .0),
+    enough (c .room) REQUESTS .0 (f .1 .0),
+    enough 63 (c .id) .0 (f .1 .1 .0),
+    f .1 .1 .1 .0,
+    some (s .opens) .0 (f .1 .1 .1 .1 .0),
+    known n .0 (f .1 .1 .1 .1 .1 .0),
     reads (allocates (kind n)) n c s (allocates-alone n) .0 (f .1 .1 .1 .1 .1 .1 .0, f .1 .1 .1 .1 .1 .1 .1 .0),
   ),
   λ p. let r = reads (allocates (kind n)) n c s (allocates-alone n) .1 (p .6) in
-    none-first _
-    (not-not (sound s) .1 (p .0), (enough (c .room) REQUESTS .1 (p .1), (enough 63 (c .id) .1 (p .2), (p .3, (some (s .opens) .1 (p .4), (known n .1 (p .5), (r .0, (r .1, tt)))))))),
+      none-first _
+      (not-not (sound s) .1 (p .0), (enough (c .room) REQUESTS .1 (p .1), (enough 63 (c .id) .1 (p .2), (p .3, (some (s .opens) .1 (p .4), (known n .1 (p .5), (r .0, (r .1, tt)))))))),
 )

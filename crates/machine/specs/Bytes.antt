@@ -1,7 +1,7 @@
 -- Every command number and every flag byte: what is read in each of the 256 is computed, so that no number or bit can slip in.
 -- Assumes nothing.
 --
---   below n       the numbers below n
+--   run k n       the n numbers from k on
 --   listed        the twelve command numbers that document 01 lists as in
 --   number k      the number of a command; 0 of an unknown one
 --   known         "-3: any command number not listed above": the known ones among the bytes are those listed
@@ -16,9 +16,9 @@ use Rattle.machine.specs.Numbers.{quick, nowait, CMD·RESET, CMD·READ, 
 use Rattle.machine.specs.Lists.{if_then_else_, keep}
 use Rattle.machine.specs.Kinds.{Kind, RESET, READ, WRITE, UPDATE, CLEAR, STOP, START, FLUSH, FREE, SETPREC, LOCK, ALLOCATE, UNKNOWN, kind, unknown}
 
-unfoldable pub below : ℕ → List ℕ
-below zero = []
-below (suc n) = below n ++ n ∷ []
+unfoldable pub run : ℕ → ℕ → List ℕ
+run k zero = []
+run k (suc n) = k ∷ run (suc k) n
 
 -- "the commands RESET 1, READ 2, WRITE 3, UPDATE 4, CLEAR 5, STOP 6, START 7, FLUSH 8, FREE 9, SETPREC 10, LOCK 13, ALLOCATE 32"
 abbrev pub listed : List ℕ
@@ -39,8 +39,8 @@ number LOCK = ADCMD·LOCK
 number ALLOCATE = ADCMD·ALLOCATE
 number UNKNOWN = 0
 
-pub known : keep (λ n. not (unknown (kind n))) (below 256) ≡ listed
-unfolding keep unknown kind below
+pub known : keep (λ n. not (unknown (kind n))) (run 0 256) ≡ listed
+unfolding keep unknown kind run
 known = refl
 
 pub numbered : map (λ n. number (kind n)) listed ≡ listed
@@ -48,11 +48,11 @@ unfolding number kind
 numbered = refl
 
 -- "QUICK (flag 1)"
-pub quicks : keep quick (below 256) ≡ map (λ k. k + k + 1) (below 128)
-unfolding keep quick below
+pub quicks : keep quick (run 0 256) ≡ map (λ k. k + k + 1) (run 0 128)
+unfolding keep quick run
 quicks = refl
 
 -- "NOWAIT (flag 64)"
-pub nowaits : keep nowait (below 256) ≡ map (λ k. 64 + k) (below 64) ++ map (λ k. 192 + k) (below 64)
-unfolding keep nowait below
+pub nowaits : keep nowait (run 0 256) ≡ run 64 64 ++ run 192 64
+unfolding keep nowait run
 nowaits = refl
