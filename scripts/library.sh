@@ -36,15 +36,11 @@ old_library() {
 library_ready() {
     old_library || return 0
     has_kit || return
-    complain "the library is proved and built, which may take minutes"
+    complain "the library is proved and built, which may take minutes:"
     mkdir -p "$root/target" && began=$(mktemp "$root/target/began.XXXXXX") && said=$(mktemp "$root/target/said.XXXXXX") || return
-    (cd "$root" && rt staticlib boundary) </dev/null >"$said" 2>&1 && [ -f "$library" ]
+    watched "$said" staticlib boundary && [ -f "$library" ]
     built=$?
-    if [ $built -eq 0 ]; then
-        touch -r "$began" "$library"
-    else
-        cat "$said" >&2
-    fi
+    [ $built -ne 0 ] || touch -r "$began" "$library"
     rm -f "$began" "$said"
     return $built
 }

@@ -1,6 +1,7 @@
 # The proved log program, for the scripts at the top of the tree. POSIX sh; it is read by '.', with root set to the top.
 #
 #   ready       builds the program where it is missing or older than what it is made from. Otherwise it is quick
+#   watched FILE WORDS  runs rt with these words; all that it says goes to FILE, and how far it is to standard error
 #   play WORDS  runs the program with these arguments, through the kit's emulator where the machine is not x86-64
 #   how         words before the program's: exec, or timeout 60
 #
@@ -28,6 +29,28 @@ stale() {
     [ -n "$(cd "$root" && find crates.txt crates -name must-fail -prune -o -newer "$program" -print | head -n 1)" ]
 }
 
+# How many crates of this repository rt proves for one: itself and those that it stands on.
+crates_of() {
+    awk -v name="$1:" '{ listed[$1] = 1 } $1 == name { for (i = 2; i <= NF; i++) below[$i ":"] = 1 }
+        END { n = 1; for (crate in below) n += (crate in listed); print n }' "$root/crates.txt"
+}
+
+# rt's status is handed on through a file: a pipe has only its last command's.
+watched() {
+    said_to=$1
+    shift
+    on_terminal=0
+    [ ! -t 2 ] || on_terminal=1
+    for last_word; do :; done
+    {
+        (cd "$root" && rt "$@") </dev/null 2>&1
+        echo $? >"$said_to.status"
+    } | tee "$said_to" | awk -v terminal=$on_terminal -v crates="$(crates_of "$last_word")" -f "$root/scripts/progress.awk" >&2
+    read -r rt_status <"$said_to.status"
+    rm -f "$said_to.status"
+    return "$rt_status"
+}
+
 # The program's time becomes that of the build's start. rt leaves an unchanged program as it is, whose own time may be
 # older than its sources'; and what is edited while rt runs must count as newer.
 build() {
@@ -36,17 +59,16 @@ build() {
         return 1
     fi
     if [ -x "$program" ]; then
-        complain "the sources are newer than the program: it is proved and built again, which may take minutes"
+        complain "the sources are newer than the program: it is proved and built again, which may take minutes:"
     else
-        complain "the first use proves and builds the program, which takes minutes"
+        complain "the first use proves and builds the program, which takes minutes:"
     fi
     mkdir -p "$root/target" && began=$(mktemp "$root/target/began.XXXXXX") && said=$(mktemp "$root/target/said.XXXXXX") || return
-    (cd "$root" && rt check arbiter_log) </dev/null >"$said" 2>&1 && [ -x "$program" ]
+    watched "$said" check arbiter_log && [ -x "$program" ]
     built=$?
     if [ $built -eq 0 ]; then
         touch -r "$began" "$program"
     else
-        cat "$said" >&2
         complain "the program is not proved, so it is not run"
     fi
     rm -f "$began" "$said"
