@@ -133,7 +133,7 @@ pub extern "C" fn qamhudeer_fresh(state: &mut [u8], table: &mut [u8]) -> u8
         return 1;
     }
     let s = State::fresh();
-    image::save(s, state);
+    saving::save(s, state);
     let n = table.len();
     memory::clear(table, 0, n);
     0
@@ -156,7 +156,7 @@ fn carry(
     let d = arbiter::call(op, r, s, combos, table, replies);
     let a = d.answer;
     let t = d.state;
-    image::save(t, state);
+    saving::save(t, state);
     put_answer(answer, a);
     d.n
 }

@@ -1,10 +1,10 @@
 -- `put_channel` meets its contract: five stores, and its queue behind them. Assumes nothing.
 use native.Mathlib.Omega.{arith}
 use lib.ListN.{length-set}
 use Rattle.image.proofs.Laws.{wrote-length, channel-wrote}
 use borrow.Author.Needs.{needs}
-use Rattle.image.proofs.put_channel.Statement.{statement}
-use Rattle.image.proofs.put_channel.Tie as tie
+use Rattle.saving.proofs.put_channel.Statement.{statement}
+use Rattle.saving.proofs.put_channel.Tie as tie
 
 put-key-requires : tie.Need-put-key-requires
 put-key-requires c κs = search needs

@@ -1,9 +1,9 @@
 -- `save` meets its contract: part after part is written, and nothing is left. Assumes nothing.
 use Rattle.image.proofs.Laws.{state-wrote, queue-filled}
 use Rattle.image.proofs.Round.{saved}
 use borrow.Author.Needs.{needs}
-use Rattle.image.proofs.save.Statement.{statement}
-use Rattle.image.proofs.save.Tie as tie
+use Rattle.saving.proofs.save.Statement.{statement}
+use Rattle.saving.proofs.save.Tie as tie
 
 put-channels-requires : tie.Need-put-channels-requires
 put-channels-requires c κs = search needs
