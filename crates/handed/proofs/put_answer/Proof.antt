@@ -1,10 +1,10 @@
 -- `put_answer` meets its contract: six stores over six bytes. Assumes nothing.
 use native.Mathlib.Omega.{arith}
 use lib.ListN.{length-set}
-use Rattle.boundary.proofs.Laws.{answer-stored}
+use Rattle.handed.proofs.Laws.{answer-stored}
 use borrow.Author.Needs.{needs}
-use Rattle.boundary.proofs.put_answer.Statement.{statement}
-use Rattle.boundary.proofs.put_answer.Tie as tie
+use Rattle.handed.proofs.put_answer.Statement.{statement}
+use Rattle.handed.proofs.put_answer.Tie as tie
 
 mark-requires : tie.Need-mark-requires
 mark-requires c κs = search needs

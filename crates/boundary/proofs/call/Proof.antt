@@ -1,4 +1,4 @@
--- `qamhudeer_call` meets its contract: the two tests say which case of the promise is asked. Assumes nothing.
+-- `call` meets its contract: the two tests say which case of the promise is asked. Assumes nothing.
 use mathlib.Core.Path.{_≡_, sym, _∙_}
 use lib.ListN.{length}
 use borrow.Author.Tests.{not-true, not-false}
@@ -7,8 +7,8 @@ use Rattle.answers.specs.Answers.{answerOf}
 use Rattle.sound.proofs.Laws.{yes-T}
 use Rattle.boundary.proofs.Laws.{request-made, no-answer, not-read, was-carried}
 use borrow.Author.Needs.{needs}
-use Rattle.boundary.proofs.qamhudeer_call.Statement.{statement}
-use Rattle.boundary.proofs.qamhudeer_call.Tie as tie
+use Rattle.boundary.proofs.call.Statement.{statement}
+use Rattle.boundary.proofs.call.Tie as tie
 
 returns : tie.Need-returns
 returns c = let n : length (c .before .before .before .before .before .before .args .answer .now) ≡ 6 → ⊥ = c .if1 .taken in no-answer n
@@ -73,8 +73,8 @@ returns-3 c =
     was-carried (w .before .before .if1 .left) (yes-T _ (sym (w .whole .ensures) ∙ not-false _ (e .if2 .left))) (o .op-of .ensures)
     (request-made (a .op) (a .id) (a .flags) (a .map) (a .prec) (a .key) (p .stored .ensures)) (k .carry .ensures)
 
-pub qamhudeer-call-spec : {M : Type 1} → statement M
-qamhudeer-call-spec =
+pub call-spec : {M : Type 1} → statement M
+call-spec =
     tie.close
     (tie.spec
     returns

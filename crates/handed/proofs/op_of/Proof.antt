@@ -1,7 +1,7 @@
 -- `op_of` meets its contract: its arms are the tests of the log. Assumes nothing.
-use Rattle.boundary.proofs.Laws.{op-open, op-close, op-abort, op-event, op-command}
-use Rattle.boundary.proofs.op_of.Statement.{statement}
-use Rattle.boundary.proofs.op_of.Tie as tie
+use Rattle.handed.proofs.Laws.{op-open, op-close, op-abort, op-event, op-command}
+use Rattle.handed.proofs.op_of.Statement.{statement}
+use Rattle.handed.proofs.op_of.Tie as tie
 
 returns : tie.Need-returns
 returns c = op-open _ (c .match .keys1)

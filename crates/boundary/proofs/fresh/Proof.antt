@@ -1,10 +1,10 @@
--- `qamhudeer_fresh` meets its contract: the two tests say which half of the promise is asked. Assumes nothing.
+-- `fresh` meets its contract: the two tests say which half of the promise is asked. Assumes nothing.
 use mathlib.Core.Path.{_≡_}
 use lib.ListN.{length}
 use Rattle.boundary.proofs.Laws.{not-begun, begun}
 use borrow.Author.Needs.{needs}
-use Rattle.boundary.proofs.qamhudeer_fresh.Statement.{statement}
-use Rattle.boundary.proofs.qamhudeer_fresh.Tie as tie
+use Rattle.boundary.proofs.fresh.Statement.{statement}
+use Rattle.boundary.proofs.fresh.Tie as tie
 
 returns : tie.Need-returns
 returns c = let n : length (c .before .before .before .args .state .now) ≡ 414 → ⊥ = c .if1 .taken in not-begun (λ h. n (h .0))
@@ -35,8 +35,8 @@ returns-3 c =
     let e = f .before in
     begun (e .before .if1 .left) (e .if2 .left) (f .fresh .ensures) (v .save .ensures) (k .clear .ensures)
 
-pub qamhudeer-fresh-spec : {M : Type 1} → statement M
-qamhudeer-fresh-spec =
+pub fresh-spec : {M : Type 1} → statement M
+fresh-spec =
     tie.close
     (tie.spec
     returns
