@@ -42,7 +42,8 @@ use Rattle.answers.specs.Answers.{answerOf, answerIn, ownReply, Told}
 use Rattle.answers.proofs.Laws.{Finished, told-as}
 use Rattle.refusals.specs.declared.Op.{Op}
 use Rattle.refusals.specs.declared.Op.the-variants.{Open, Close, Abort, Event, Command}
-use Rattle.refusals.specs.Refusals.{opIn, askedOf, numberOf, Refuses}
+use Rattle.refusals.specs.Refusals.{opIn, askedOf, Refuses}
+use Rattle.steps.specs.Steps.{numberOf}
 use Rattle.operations.specs.Operations.{act, Allowed}
 use Rattle.arbiter.specs.Arbiter.{restsAt, isDue, dueReplies, Refused, Unmoved, Called}
 

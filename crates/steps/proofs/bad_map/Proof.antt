@@ -1,9 +1,9 @@
 -- `bad_map` meets its contract: its test is the one test of the list. Assumes nothing.
 use Prim.Native.Nat.{_≤_, _<_}
-use Rattle.refusals.proofs.Laws.{high-true, high-false, met, past, none}
+use Rattle.steps.proofs.Laws.{high-true, high-false, met, past, none}
 use borrow.Author.Needs.{needs}
-use Rattle.refusals.proofs.bad_map.Statement.{statement}
-use Rattle.refusals.proofs.bad_map.Tie as tie
+use Rattle.steps.proofs.bad_map.Statement.{statement}
+use Rattle.steps.proofs.bad_map.Tie as tie
 
 returns : tie.Need-returns
 returns c = let h : 16 ≤ c .before .args .map = search needs in met _ _ _ (high-true h)
