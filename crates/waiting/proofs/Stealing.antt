@@ -1,24 +1,21 @@
 -- A held request ends the locks over its map: the sieve of the locks, said of a state. Assumes nothing.
-use Prim.Native.Nat.{ℕ, _+_, _*_, _≤_, _<_}
-use mathlib.Core.Path.{_≡_, refl, ap, ap₂, sym, subst, _∙_}
-use mathlib.Core.Bool.{Bool, true, false, not}
-use mathlib.Core.List.{List, [], _∷_, _++_, map}
+use Prim.Native.Nat.{ℕ, _+_, _≤_, _<_}
+use mathlib.Core.Path.{_≡_, ap, _∙_}
+use mathlib.Core.Bool.{true}
+use mathlib.Core.List.{List, _++_, map}
 use native.Mathlib.Omega.{arith}
 use lib.ListN.{length}
-use Rattle.queue.specs.declared.Queue.{Queue}
 use Rattle.queue.specs.Queue.{queueOf}
 use Rattle.reply.specs.Replies.{sent}
-use Rattle.machine.specs.Lists.{keep}
-use Rattle.machine.specs.State.{Lock, Reply, State as StateM}
-use Rattle.machine.specs.Maps.{meets}
+use Rattle.machine.specs.State.{Lock, Reply}
 use Rattle.store.specs.declared.State.{State}
-use Rattle.store.specs.Store.{lockItem, waitItem, writeItems, items, entries, structOf, tableOf, stateIn, Held}
+use Rattle.store.specs.Store.{lockItem, waitItem, writeItems, items, entries, tableOf, stateIn, Held}
 use Rattle.store.specs.Work.{Did}
 use Rattle.store.proofs.Store.{held-parts, held-four}
 use Rattle.locks.specs.declared.Sifted.{Sifted}
-use Rattle.locks.specs.Locks.{lefts, ending, Locked, Sifting, Sieved}
+use Rattle.locks.specs.Locks.{lefts, ending, Sifting, Sieved}
 use Rattle.locks.proofs.Laws.{lefts-stolen, ending-stolen, locked-of}
-use Rattle.settling.specs.Settling.{stolen, withoutLocks}
+use Rattle.waiting.specs.Waiting.{stolen, withoutLocks}
 
 module _ {st : State} {tb : List ℕ} (h : Held st tb) (m : ℕ) where
   pub stolen-is : ending true m (stateIn st tb .locks) ≡ stolen m (stateIn st tb)
