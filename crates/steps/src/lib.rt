@@ -8,6 +8,7 @@ ghost use Rattle.machine.specs.Lists.{any};
 ghost use Rattle.machine.specs.Kinds.{kind, unknown};
 ghost use Rattle.machine.specs.Refusals.{first};
 ghost use Rattle.steps.specs.Steps.{numberOf, high, used, listTests, eventTests};
+
 // Whether a combination is above 15.
 fn any_high(combos: &[u8]) -> bool
     ensures { λ r. ⌜ r ≡ any high (now (combos .entry)) ⌝ }

@@ -1,15 +1,15 @@
 -- `close` meets its contract: of all four channels those with the key are freed, and one opening goes. Assumes nothing.
 use native.Mathlib.Omega.{arith}
 use Rattle.sweep.proofs.Matching.{match-small}
-use Rattle.sweep.proofs.Release.{close-ready, close-opens, told-close}
+use Rattle.freeing.proofs.Release.{close-ready, close-opens, told-close}
 use borrow.Author.Needs.{needs}
-use Rattle.sweep.proofs.close.Statement.{statement}
-use Rattle.sweep.proofs.close.Tie as tie
-use Rattle.sweep.proofs.close.Reads as reads
-use Rattle.sweep.proofs.close.Lts as lts
+use Rattle.freeing.proofs.close.Statement.{statement}
+use Rattle.freeing.proofs.close.Tie as tie
+use Rattle.freeing.proofs.close.Reads as reads
+use Rattle.freeing.proofs.close.Lts as lts
 use Rattle.answers.proofs.done.Reads as done-reads
 use Rattle.channel.proofs.matching.Reads as matching-reads
-use Rattle.sweep.proofs.freeing.Reads as freeing-reads
+use Rattle.freeing.proofs.freeing.Reads as freeing-reads
 
 matching-requires : tie.Need-matching-requires
 matching-requires c κs = search needs

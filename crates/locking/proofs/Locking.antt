@@ -34,9 +34,9 @@ use Rattle.answers.specs.declared.Request.{Request}
 use Rattle.answers.specs.declared.Answer.{Answer}
 use Rattle.answers.specs.declared.Outcome.{Outcome}
 use Rattle.answers.specs.Answers.{callOf, answerOf, Told}
-use Rattle.sweep.specs.Sweep.{lockOf, lockedBy}
+use Rattle.locking.specs.Locking.{lockOf, lockedBy}
 use Rattle.sweep.proofs.Matching.{match-is, held-mismatch}
 use Rattle.sweep.proofs.Steps.{Ends, told-end, marked-items}
 
 -- ---- one id more
 
