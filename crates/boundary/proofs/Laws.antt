@@ -17,7 +17,7 @@ use Rattle.answers.specs.declared.Request.{Request}
 use Rattle.answers.specs.declared.Answer.{Answer}
 use Rattle.answers.specs.Answers.{answerOf}
 use Rattle.refusals.specs.declared.Op.{Op}
-use Rattle.arbiter.proofs.Laws.{false-true}
+use Rattle.refusing.proofs.Laws.{false-true}
 use Rattle.sizes.specs.Sizes.{TABLE}
 use Rattle.handed.specs.Handed.{opFor, requestOf, answerBytes}
 use Rattle.boundary.specs.Boundary.{Started, Carried, Crossed}
