@@ -7,6 +7,7 @@ ghost use mathlib.Core.Path.{_≡_};
 ghost use Prim.Native.Nat.{_≤_, _<_};
 ghost use lib.ListN.{length};
 ghost use Rattle.refusing.specs.Refusing.{isDue, Refused};
+
 // After -3, -4 and -5 a command's own reply is due.
 fn due(op: Op, e: u8) -> bool
     ensures { λ b. ⌜ b ≡ isDue op e ⌝ }

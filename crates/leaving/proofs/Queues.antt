@@ -23,7 +23,7 @@ use Rattle.store.specs.declared.State.{State}
 use Rattle.store.specs.Store.{structOf, stateIn, requestIn, Held, Each}
 use Rattle.store.proofs.Store.{held-parts, held-waiting, waiting-count, ids-few}
 use Rattle.granting.proofs.Laws.{held-channels}
-use Rattle.aborting.specs.Aborting.{others, Tidy, struck, cleaned, leaving, left}
+use Rattle.leaving.specs.Leaving.{others, Tidy, struck, cleaned, leaving, left}
 
 pub eqb-sym : (m n : ℕ) → eqb m n ≡ eqb n m
 eqb-sym m n =

@@ -1,19 +1,19 @@
 -- `event` meets its contract: the front write of the lowest channel ends, if there is one and the channel plays. Assumes nothing.
-use Prim.Native.Nat.{_≤_, _<_}
-use mathlib.Core.Path.{_≡_, refl, sym, _∙_}
+use Prim.Native.Nat.{_<_}
+use mathlib.Core.Path.{sym, _∙_}
 use native.Mathlib.Omega.{arith}
 use lib.ListN.{length}
 use Rattle.play.proofs.Laws.{getD-any}
-use Rattle.play.proofs.Steps.{event-quiet, event-off, event-idle, event-told}
+use Rattle.ending.proofs.Steps.{event-quiet, event-off, event-idle, event-told}
 use borrow.Author.Needs.{needs}
-use Rattle.play.proofs.event.Statement.{statement}
-use Rattle.play.proofs.event.Tie as tie
-use Rattle.play.proofs.event.Reads as reads
-use Rattle.play.proofs.event.Lts as lts
+use Rattle.ending.proofs.event.Statement.{statement}
+use Rattle.ending.proofs.event.Tie as tie
+use Rattle.ending.proofs.event.Reads as reads
+use Rattle.ending.proofs.event.Lts as lts
 use Rattle.answers.proofs.done.Reads as done-reads
 use Rattle.channel.proofs.lowest.Reads as lowest-reads
-use Rattle.play.proofs.end_front.Reads as end-front-reads
+use Rattle.ending.proofs.end_front.Reads as end-front-reads
 use Rattle.play.proofs.front.Reads as front-reads
 
 lowest-requires : tie.Need-lowest-requires
 lowest-requires c κs = search needs

@@ -3,14 +3,14 @@ use mathlib.Core.Path.{_≡_}
 use native.Mathlib.Omega.{arith}
 use lib.ListN.{length}
 use Rattle.channel.specs.declared.Channel.{Channel}
-use Rattle.aborting.specs.Aborting.{Tidy, cleaned}
-use Rattle.aborting.proofs.Queues.{each-at, four}
+use Rattle.leaving.specs.Leaving.{Tidy, cleaned}
+use Rattle.leaving.proofs.Queues.{each-at, four}
 use borrow.Author.Needs.{needs}
-use Rattle.aborting.proofs.clean_all.Statement.{statement}
-use Rattle.aborting.proofs.clean_all.Tie as tie
-use Rattle.aborting.proofs.clean_all.Reads as reads
-use Rattle.aborting.proofs.clean_all.Lts as lts
-use Rattle.aborting.proofs.clean.Reads as clean-reads
+use Rattle.leaving.proofs.clean_all.Statement.{statement}
+use Rattle.leaving.proofs.clean_all.Tie as tie
+use Rattle.leaving.proofs.clean_all.Reads as reads
+use Rattle.leaving.proofs.clean_all.Lts as lts
+use Rattle.leaving.proofs.clean.Reads as clean-reads
 
 array-copy-out-clean : tie.Need-array-copy-out-clean
 array-copy-out-clean c = search needs

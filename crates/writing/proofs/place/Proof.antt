@@ -1,14 +1,13 @@
 -- `place` meets its contract, case by case of its two tests. Assumes nothing.
-use Prim.Native.Nat.{_≤_, _<_}
-use mathlib.Core.Path.{_≡_, sym, _∙_}
-use native.Mathlib.Omega.{arith}
+use Prim.Native.Nat.{_<_}
+use mathlib.Core.Path.{sym, _∙_}
 use lib.ListN.{length}
-use Rattle.play.proofs.Laws.{place-none, place-other, place-own, key-any}
+use Rattle.writing.proofs.Place.{place-none, place-other, place-own, key-any}
 use borrow.Author.Needs.{needs}
-use Rattle.play.proofs.place.Statement.{statement}
-use Rattle.play.proofs.place.Tie as tie
-use Rattle.play.proofs.place.Reads as reads
-use Rattle.play.proofs.place.Lts as lts
+use Rattle.writing.proofs.place.Statement.{statement}
+use Rattle.writing.proofs.place.Tie as tie
+use Rattle.writing.proofs.place.Reads as reads
+use Rattle.writing.proofs.place.Lts as lts
 use Rattle.channel.proofs.Channel.matches.Reads as matches-reads
 use Rattle.channel.proofs.lowest.Reads as lowest-reads
 

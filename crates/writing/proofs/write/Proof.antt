@@ -1,24 +1,24 @@
 -- `write` meets its contract: a caller's own channel gets the write; another's gives -10. Assumes nothing.
 use Prim.Native.Nat.{_≤_, _<_}
-use mathlib.Core.Path.{_≡_, refl, sym, _∙_}
+use mathlib.Core.Path.{refl, sym}
 use mathlib.Core.List.{[]}
 use native.Mathlib.Omega.{arith}
 use lib.ListN.{length}
 use Rattle.memory.proofs.Splice.{splice-none}
 use Rattle.store.specs.Store.{stateIn}
 use Rattle.answers.proofs.Laws.{finished-of, finished-told, told-as}
 use Rattle.play.proofs.Laws.{getD-any}
-use Rattle.play.proofs.Steps.{write-refused, write-told}
+use Rattle.writing.proofs.Steps.{write-refused, write-told}
 use borrow.Author.Needs.{needs}
-use Rattle.play.proofs.write.Statement.{statement}
-use Rattle.play.proofs.write.Tie as tie
-use Rattle.play.proofs.write.Reads as reads
-use Rattle.play.proofs.write.Lts as lts
+use Rattle.writing.proofs.write.Statement.{statement}
+use Rattle.writing.proofs.write.Tie as tie
+use Rattle.writing.proofs.write.Reads as reads
+use Rattle.writing.proofs.write.Lts as lts
 use Rattle.answers.proofs.done.Reads as done-reads
 use Rattle.answers.proofs.finished.Reads as finished-reads
 use Rattle.answers.proofs.pending.Reads as pending-reads
-use Rattle.play.proofs.join.Reads as join-reads
-use Rattle.play.proofs.place.Reads as place-reads
+use Rattle.writing.proofs.join.Reads as join-reads
+use Rattle.writing.proofs.place.Reads as place-reads
 
 place-requires : tie.Need-place-requires
 place-requires c κs = c .before .before .pre .0 .held .four
