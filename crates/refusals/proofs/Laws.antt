@@ -22,6 +22,7 @@ use Rattle.refusals.specs.declared.Op.{Op}
 use Rattle.refusals.specs.declared.Op.the-variants.{Open, Close, Abort, Event, Command}
 use Rattle.refusals.specs.Refusals.{opIn, askedOf, openTests, closeTests, abortTests, commandTests, Refuses}
 use Rattle.steps.specs.Steps.{numberOf, high, used, eventTests}
+use Rattle.steps.proofs.Laws.{used-among}
 
 -- ---- the machine's tests of a sound state on a board of four channels
 
