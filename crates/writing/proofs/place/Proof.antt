@@ -2,7 +2,7 @@
 use Prim.Native.Nat.{_<_}
 use mathlib.Core.Path.{sym, _∙_}
 use lib.ListN.{length}
-use Rattle.writing.proofs.Place.{place-none, place-other, place-own, key-any}
+use Rattle.writing.proofs.Places.{place-none, place-other, place-own, key-any}
 use borrow.Author.Needs.{needs}
 use Rattle.writing.proofs.place.Statement.{statement}
 use Rattle.writing.proofs.place.Tie as tie
