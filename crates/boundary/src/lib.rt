@@ -47,7 +47,7 @@ fn carry(
     let a = d.answer;
     let t = d.state;
     saving::save(t, state);
-    put_answer(answer, a);
+    handed::put_answer(answer, a);
     d.n
 }
 
@@ -71,7 +71,7 @@ pub fn call(
         return 255;
     }
     if !image::whole(state) {
-        put_answer(answer, answers::done(1, 0, key, 255));
+        handed::put_answer(answer, answers::done(1, 0, key, 255));
         return 0;
     }
     let r = Request {
@@ -79,8 +79,8 @@ pub fn call(
         id,
         flags,
         map,
-        prec: stored(prec),
+        prec: handed::stored(prec),
         key,
     };
-    carry(op_of(op), r, combos, state, table, replies, answer)
+    carry(handed::op_of(op), r, combos, state, table, replies, answer)
 }
