@@ -5,7 +5,8 @@ ghost use mathlib.Core.Path.{_≡_};
 ghost use Prim.Native.Nat.{_+_, _≤_, _<_, _/_, _^_};
 ghost use Rattle.machine.specs.State.{free as unusedM};
 ghost use Rattle.machine.specs.Maps.{odd};
-ghost use Rattle.channel.specs.Channel.{channelOf, resetOf, precOf, flushOf, stopOf, lockOf, takenOf, withWrites, hasKey, changedOf, hits, changeEach, matchingEach, lowestFrom};
+ghost use Rattle.channel.specs.Channel.{channelOf, resetOf, precOf, flushOf, stopOf, lockOf, takenOf, withWrites};
+ghost use Rattle.channel.specs.Channel.{hasKey, changedOf, hits, changeEach, matchingEach, lowestFrom};
 
 pub struct Channel {
     pub key: u16,

@@ -1,13 +1,10 @@
--- What a command that was not refused may take for granted.
+-- What any command that was not refused may take for granted.
 -- Assumes nothing.
 --
---   Among n ns      n is one of the numbers ns
---   Accepted ..     a sound state is held, the reply list is long enough, the id is valid and idle, the map is on the board
---   Asked ..        the same of any command: the number is a command's, and ALLOCATE's combinations stand in for the map
+--   Asked ..    what `Accepted` says, of any command: the number is a command's, and ALLOCATE's combinations stand in for the map
 use Prim.Native.Nat.{ℕ, _≤_, _<_}
 use mathlib.Core.Path.{_≡_}
 use mathlib.Core.Bool.{not}
-use mathlib.Core.Logic.{_⊎_}
 use mathlib.Core.List.{List, [], _∷_}
 use lib.Dec.{T}
 use lib.ListN.{length}
@@ -16,17 +13,7 @@ use Rattle.machine.specs.Sound.{ids}
 use Rattle.store.specs.declared.State.{State}
 use Rattle.store.specs.Store.{stateIn, Held}
 use Rattle.answers.specs.declared.Request.{Request}
-
-abbrev pub Among : ℕ → List ℕ → Type 0
-Among n [] = ⊥
-Among n (k ∷ ks) = (n ≡ k) ⊎ Among n ks
-
-pub record Accepted (r : Request) (s : State) (tb l : List ℕ) : Type 0 where
-  pub held : Held s tb
-  pub room : 384 ≤ length l
-  pub valid : r .id < 64
-  pub idle : T (not (among (r .id) (ids (stateIn s tb))))
-  pub map : r .map < 16
+use Rattle.changing.specs.Changing.{Among}
 
 pub record Asked (r : Request) (s : State) (ms tb l : List ℕ) : Type 0 where
   pub held : Held s tb

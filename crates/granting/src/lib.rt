@@ -10,16 +10,15 @@ ghost use Prim.Native.Nat.{_+_, _*_, _≤_};
 ghost use lib.ListN.{length};
 ghost use Rattle.queue.specs.Queue.{listOf};
 ghost use Rattle.channel.specs.Channel.{channelIn};
-ghost use Rattle.reply.specs.Replies.{sent};
-ghost use Rattle.machine.specs.Granting.{aborted, abortedIn};
+ghost use Rattle.machine.specs.Granting.{abortedIn};
 ghost use Rattle.store.specs.Store.{stateIn};
 ghost use Rattle.store.specs.Work.{Ready};
-ghost use Rattle.granting.specs.Granting.{idled, writesIn, Writable, Writables, takingOf, GrantedTo};
+ghost use Rattle.granting.specs.Granting.{Writable, Writables, Aborts, AbortsIn, takingOf, GrantedTo};
 
 // Every write of a channel, oldest first.
 pub fn abort_writes(table: &mut [u8], replies: &mut [u8], n: usize, c: Channel) -> usize
     requires { ⌜ Writable c × (length (now table) ≡ 1472) × (n * 6 + length (listOf (c .writes)) * 6 ≤ length (now replies)) ⌝ }
-    ensures { λ r. ⌜ (r ≡ n + length (listOf (c .writes))) × (now (replies .exit) ≡ sent (now (replies .entry)) n (aborted (c .key) (listOf (c .writes)))) × (now (table .exit) ≡ idled (listOf (c .writes)) (now (table .entry))) ⌝ }
+    ensures { λ r. ⌜ Aborts c n (now (table .entry)) (now (replies .entry)) r (now (table .exit)) (now (replies .exit)) ⌝ }
 {
     let q = c.writes;
     let ids = q.ids;
@@ -55,7 +54,7 @@ pub fn abort_named(
     map: u8,
 ) -> usize
     requires { ⌜ Writables cs × (length (now table) ≡ 1472) × (n * 6 + length (abortedIn map (each channelIn cs)) * 6 ≤ length (now replies)) ⌝ }
-    ensures { λ r. ⌜ (r ≡ n + length (abortedIn map (each channelIn cs))) × (now (replies .exit) ≡ sent (now (replies .entry)) n (abortedIn map (each channelIn cs))) × (now (table .exit) ≡ idled (writesIn map (each channelIn cs)) (now (table .entry))) ⌝ }
+    ensures { λ r. ⌜ AbortsIn map cs n (now (table .entry)) (now (replies .entry)) r (now (table .exit)) (now (replies .exit)) ⌝ }
 {
     let mut at = n;
     let mut i: usize = 0;

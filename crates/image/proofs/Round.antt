@@ -220,6 +220,10 @@ saved s {l} z e h =
       whole = subst (λ (x : List ℕ). Whole x) (sym e) (imageOf-whole s z (subst (λ (x : List ℕ). all isByte x ≡ true) e (bytes-all l h)));
     }
 
+-- no second image fits: a struct is saved as these bytes and no others
+pub one-image : {s : State} {l l₂ : List ℕ} → Saved s l → Saved s l₂ → l ≡ l₂
+one-image a b = a .bytes ∙ sym (b .bytes)
+
 -- ---- bytes that are whole are those of the struct that they hold
 
 -- n bytes from a place on, and m behind them

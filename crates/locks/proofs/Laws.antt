@@ -24,7 +24,7 @@ use Rattle.store.specs.Store.{Item, lockItem, waitItem, writeItems, items, tabl
 use Rattle.store.proofs.Table.{ins-at}
 use Rattle.store.proofs.Store.{good-of}
 use Rattle.locks.specs.declared.Sifted.{Sifted}
-use Rattle.locks.specs.Locks.{ends, endsAt, leftAt, leftOf, errorOf, lefts, ending, Locked, Sieved}
+use Rattle.locks.specs.Locks.{ends, endsAt, leftAt, leftOf, errorOf, lefts, ending, Locked, Sifting, Sieved, Sifts}
 use Rattle.locks.proofs.Items.{good-less, good-swap}
 use Rattle.locks.proofs.Turns.{lefts-end, lefts-stay, ending-end, ending-stay}
 
@@ -136,3 +136,15 @@ module _ (stolen : Bool) (m : ℕ) where
       let a = ap length (lefts-stay stolen m l ls e) in
       let b = ap length (ending-stay stolen m l ls e) in
       omega arith)
+
+-- ---- no second sieve fits
+
+sifted-parts : (r r₂ : Sifted) → r .locks ≡ r₂ .locks → r .n ≡ r₂ .n → r ≡ r₂
+sifted-parts r r₂ q n i = record { locks = q i; n = n i }
+
+pub one-sieve : {stolen : Bool} {m : ℕ} {q : Queue} {tb list : List ℕ} {n : ℕ} {r r₂ : Sifted} {tb₁ tb₂ l₁ l₂ : List ℕ} → Sifting stolen m q tb list n
+    → Sifts stolen m q tb list n r tb₁ l₁ → Sifts stolen m q tb list n r₂ tb₂ l₂ → (r ≡ r₂) × (tb₁ ≡ tb₂) × (l₁ ≡ l₂)
+one-sieve {r = r} {r₂ = r₂} a f g =
+    let x = f a in
+    let y = g a in
+    (sifted-parts r r₂ (x .queue ∙ sym (y .queue)) (x .count ∙ sym (y .count)), x .table ∙ sym (y .table), x .replies ∙ sym (y .replies))

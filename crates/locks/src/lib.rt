@@ -2,6 +2,7 @@
 // Assumes nothing.
 use queue::Queue;
 use reply::Reply;
+use store::State;
 use table::Head;
 ghost use Prim.Native.Nat.{_<_};
 ghost use Rattle.store.specs.Store.{lockIn};
@@ -31,7 +32,7 @@ fn judge(own: u8, m: u8, stolen: bool) -> Fate
             map: own,
         };
     }
-    let left = own & (15 - m);
+    let left = own & (State::TOP - m);
     Fate {
         ends: left == 0,
         error: 0,

@@ -28,8 +28,9 @@ use Rattle.answers.specs.Answers.{callOf}
 use Rattle.refusals.specs.declared.Op.{Op}
 use Rattle.refusals.specs.declared.Op.the-variants.{Open, Close, Abort, Event, Command}
 use Rattle.refusals.specs.Refusals.{opIn, askedOf}
-use Rattle.commands.specs.Commands.{Among, Asked}
-use Rattle.commands.proofs.Laws.{freed-few}
+use Rattle.changing.specs.Changing.{Among}
+use Rattle.commands.specs.Commands.{Asked}
+use Rattle.changing.proofs.Laws.{freed-few}
 use Rattle.operations.specs.Operations.{act, Allowed}
 
 -- ---- the same call

@@ -12,9 +12,8 @@ ghost use lib.ListN.{length};
 ghost use Rattle.machine.specs.State.{State as StateM};
 ghost use Rattle.machine.specs.Commands.{done, doRead};
 ghost use Rattle.channel.specs.Channel.{channelIn};
-ghost use Rattle.store.specs.Store.{stateIn};
 ghost use Rattle.store.specs.Work.{Ready};
-ghost use Rattle.answers.specs.Answers.{callOf, answerOf, Told};
+ghost use Rattle.answers.specs.Answers.{callOf, answerOf, Does};
 ghost use Rattle.play.specs.Play.{frontOf, withChannel};
 
 // The front write; 255 where there is none or the channel is stopped.
@@ -67,7 +66,7 @@ fn read_answer(r: Request, s: State) -> Answer
 
 pub fn read(r: Request, s: State, table: &[u8], replies: &mut [u8]) -> Outcome
     requires { ⌜ Ready s (now table) (now replies) 0 1 × (r .command ≡ 2) ⌝ }
-    ensures { λ d. ⌜ Told (doRead (callOf r []) (stateIn s (now (table .entry)))) (now (replies .entry)) d (now (table .entry)) (now (replies .exit)) ⌝ }
+    ensures { λ d. ⌜ Does (doRead (callOf r [])) s (now (table .entry)) (now (replies .entry)) d (now (table .entry)) (now (replies .exit)) ⌝ }
 {
     let a = read_answer(r, s);
     answers::finished(r, a, s, replies, 0)

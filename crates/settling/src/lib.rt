@@ -8,8 +8,8 @@ ghost use lib.ListN.{length};
 ghost use Rattle.machine.specs.Choosing.{held, grants};
 ghost use Rattle.machine.specs.Settling.{settle as settleM};
 ghost use Rattle.store.specs.Store.{stateIn};
-ghost use Rattle.store.specs.Work.{Ready, Did};
-ghost use Rattle.settling.specs.Settling.{failedReplies, onward, Failed, Looked, Turned};
+ghost use Rattle.store.specs.Work.{Ready};
+ghost use Rattle.settling.specs.Settling.{failedReplies, onward, Failed, Looked, Turned, Settles};
 
 // One look: what became of the request at place i. `next` is the place to look at next; after a grant the walk starts again.
 pub struct Turn {
@@ -86,7 +86,7 @@ fn visit(s: State, table: &mut [u8], replies: &mut [u8], n: usize, i: usize) -> 
 // Settles: walks from the head, starts again after a grant, and ends after a walk without one.
 pub fn settle(state: State, table: &mut [u8], replies: &mut [u8], count: usize) -> Settled
     requires { ⌜ Ready state (now table) (now replies) count (length (settleM (stateIn state (now table)) .replies)) ⌝ }
-    ensures { λ r. ⌜ Did (settleM (stateIn state (now (table .entry))) .state) (settleM (stateIn state (now (table .entry))) .replies) (now (replies .entry)) count (r .state) (now (table .exit)) (now (replies .exit)) (r .n) ⌝ }
+    ensures { λ r. ⌜ Settles state (now (table .entry)) (now (replies .entry)) count r (now (table .exit)) (now (replies .exit)) ⌝ }
 {
     let mut s = state;
     let mut n = count;

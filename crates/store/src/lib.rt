@@ -2,6 +2,7 @@
 // state of the machine. Assumes nothing.
 use channel::Channel;
 use queue::Queue;
+use table::Head;
 ghost use mathlib.Core.Path.{_≡_};
 ghost use lib.ListN.{set};
 ghost use Prim.Native.Nat.{_<_};
@@ -18,9 +19,9 @@ pub struct State {
 
 impl State {
     // How many requests the table has, how many combinations a list may have, and the highest map.
-    pub const REQUESTS: u8 = 64;
+    pub const REQUESTS: u8 = Queue::ROOM as u8;
 
-    pub const COMBOS: usize = 16;
+    pub const COMBOS: usize = Head::COMBOS;
 
     pub const TOP: u8 = 15;
 

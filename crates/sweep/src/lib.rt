@@ -7,16 +7,13 @@ use channel::Change;
 use store::State;
 ghost use mathlib.Core.Path.{_≡_};
 ghost use mathlib.Core.Bool.{true, false};
-ghost use mathlib.Core.List.{[]};
 ghost use Prim.Native.Nat.{_+_, _<_};
 ghost use lib.ListN.{length};
-ghost use Rattle.machine.specs.Granting.{abortedIn};
-ghost use Rattle.machine.specs.Commands.{done as doneM, matching as matchingM, eachChange};
-ghost use Rattle.channel.specs.Channel.{meaning};
+ghost use Rattle.machine.specs.Commands.{done as doneM};
 ghost use Rattle.store.specs.Store.{stateIn};
 ghost use Rattle.store.specs.Work.{Ready};
-ghost use Rattle.answers.specs.Answers.{callOf, answerOf, Told};
-ghost use Rattle.sweep.specs.Sweep.{Marks, Drops, errorAt};
+ghost use Rattle.answers.specs.Answers.{answerOf, Does};
+ghost use Rattle.sweep.specs.Sweep.{Marks, Drops, eachOf, abortedBy, errorAt};
 
 // The answer of a command done at the channels `ok`: -10 where it was asked for more.
 pub fn verdict(r: Request, ok: u8) -> Answer
@@ -32,7 +29,7 @@ pub fn verdict(r: Request, ok: u8) -> Answer
 // UPDATE, CLEAR, STOP, START, SETPREC: no write is aborted.
 pub fn mark_each(r: Request, how: Change, s: State, table: &[u8], replies: &mut [u8]) -> Outcome
     requires { ⌜ Ready s (now table) (now replies) 0 1 × (r .map < 16) × Marks how ⌝ }
-    ensures { λ d. ⌜ Told (eachChange (r .command) (meaning how) false (callOf r []) (stateIn s (now (table .entry)))) (now (replies .entry)) d (now (table .entry)) (now (replies .exit)) ⌝ }
+    ensures { λ d. ⌜ Does (eachOf r how false) s (now (table .entry)) (now (replies .entry)) d (now (table .entry)) (now (replies .exit)) ⌝ }
 {
     let cs = s.channels;
     let ok = channel::matching(cs, r.key, r.map);
@@ -45,8 +42,8 @@ pub fn mark_each(r: Request, how: Change, s: State, table: &[u8], replies: &mut 
 
 // RESET, FLUSH: the writes of the channels that match are aborted.
 pub fn drop_each(r: Request, how: Change, s: State, table: &mut [u8], replies: &mut [u8]) -> Outcome
-    requires { ⌜ Ready s (now table) (now replies) 0 (length (abortedIn (matchingM (r .key) (r .map) (stateIn s (now table) .channels)) (stateIn s (now table) .channels)) + 1) × (r .map < 16) × Drops how ⌝ }
-    ensures { λ d. ⌜ Told (eachChange (r .command) (meaning how) true (callOf r []) (stateIn s (now (table .entry)))) (now (replies .entry)) d (now (table .exit)) (now (replies .exit)) ⌝ }
+    requires { ⌜ Ready s (now table) (now replies) 0 (length (abortedBy r (stateIn s (now table))) + 1) × (r .map < 16) × Drops how ⌝ }
+    ensures { λ d. ⌜ Does (eachOf r how true) s (now (table .entry)) (now (replies .entry)) d (now (table .exit)) (now (replies .exit)) ⌝ }
 {
     let cs = s.channels;
     let ok = channel::matching(cs, r.key, r.map);

@@ -28,8 +28,9 @@ returns : tie.Need-returns
 returns c = λ u q.
     let s = c .before .before .before in
     let a = s .args in
-    let n : 4 ≤ c .before .before .lowest .result = c .if1 .taken in
-    let w = single-none (a .r .map) (a .s .channels) (u .channels) (s .pre) q _ (c .before .before .lowest .ensures) n in
+    let low = c .before .before .lowest in
+    let n : 4 ≤ low .result = c .if1 .taken in
+    let w = single-none (a .r .map) (a .s .channels) (u .channels) (s .pre) q _ (low .ensures) n in
     c .before .done .ensures ∙ ap answerOf (sym (read-no (callOf (a .r) []) u _ w (free-matches (a .r .key))))
 
 mul-c : tie.Need-mul-c
@@ -45,8 +46,9 @@ returns-2 : tie.Need-returns-2
 returns-2 c = λ u q.
     let s = c .before .before .before .before .before .before .before in
     let a = s .args in
-    let n : c .before .before .before .before .before .before .lowest .result < 4 = search needs in
-    let w = single-at (a .r .map) (a .s .channels) (u .channels) (s .pre) q _ (c .before .before .before .before .before .before .lowest .ensures) _ n in
+    let low = c .before .before .before .before .before .before .lowest in
+    let n : low .result < 4 = search needs in
+    let w = single-at (a .r .map) (a .s .channels) (u .channels) (s .pre) q _ (low .ensures) _ n in
     c .before .before .before .before .before .done .ensures
     ∙ ap answerOf (sym (read-no (callOf (a .r) []) u _ w (sym (matches-is (a .r .key) _) ∙ (sym (c .before .matches .ensures) ∙ not-true _ (c .if2 .taken)))))
 

@@ -1,10 +1,10 @@
 -- `fresh` meets its contract: the two tests say which half of the promise is asked. Assumes nothing.
 use mathlib.Core.Path.{_≡_}
 use lib.ListN.{length}
-use Rattle.boundary.proofs.Laws.{not-begun, begun}
+use Rattle.starting.proofs.Laws.{not-begun, begun}
 use borrow.Author.Needs.{needs}
-use Rattle.boundary.proofs.fresh.Statement.{statement}
-use Rattle.boundary.proofs.fresh.Tie as tie
+use Rattle.starting.proofs.fresh.Statement.{statement}
+use Rattle.starting.proofs.fresh.Tie as tie
 
 returns : tie.Need-returns
 returns c = let n : length (c .before .before .before .args .state .now) ≡ 414 → ⊥ = c .if1 .taken in not-begun (λ h. n (h .0))
