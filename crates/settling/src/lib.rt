@@ -3,7 +3,9 @@
 use choosing::Look;
 use store::State;
 use waiting::Settled;
-ghost use Prim.Native.Nat.{_<_};
+ghost use mathlib.Core.Path.{_≡_};
+ghost use Prim.Native.Nat.{_+_, _<_};
+ghost use mathlib.Core.Bool.{false};
 ghost use lib.ListN.{length};
 ghost use Rattle.machine.specs.Choosing.{held, grants};
 ghost use Rattle.machine.specs.Settling.{settle as settleM};
@@ -43,11 +45,11 @@ fn fails(s: State, table: &mut [u8], replies: &mut [u8], n: usize, i: usize) -> 
     }
 }
 
-fn hold(s: State, table: &mut [u8], replies: &mut [u8], n: usize, i: usize, map: u8) -> Turn
-    requires { ⌜ Looked s (now table) (now replies) n i (held map) ⌝ }
-    ensures { λ r. ⌜ Turned s (now (table .entry)) (now (replies .entry)) n i r (now (table .exit)) (now (replies .exit)) ⌝ }
+// The walk goes on behind place i, with the state as it is.
+fn pass(d: Settled, i: usize) -> Turn
+    requires { ⌜ i < 64 ⌝ }
+    ensures { λ r. ⌜ r ≡ record { state = d .state; n = d .n; next = i + 1; granted = false } ⌝ }
 {
-    let d = waiting::steal(s, table, replies, n, map);
     let kept = d.state;
     Turn {
         state: kept,
@@ -55,6 +57,14 @@ fn hold(s: State, table: &mut [u8], replies: &mut [u8], n: usize, i: usize, map:
         next: i + 1,
         granted: false,
     }
+}
+
+fn hold(s: State, table: &mut [u8], replies: &mut [u8], n: usize, i: usize, map: u8) -> Turn
+    requires { ⌜ Looked s (now table) (now replies) n i (held map) ⌝ }
+    ensures { λ r. ⌜ Turned s (now (table .entry)) (now (replies .entry)) n i r (now (table .exit)) (now (replies .exit)) ⌝ }
+{
+    let d = waiting::steal(s, table, replies, n, map);
+    pass(d, i)
 }
 
 fn grant(s: State, table: &mut [u8], replies: &mut [u8], n: usize, i: usize, map: u8) -> Turn
