@@ -11,7 +11,7 @@
 #                            unless something failed
 #
 # CC is the compiler on x86-64, CC_X86_64 the one on another machine.
-library=$root/target/staticlib/libboundary.a
+library=$root/target/staticlib/libqamhudeer.a
 linker=
 skipped=77
 
@@ -38,7 +38,7 @@ library_ready() {
     has_kit || return
     complain "the library is proved and built, which may take minutes:"
     mkdir -p "$root/target" && began=$(mktemp "$root/target/began.XXXXXX") && said=$(mktemp "$root/target/said.XXXXXX") || return
-    watched "$said" staticlib boundary && [ -f "$library" ]
+    watched "$said" staticlib qamhudeer && [ -f "$library" ]
     built=$?
     [ $built -ne 0 ] || touch -r "$began" "$library"
     rm -f "$began" "$said"

@@ -1,20 +1,19 @@
 -- Why refusal, operation and settling make the machine's call: what is refused with a number, what is not, and what the state
 -- before settling gives. Assumes nothing.
-use Prim.Native.Nat.{ℕ, zero, suc, _+_, _*_, _/_, _≤_, _<_}
-use mathlib.Core.Path.{_≡_, refl, ap, ap₂, sym, subst, _∙_}
+use Prim.Native.Nat.{ℕ, zero, suc, _+_, _≤_, _<_}
+use mathlib.Core.Path.{_≡_, refl, ap, ap₂, sym, _∙_}
 use mathlib.Core.Bool.{Bool, true, false, not, _&&_}
 use mathlib.Core.List.{List, [], _∷_, _++_}
 use native.Mathlib.Omega.{arith}
 use native.Mathlib.Nat.{zero-add}
-use lib.Dec.{T, eqb, leb, ltb, nltb→le, le→leb, leb→le, nleb→lt, ltb→lt}
+use lib.Dec.{T, eqb, leb, ltb, nltb→le, le→leb, leb→le, nleb→lt}
 use lib.ListN.{length, length-append}
 use borrow.Author.Tests.{le-ltb, lt-ltb}
-use Rattle.machine.specs.Numbers.{NOROOM, ALLOCFAILED}
 use Rattle.machine.specs.Lists.{if_then_else_, all}
-use Rattle.machine.specs.State.{State as StateM, Reply, Outcome as OutcomeM, Call, Op as OpM, OPEN, CLOSE, ABORT, EVENT, COMMAND}
+use Rattle.machine.specs.State.{State as StateM, Outcome as OutcomeM, Call, Op as OpM, OPEN, CLOSE, ABORT, EVENT, COMMAND}
 use Rattle.machine.specs.Choosing.{look}
 use Rattle.machine.specs.Commands.{finished, silent, done}
-use Rattle.machine.specs.Allocating.{doOpen, opening}
+use Rattle.machine.specs.Allocating.{doOpen}
 use Rattle.machine.specs.Settling.{settle}
 use Rattle.machine.specs.Sound.{sound}
 use Rattle.machine.specs.Kinds.{kind}
@@ -28,31 +27,26 @@ use Rattle.machine_laws.proofs.Replies.{call-replies}
 use Rattle.machine_laws.proofs.KeepingSettle.{look-unlocked}
 use Rattle.machine_laws.proofs.KeepingCalls.{id-small, range-prec, range-key, open-sound, close-sound, abort-sound, event-sound, perform-sound}
 use Rattle.machine_laws.proofs.Board.{Wide, open-wide, close-wide, abort-wide, event-wide, perform-wide}
-use Rattle.memory.specs.Splice.{splice}
 use Rattle.reply.specs.Replies.{sent}
 use Rattle.reply.proofs.Laws.{sent-append, length-sent}
 use Rattle.store.specs.declared.State.{State}
-use Rattle.store.specs.Store.{structOf, tableOf, stateIn, Held}
+use Rattle.store.specs.Store.{stateIn, Held}
 use Rattle.store.specs.Work.{Ready, Did}
 use Rattle.store.proofs.Store.{held-parts, held-four, held-next}
 use Rattle.sound.specs.Sound.{Decides}
 use Rattle.answers.specs.declared.Request.{Request}
 use Rattle.answers.specs.declared.Answer.{Answer}
 use Rattle.answers.specs.declared.Outcome.{Outcome}
-use Rattle.answers.specs.Answers.{answerOf, answerIn, ownReply, Told}
-use Rattle.answers.proofs.Laws.{Finished, told-as}
+use Rattle.answers.specs.Answers.{Told}
+use Rattle.answers.proofs.Laws.{told-as}
 use Rattle.refusals.specs.declared.Op.{Op}
 use Rattle.refusals.specs.declared.Op.the-variants.{Open, Close, Abort, Event, Command}
-use Rattle.refusals.specs.Refusals.{opIn, askedOf, numberOf, Refuses}
+use Rattle.refusals.specs.Refusals.{opIn, askedOf, Refuses}
+use Rattle.steps.specs.Steps.{numberOf}
 use Rattle.operations.specs.Operations.{act, Allowed}
-use Rattle.arbiter.specs.Arbiter.{restsAt, isDue, dueReplies, Refused, Unmoved, Called}
-
-pub false-true : false ≡ true → ⊥
-false-true z = let y : _≡_ {A = ℕ} 0 1 = ap (λ (b : Bool). if b then 1 else 0) z in omega arith
-
-sent-none : (l : List ℕ) → sent l 0 [] ≡ l
-unfolding splice
-sent-none l = refl
+use Rattle.refusing.proofs.Laws.{false-true}
+use Rattle.arbiter.specs.Arbiter.{restsAt, Unmoved, Called}
+use Rattle.refusing.specs.Refusing.{dueReplies, Refused}
 
 -- ---- the number of a refusal
 
@@ -126,31 +120,6 @@ refuse-due Abort e r ms len s = refl
 refuse-due Event e r ms len s = refl
 refuse-due Command e r ms len s =
     by-test (leb e 5) (λ t. rw (test-true (leb e 5) t, le-ltb 5 e (leb→le e 5 t))) (λ t. rw (test-false (leb e 5) t, lt-ltb 5 e (nleb→lt e 5 t)))
-
-pub due-late : (o : Op) (e : ℕ) → isDue o e ≡ true → 5 < e
-due-late Open e q = absurd (false-true q)
-due-late Close e q = absurd (false-true q)
-due-late Abort e q = absurd (false-true q)
-due-late Event e q = absurd (false-true q)
-due-late Command e q = ltb→lt 5 e (rw q tt)
-
--- how `refuse` meets its contract
-module _ {o : Op} {e : ℕ} {r : Request} {s : State} {l : List ℕ} {d : Outcome} {l′ : List ℕ} where
-  pub due-refused : isDue o e ≡ true → {a : Answer} → a ≡ answerOf (done e 0 (r .key) 255) → Finished r a s l 0 d l′ → Refused o e r s l d l′
-  due-refused q {a} h f =
-      let z : ownReply r (answerIn a) ≡ dueReplies o e r = ap (λ (x : Answer). ownReply r (answerIn x)) h ∙ sym (ap (λ (b : Bool). if b then ownReply r (done e 0 (r .key) 255) else []) q) in
-      record {
-        answer = f .answer ∙ h;
-        state = f .state;
-        count = f .count ∙ zero-add _ ∙ ap length z;
-        list = f .list ∙ ap (sent l 0) z;
-      }
-
-pub mute-refused : {o : Op} {e : ℕ} {r : Request} {s : State} {a : Answer} (l : List ℕ) → isDue o e ≡ false → a ≡ answerOf (done e 0 (r .key) 255)
-    → Refused o e r s l (record { answer = a; state = s; n = 0 }) l
-mute-refused {o} {e} {r} l q h =
-    let z : [] ≡ dueReplies o e r = sym (ap (λ (b : Bool). if b then ownReply r (done e 0 (r .key) 255) else []) q) in
-    record { answer = h; state = refl; count = ap length z; list = sym (sent-none l) ∙ ap (sent l 0) z }
 
 module _ {o : Op} {r : Request} {s : State} {ms tb : List ℕ} {len e : ℕ} (w : Refuses o r s ms tb len e) (n : e ≡ 0 → ⊥) where
   is-refused : refusal (opIn o (r .command)) (askedOf o r ms len) (stateIn s tb) ≡ refused e

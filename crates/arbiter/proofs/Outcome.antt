@@ -7,16 +7,15 @@ use mathlib.Core.List.{List}
 use lib.Dec.{T, leb, le→leb}
 use lib.ListN.{length}
 use Rattle.machine.specs.Lists.{among}
-use Rattle.machine.specs.State.{State as StateM, Outcome as OutcomeM}
+use Rattle.machine.specs.State.{Outcome as OutcomeM}
 use Rattle.machine.specs.Call.{call, inRange}
 use Rattle.machine.proofs.Tests.{and-both}
-use Rattle.machine_laws.proofs.Sound.{Parts, parts}
+use Rattle.machine_laws.proofs.Sound.{parts}
 use Rattle.machine_laws.proofs.Refusals.{refusals, refused-same}
 use Rattle.machine_laws.proofs.KeepingCalls.{call-sound}
 use Rattle.machine_laws.proofs.Board.{call-wide}
 use Rattle.store.specs.declared.State.{State}
 use Rattle.store.specs.Store.{structOf, tableOf, stateIn, Held}
-use Rattle.store.specs.Work.{Did}
 use Rattle.store.proofs.Store.{held-four, held-next}
 use Rattle.sound.specs.Sound.{Decides, soundTest}
 use Rattle.sound.proofs.Laws.{decides}
@@ -27,7 +26,7 @@ use Rattle.answers.specs.Answers.{Told}
 use Rattle.refusals.specs.declared.Op.{Op}
 use Rattle.refusals.specs.Refusals.{askedOf}
 use Rattle.arbiter.specs.Arbiter.{Unmoved, Handled, Called}
-use Rattle.arbiter.proofs.Laws.{false-true}
+use Rattle.refusing.proofs.Laws.{false-true}
 
 -- the same answer, struct, count, table and list
 pub record Same (d d₂ : Outcome) (tb tb₂ l l₂ : List ℕ) : Type 0 where

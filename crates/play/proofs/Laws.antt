@@ -1,22 +1,20 @@
 -- READ, WRITE and the event by the place of their channel. Assumes nothing.
-use Prim.Native.Nat.{ℕ, zero, suc, _+_, _*_, _^_, _≤_, _<_}
-use mathlib.Core.Path.{_≡_, refl, ap, ap₂, sym, subst, _∙_}
+use Prim.Native.Nat.{ℕ, zero, suc, _^_, _≤_, _<_}
+use mathlib.Core.Path.{_≡_, refl, ap, sym, subst, _∙_}
 use mathlib.Core.Bool.{Bool, true, false, not, _&&_}
-use mathlib.Core.List.{List, [], _∷_, _++_, map}
+use mathlib.Core.List.{List, [], _∷_, map}
 use native.Mathlib.Omega.{arith}
-use lib.Dec.{T, eqb, T-not, not-T, eqb→eq}
-use lib.ListN.{length, getD, set, take, length-map}
+use lib.Dec.{T, eqb, eqb→eq}
+use lib.ListN.{length, getD, take, length-map}
 use Rattle.machine.specs.Numbers.{NONE, NOALLOCATION}
 use Rattle.machine.specs.Lists.{if_then_else_}
-use Rattle.machine.specs.State.{Channel as ChannelM, State as StateM, Call, Answer as AnswerM, Outcome, free}
+use Rattle.machine.specs.State.{Channel as ChannelM, State as StateM, Call, Answer as AnswerM, free}
 use Rattle.machine.specs.Maps.{lowest, at}
 use Rattle.machine.specs.Commands.{matches, done, finished, front, doRead}
-use Rattle.machine.proofs.Tests.{by-test, test-true, test-false}
 use Rattle.channel.specs.declared.Channel.{Channel}
-use Rattle.channel.specs.Channel.{channelIn, channelOf, lowestFrom, hasKey}
+use Rattle.channel.specs.Channel.{channelIn, lowestFrom, hasKey}
 use Rattle.channel.proofs.Single.{lowest-pow, lowest-none, at-none, at-lowest}
-use borrow.Author.Tests.{le-leb, lt-leb}
-use Rattle.play.specs.Play.{frontOf, placeOf}
+use Rattle.play.specs.Play.{frontOf}
 
 -- ---- the front of a queue in its array
 
@@ -98,24 +96,9 @@ read-finishes c s =
     go true x y = refl
     go false x y = refl
 
--- ---- the place of a caller's channel
-
-pub place-none : (k m : ℕ) (cs : List Channel) (i : ℕ) → i ≡ lowestFrom 4 m → 4 ≤ i → 4 ≡ placeOf k m cs
-unfolding placeOf
-place-none k m cs i e h = rw (← e, le-leb 4 i h) refl
-
-pub place-other : (k m : ℕ) (cs : List Channel) (i : ℕ) → i ≡ lowestFrom 4 m → i < 4 → hasKey k (getD cs i (channelOf free)) ≡ false → 4 ≡ placeOf k m cs
-unfolding placeOf
-place-other k m cs i e h f = rw (← e, lt-leb 4 i h, f) refl
-
-pub place-own : (k m : ℕ) (cs : List Channel) (i : ℕ) → i ≡ lowestFrom 4 m → i < 4 → hasKey k (getD cs i (channelOf free)) ≡ true → i ≡ placeOf k m cs
-unfolding placeOf
-place-own k m cs i e h f = rw (← e, lt-leb 4 i h, f) refl
+-- ---- a channel of the board, whatever stands for the others
 
 pub getD-any : (cs : List Channel) (i : ℕ) (d e : Channel) → i < length cs → getD cs i d ≡ getD cs i e
 getD-any [] i d e h = absurd (omega arith)
 getD-any (c ∷ cs) zero d e h = refl
 getD-any (c ∷ cs) (suc i) d e h = getD-any cs i d e (omega arith)
-
-pub key-any : (k : ℕ) (cs : List Channel) (i : ℕ) (d : Channel) (b : Bool) → i < length cs → hasKey k (getD cs i d) ≡ b → hasKey k (getD cs i (channelOf free)) ≡ b
-key-any k cs i d b h e = rw (getD-any cs i (channelOf free) d h) e

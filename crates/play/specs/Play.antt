@@ -2,21 +2,17 @@
 -- Assumes nothing.
 --
 --   frontOf c         the id at the front of the queue, or 255 if it is empty or the channel stopped
---   placeOf k m cs    the place of the lowest channel that m names, where it has the key; 4 otherwise
 --   withBack i j s    the state with the write j at the back of channel i
 --   withFront i s     the state without the front write of channel i
 --   withChannel i c s the struct with channel i replaced
 use Prim.Native.Nat.{ℕ}
-use mathlib.Core.Bool.{Bool, true, false}
-use mathlib.Core.List.{List, [], _∷_, _++_}
-use lib.Dec.{leb}
+use mathlib.Core.List.{[], _∷_, _++_}
 use lib.ListN.{set, getD}
 use Rattle.machine.specs.Numbers.{NONE}
 use Rattle.machine.specs.Lists.{if_then_else_}
 use Rattle.machine.specs.State.{Channel as ChannelM, State as StateM, free, withChannels}
 use Rattle.machine.specs.Commands.{front, back, setWrites}
 use Rattle.channel.specs.declared.Channel.{Channel}
-use Rattle.channel.specs.Channel.{channelOf, hasKey, lowestFrom}
 use Rattle.store.specs.declared.State.{State}
 
 unfoldable pub frontOf : ChannelM → ℕ
@@ -24,11 +20,6 @@ frontOf c = if c .stopped then NONE else front (c .writes)
 
 abbrev pub withChannel : ℕ → Channel → State → State
 withChannel i c s = record { channels = set (s .channels) i c; locks = s .locks; waiting = s .waiting; opens = s .opens; last = s .last }
-
-unfoldable pub placeOf : ℕ → ℕ → List Channel → ℕ
-placeOf k m cs =
-    let i = lowestFrom 4 m in
-    if leb 4 i then 4 else if hasKey k (getD cs i (channelOf free)) then i else 4
 
 abbrev pub withBack : ℕ → ℕ → StateM → StateM
 withBack i j s = withChannels (set (s .channels) i (setWrites (getD (s .channels) i free .writes ++ j ∷ []) (getD (s .channels) i free))) s

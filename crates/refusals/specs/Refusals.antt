@@ -3,26 +3,23 @@
 --
 --   opIn o n               the machine's operation; a command has its number n
 --   askedOf o r ms len     the machine's call: a request with combinations ms and a reply list of len bytes, six to a record
---   numberOf f             the number of a refusal; 0 is none
---   high m                 a map that names more than the four channels
---   used tb i              the entry of id i begins with a command
 --   openTests .. commandTests    the tests after 1 and 5, which every operation has, each with its number
 --   Refuses .. e           what `refusal` promises of a sound state: the number of the machine's refusal
 use Prim.Native.Nat.{ℕ, _/_}
 use mathlib.Core.Path.{_≡_}
-use mathlib.Core.Bool.{Bool, not, _&&_}
+use mathlib.Core.Bool.{Bool, _&&_}
 use mathlib.Core.List.{List, [], _∷_}
 use lib.Dec.{eqb, leb, ltb}
-use lib.ListN.{length, getD}
-use Rattle.memory.specs.Splice.{block}
+use lib.ListN.{length}
 use Rattle.machine.specs.Numbers.{OPENFAIL, NOCMD, BADLENGTH, BADADDRESS, NOTOPEN, INUSE, BADID, COMBOS}
 use Rattle.machine.specs.Lists.{if_then_else_, any}
 use Rattle.machine.specs.State.{Call, Op as OpM, OPEN, CLOSE, ABORT, EVENT, COMMAND}
 use Rattle.machine.specs.Kinds.{kind, unknown, allocates}
-use Rattle.machine.specs.Refusals.{Refusal, accepted, refused, refusal}
+use Rattle.machine.specs.Refusals.{refusal}
 use Rattle.store.specs.declared.State.{State}
 use Rattle.store.specs.Store.{stateIn}
 use Rattle.answers.specs.declared.Request.{Request}
+use Rattle.steps.specs.Steps.{numberOf, high, used}
 use Rattle.refusals.specs.declared.Op.{Op}
 use Rattle.refusals.specs.declared.Op.the-variants.{Open, Close, Abort, Event, Command}
 
@@ -46,19 +43,6 @@ askedOf o r ms len =
       room = len / 6;
     }
 
-abbrev pub numberOf : Refusal → ℕ
-numberOf accepted = 0
-numberOf (refused e) = e
-
-abbrev pub high : ℕ → Bool
-high m = not (ltb m 16)
-
-abbrev pub used : List ℕ → ℕ → Bool
-used tb i = not (eqb (getD (block 23 tb i) 0 0) 0)
-
-abbrev pub listTests : List ℕ → List (Bool × ℕ)
-listTests ms = (ltb COMBOS (length ms), BADLENGTH) ∷ (any high ms, BADADDRESS) ∷ []
-
 abbrev pub openTests : List ℕ → ℕ → List (Bool × ℕ)
 openTests ms opens = (ltb COMBOS (length ms), BADLENGTH) ∷ (any high ms, BADADDRESS) ∷ (leb 65535 opens, OPENFAIL) ∷ []
 
@@ -67,9 +51,6 @@ closeTests opens = (eqb opens 0, NOTOPEN) ∷ []
 
 abbrev pub abortTests : ℕ → List (Bool × ℕ)
 abortTests id = (ltb 63 id, BADID) ∷ []
-
-abbrev pub eventTests : ℕ → List (Bool × ℕ)
-eventTests m = (high m, BADADDRESS) ∷ []
 
 abbrev pub commandTests : Request → List ℕ → List ℕ → ℕ → List (Bool × ℕ)
 commandTests r ms tb opens =

@@ -1,30 +1,30 @@
 -- The promise of a turn, from what its step did. Assumes nothing.
-use Prim.Native.Nat.{ℕ, zero, suc, _+_, _-_, _*_, _^_, _≤_, _<_}
-use mathlib.Core.Path.{_≡_, refl, ap, ap₂, sym, subst, _∙_}
-use mathlib.Core.Bool.{Bool, true, false, not, _&&_, _||_}
+use Prim.Native.Nat.{ℕ, suc, _+_, _-_, _≤_, _<_}
+use mathlib.Core.Path.{_≡_, refl, ap, sym, subst, _∙_}
+use mathlib.Core.Bool.{Bool, true, false, not, _&&_}
 use mathlib.Core.List.{List, [], _∷_, _++_, map}
 use native.Mathlib.Omega.{arith}
 use lib.Dec.{T, ltb, ltb→lt}
 use lib.ListN.{length, take, drop, length-append, length-map}
-use Rattle.queue.specs.Queue.{queueOf, listOf}
 use Rattle.machine.specs.Numbers.{ALLOCFAILED}
 use Rattle.machine.specs.Lists.{if_then_else_, all}
-use Rattle.machine.specs.State.{Channel as ChannelM, Request, Reply, State as StateM}
+use Rattle.machine.specs.State.{Channel as ChannelM, Request, State as StateM}
 use Rattle.machine.specs.Choosing.{Choice, none, chosen, eligible, allFree, cost, firstFree, cheaper, cheapest, orElse, choose, Look, fails, held, grants, standing, look}
 use Rattle.machine.specs.Maps.{named}
 use Rattle.machine.specs.Granting.{keyFor, abortedIn, granted, taken}
 use Rattle.machine_laws.proofs.Maps.{length-change}
-use Rattle.machine.specs.Settling.{Settled, replied, settle}
+use Rattle.machine.specs.Settling.{replied, settle}
 use Rattle.machine.proofs.Tests.{if-elim, and-left, and-right}
 use Rattle.machine_laws.proofs.Looking.{behind, resume, resume-stays, resume-drops, resume-held, resume-grants}
 use Rattle.machine_laws.proofs.Sound.{Parts}
 use Rattle.store.specs.declared.State.{State}
-use Rattle.store.specs.Store.{structOf, tableOf, stateIn, Held}
+use Rattle.store.specs.Store.{structOf, stateIn}
 use Rattle.store.specs.Work.{Ready, Did}
-use Rattle.store.proofs.Store.{held-parts, held-four, held-next, waiting-count}
+use Rattle.store.proofs.Store.{held-parts, held-four, held-next}
 use Rattle.settling.specs.declared.Turn.{Turn}
-use Rattle.settling.specs.Settling.{waiter, outAt, stolen, withoutLocks, failedState, failedReplies, failedNext, onward, ahead, Less, Same, Failed, Looked, Turned}
-use Rattle.settling.proofs.Waiting.{waiter-in, out-sound}
+use Rattle.waiting.specs.Waiting.{waiter, outAt, stolen, withoutLocks}
+use Rattle.settling.specs.Settling.{failedState, failedReplies, failedNext, onward, Failed, Looked, Turned}
+use Rattle.waiting.proofs.Waiting.{waiter-in, out-sound}
 use Rattle.settling.proofs.Turns.{same-behind, fits-behind, onward-at, onward-next, onward-out, out-length, waiter-sound, request-ranges, locks-sound, granted-sound}
 
 -- ---- the chosen map is on the board

@@ -1,34 +1,33 @@
 -- A turn of settling: each kind of look does its part, and what is to come stays the same. Assumes nothing.
-use Prim.Native.Nat.{ℕ, zero, suc, _+_, _-_, _*_, _^_, _≤_, _<_}
+use Prim.Native.Nat.{ℕ, zero, suc, _+_, _*_, _^_, _≤_, _<_}
 use mathlib.Core.Path.{_≡_, refl, ap, ap₂, sym, subst, _∙_}
-use mathlib.Core.Bool.{Bool, true, false, not, _&&_}
+use mathlib.Core.Bool.{Bool, not, _&&_}
 use mathlib.Core.List.{List, [], _∷_, _++_, map}
 use native.Mathlib.Omega.{arith}
 use native.Mathlib.Numerals.{add-one}
-use lib.Dec.{T, leb, ltb, leb→le, ltb→lt}
-use lib.ListN.{length, take, drop, getD, length-append, length-map, length-take, length-drop}
+use lib.Dec.{T, leb, ltb, leb→le}
+use lib.ListN.{length, take, drop, getD, length-append, length-take, length-drop}
 use lib.Seq.{drop-cons, take-suc, take-at, drop-at, length-take-le}
 use Rattle.reply.specs.Replies.{sent}
 use Rattle.reply.proofs.Laws.{sent-append, length-sent}
-use Rattle.machine.specs.Lists.{if_then_else_, all, keep}
-use Rattle.machine.specs.State.{Channel as ChannelM, Lock, Request, Reply, State as StateM, withWaiting, withLocks}
+use Rattle.machine.specs.Lists.{all}
+use Rattle.machine.specs.State.{Channel as ChannelM, Lock, Request, Reply, State as StateM}
 use Rattle.machine.specs.Maps.{named, meets}
-use Rattle.machine.specs.Choosing.{Look, fails, held, grants, look}
-use Rattle.machine.specs.Granting.{keyFor, abortedIn, granted}
+use Rattle.machine.specs.Choosing.{grants, look}
+use Rattle.machine.specs.Granting.{granted}
 use Rattle.machine.specs.Sound.{soundRequest, soundLock, ids, writesOf}
-use Rattle.machine.specs.Settling.{Settled, replied, settle}
+use Rattle.machine.specs.Settling.{Settled}
 use Rattle.machine.proofs.Tests.{and-left, and-right}
-use Rattle.machine_laws.proofs.Lists.{Sub, sub-refl, sub-append, sub-map, sub-keep, sub-all}
+use Rattle.machine_laws.proofs.Lists.{sub-refl, sub-append, sub-map, sub-keep, sub-all}
 use Rattle.machine_laws.proofs.Keeping.{parts-sub, grant-sound}
 use Rattle.machine_laws.proofs.KeepingSettle.{Unlocked, look-unlocked}
-use Rattle.machine_laws.proofs.Looking.{behind, resume, settle-resume, resume-end, resume-stays, resume-drops, resume-held, resume-grants, resume-waiting}
+use Rattle.machine_laws.proofs.Looking.{behind, resume, resume-waiting}
 use Rattle.machine_laws.proofs.Sound.{Parts}
 use Rattle.store.specs.declared.State.{State}
-use Rattle.store.specs.Store.{structOf, tableOf, stateIn, Held}
-use Rattle.store.specs.Work.{Ready, Did}
-use Rattle.store.proofs.Store.{held-parts, held-four, held-next, waiting-count}
-use Rattle.settling.specs.Settling.{nobody, waiter, outAt, stolen, withoutLocks, onward, Same}
-use Rattle.settling.proofs.Waiting.{waiter-in, out-sound}
+use Rattle.store.specs.Work.{Did}
+use Rattle.waiting.specs.Waiting.{nobody, waiter, outAt, withoutLocks}
+use Rattle.settling.specs.Settling.{onward, Same}
+use Rattle.waiting.proofs.Waiting.{out-sound}
 
 -- ---- Same
 
