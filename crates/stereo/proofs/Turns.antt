@@ -15,7 +15,7 @@ use Rattle.machine.proofs.Tests.{test-true, test-false}
 use Rattle.machine_laws.proofs.Lists.{all-append, among-all}
 use Rattle.memory.specs.Splice.{splice}
 use Rattle.memory.proofs.Splice.{splice-none, splice-snoc, length-splice}
-use Rattle.stereo.specs.Stereo.{meets, below, wished, refusal, count, made, Makes, times, accepts}
+use Rattle.stereo.specs.Stereo.{meets, below, wished, refusal, count, made, Listed, Makes, times, accepts}
 use Rattle.stereo.specs.declared.Made.{Made}
 use Rattle.stereo.proofs.Laws.{next-meets, next-misses, room, wished-has}
 
@@ -181,22 +181,22 @@ module _ {l r : ℕ} {ms : List ℕ} {m : ℕ} (t : Once l r ms m) where
 module _ (l r : ℕ) (ms : List ℕ) where
   pub left-refused : 2 < l → Makes l r ms (record { error = 11; count = 0 }) ms
   unfolding refusal count made
-  left-refused h = record { error = rw (lt-ltb 2 l h) refl; count = rw (lt-ltb 2 l h) refl; bytes = rw (lt-ltb 2 l h) refl }
+  left-refused h = record { error = rw (lt-ltb 2 l h) refl; number = rw (lt-ltb 2 l h) refl; bytes = rw (lt-ltb 2 l h) refl }
 
   module _ (h : l ≤ 2) where
     pub right-refused : 2 < r → Makes l r ms (record { error = 11; count = 0 }) ms
     unfolding refusal count made
-    right-refused g = record { error = rw (le-ltb 2 l h, lt-ltb 2 r g) refl; count = rw (le-ltb 2 l h, lt-ltb 2 r g) refl; bytes = rw (le-ltb 2 l h, lt-ltb 2 r g) refl }
+    right-refused g = record { error = rw (le-ltb 2 l h, lt-ltb 2 r g) refl; number = rw (le-ltb 2 l h, lt-ltb 2 r g) refl; bytes = rw (le-ltb 2 l h, lt-ltb 2 r g) refl }
 
     module _ (g : r ≤ 2) where
       pub room-refused : length ms < 4 → Makes l r ms (record { error = 12; count = 0 }) ms
       unfolding refusal count made
-      room-refused k = record { error = rw (le-ltb 2 l h, le-ltb 2 r g, lt-ltb (length ms) 4 k) refl; count = rw (le-ltb 2 l h, le-ltb 2 r g, lt-ltb (length ms) 4 k) refl; bytes = rw (le-ltb 2 l h, le-ltb 2 r g, lt-ltb (length ms) 4 k) refl }
+      room-refused k = record { error = rw (le-ltb 2 l h, le-ltb 2 r g, lt-ltb (length ms) 4 k) refl; number = rw (le-ltb 2 l h, le-ltb 2 r g, lt-ltb (length ms) 4 k) refl; bytes = rw (le-ltb 2 l h, le-ltb 2 r g, lt-ltb (length ms) 4 k) refl }
 
       pub made-whole : 4 ≤ length ms → (n : ℕ) (ms′ : List ℕ) → n ≡ length (wished l r) → ms′ ≡ splice ms 0 (wished l r)
           → Makes l r ms (record { error = 0; count = n }) ms′
       unfolding refusal count made
-      made-whole k n ms′ e f = record { error = rw (le-ltb 2 l h, le-ltb 2 r g, le-ltb (length ms) 4 k) refl; count = rw (le-ltb 2 l h, le-ltb 2 r g, le-ltb (length ms) 4 k) e; bytes = rw (le-ltb 2 l h, le-ltb 2 r g, le-ltb (length ms) 4 k) f }
+      made-whole k n ms′ e f = record { error = rw (le-ltb 2 l h, le-ltb 2 r g, le-ltb (length ms) 4 k) refl; number = rw (le-ltb 2 l h, le-ltb 2 r g, le-ltb (length ms) 4 k) e; bytes = rw (le-ltb 2 l h, le-ltb 2 r g, le-ltb (length ms) 4 k) f }
 
 -- ---- accepts
 

@@ -10,7 +10,8 @@
 --   refusal l r room     why the maker refuses, or 0
 --   made l r ms          what then stands in the room ms
 --   count l r room       how many maps were written
---   Makes l r ms m ms′   the maker's promise: its answer m, and the room afterwards
+--   Listed l r ms e n ms′   the maker's promise: its refusal or 0, the number of maps, and the room afterwards
+--   Makes l r ms m ms′   the same of an answer that is a struct
 --   times b ms           at how many places of the list the number b stands
 --   accepts l r ms       the checker's test
 --   Accepted l r ms      the same as the request words it
@@ -61,10 +62,13 @@ made l r ms = if eqb (refusal l r (length ms)) 0 then splice ms 0 (wished l r) e
 unfoldable pub count : ℕ → ℕ → ℕ → ℕ
 count l r room = if eqb (refusal l r room) 0 then length (wished l r) else 0
 
-pub record Makes (l r : ℕ) (ms : List ℕ) (m : Made) (ms′ : List ℕ) : Type 0 where
-  pub error : m .error ≡ refusal l r (length ms)
-  pub count : m .count ≡ count l r (length ms)
+pub record Listed (l r : ℕ) (ms : List ℕ) (e n : ℕ) (ms′ : List ℕ) : Type 0 where
+  pub error : e ≡ refusal l r (length ms)
+  pub number : n ≡ count l r (length ms)
   pub bytes : ms′ ≡ made l r ms
+
+abbrev pub Makes : ℕ → ℕ → List ℕ → Made → List ℕ → Type 0
+Makes l r ms m ms′ = Listed l r ms (m .error) (m .count) ms′
 
 unfoldable pub times : ℕ → List ℕ → ℕ
 times b [] = 0
