@@ -123,6 +123,11 @@ extern "C" {
 #define QAMHUDEER_BADID 4   /* an id above 63 */
 #define QAMHUDEER_NOROOM 5  /* the reply list has room for fewer than 64 replies */
 
+/* Refusals of the maker of stereo lists. */
+#define QAMHUDEER_BADWISH 11  /* a number above 2 */
+#define QAMHUDEER_TOOSMALL 12 /* room for fewer maps than QAMHUDEER_STEREO_ROOM */
+#define QAMHUDEER_STEREO_ROOM 4
+
 /* The result of a call whose answer has no room. */
 #define QAMHUDEER_UNANSWERED 255
 
@@ -150,6 +155,16 @@ size_t qamhudeer_call(uint8_t op, uint8_t id, uint8_t flags, uint8_t map, uint8_
                       uint8_t *table, size_t table_len,
                       uint8_t *replies, size_t replies_len,
                       uint8_t *answer, size_t answer_len);
+
+/* Lists for stereo, on the four-channel board alone: channels 0 and 3 sound left, 1 and 2 right.
+ *
+ * All maps with `left` left and `right` right channels, 0 to 2 each, in ascending order at the front of `maps`: returns 0, and
+ * *count is their number, 1, 2 or 4. A number above 2: returns QAMHUDEER_BADWISH. Then maps_len below QAMHUDEER_STEREO_ROOM:
+ * returns QAMHUDEER_TOOSMALL. After a refusal *count is 0. No byte of `maps` changes but those counted. */
+uint8_t qamhudeer_stereo(uint8_t left, uint8_t right, uint8_t *maps, size_t maps_len, size_t *count);
+
+/* 1 where the list holds each of these maps once, in any order, and nothing else; otherwise, and for a number above 2, 0. */
+uint8_t qamhudeer_stereo_accepts(uint8_t left, uint8_t right, const uint8_t *maps, size_t maps_len);
 
 /* The sizes and offsets above, as the library has them: each returns the number of its name. */
 size_t qamhudeer_state_size(void);

@@ -1,6 +1,7 @@
 # The proved log program, for the scripts at the top of the tree. POSIX sh; it is read by '.', with root set to the top.
 #
-#   ready       builds the program where it is missing or older than what it is made from. Otherwise it is quick
+#   proved_program NAME  the program of this crate, proved and built where it is missing or older than what it is made from
+#   ready       the same of the log program. Where nothing has changed both are quick
 #   watched FILE WORDS  runs rt with these words; all that it says goes to FILE, and how far it is to standard error
 #   play WORDS  runs the program with these arguments, through the kit's emulator where the machine is not x86-64
 #   how         words before the program's: exec, or timeout 60
@@ -20,7 +21,7 @@ has_kit() {
 }
 
 listed() {
-    grep -q '^arbiter_log:' "$root/crates.txt"
+    grep -q "^$1:" "$root/crates.txt"
 }
 
 # A folder counts too: its time is that of the last file added to it or taken away.
@@ -64,7 +65,7 @@ build() {
         complain "the first use proves and builds the program, which takes minutes:"
     fi
     mkdir -p "$root/target" && began=$(mktemp "$root/target/began.XXXXXX") && said=$(mktemp "$root/target/said.XXXXXX") || return
-    watched "$said" check arbiter_log && [ -x "$program" ]
+    watched "$said" check "$1" && [ -x "$program" ]
     built=$?
     if [ $built -eq 0 ]; then
         touch -r "$began" "$program"
@@ -94,6 +95,18 @@ find_emulator() {
     done
 }
 
+proved_program() {
+    program=$root/target/bin/$1
+    if ! listed "$1"; then
+        complain "crates.txt does not list the program $1"
+        return 1
+    fi
+    if stale; then
+        build "$1" || return
+    fi
+    find_emulator
+}
+
 ready() {
     if [ -n "${ARBITER_LOG:-}" ]; then
         case $ARBITER_LOG in
@@ -104,15 +117,7 @@ ready() {
         complain "ARBITER_LOG names no program: $ARBITER_LOG"
         return 1
     fi
-    program=$root/target/bin/arbiter_log
-    if ! listed; then
-        complain "crates.txt does not list arbiter_log, the log program"
-        return 1
-    fi
-    if stale; then
-        build || return
-    fi
-    find_emulator
+    proved_program arbiter_log
 }
 
 play() {

@@ -1,6 +1,7 @@
 /* Tests of the arbiter's C functions: the marked examples M1 to M13, what a log cannot
-   reach (refusals 1 and 5, states not settled) and the sound test. */
+   reach (refusals 1 and 5, states not settled) and the sound test; then the stereo lists. */
 #include "arbiter.h"
+#include "stereo.h"
 
 #include <stdio.h>
 #include <string.h>
@@ -341,6 +342,61 @@ static void test_sound(void)
     SOUND(a.request[4].precedence = 127);
 }
 
+/* ---- Stereo: request #108 ---- */
+
+/* The maker writes just this list, and the checker accepts it. */
+static void makes(unsigned left, unsigned right, const char *list, size_t length,
+                  const char *what)
+{
+    uint8_t room[5] = {0xEE, 0xEE, 0xEE, 0xEE, 0xEE};
+    size_t count = 99;
+    int error = stereo_make(left, right, room, sizeof room, &count), rest = 1;
+
+    for (size_t i = length; i < sizeof room; i++)
+        rest = rest && room[i] == 0xEE;
+    check(error == 0 && count == length && memcmp(room, list, length) == 0 && rest
+          && stereo_accepts(left, right, room, count), what);
+}
+
+static void refuses(unsigned left, unsigned right, size_t room, int error)
+{
+    uint8_t list[5] = {0xEE, 0xEE, 0xEE, 0xEE, 0xEE};
+    size_t count = 99;
+
+    check(stereo_make(left, right, list, room, &count) == error && count == 0
+          && memcmp(list, "\xEE\xEE\xEE\xEE\xEE", 5) == 0, "a stereo list is refused");
+}
+
+static int accepts(unsigned left, unsigned right, const char *list, size_t length)
+{
+    return stereo_accepts(left, right, (const uint8_t *)list, length);
+}
+
+static void test_stereo(void)
+{
+    makes(1, 1, "\x03\x05\x0A\x0C", 4, "one left and one right gives 03, 05, 0A and 0C");
+    makes(0, 0, "\0", 1, "none and none gives 00 alone");
+    makes(1, 0, "\x01\x08", 2, "channels 0 and 3 sound left");
+    makes(0, 1, "\x02\x04", 2, "channels 1 and 2 sound right");
+    makes(2, 0, "\x09", 1, "both left");
+    makes(0, 2, "\x06", 1, "both right");
+    makes(2, 1, "\x0B\x0D", 2, "both left and one right");
+    makes(1, 2, "\x07\x0E", 2, "one left and both right");
+    makes(2, 2, "\x0F", 1, "all four");
+    refuses(3, 0, 5, 11);
+    refuses(0, 255, 5, 11);
+    refuses(3, 3, 0, 11);
+    refuses(0, 0, 3, 12);
+    refuses(1, 1, 0, 12);
+    check(accepts(1, 1, "\x0C\x03\x0A\x05", 4), "any order");
+    check(!accepts(1, 1, "\x03\x05\x0A", 3), "one is missing");
+    check(!accepts(1, 1, "\x03\x05\x0A\x0C\x03", 5), "one stands twice");
+    check(!accepts(1, 1, "\x03\x05\x0A\x0A", 4), "one stands in another's place");
+    check(!accepts(1, 1, "\x03\x05\x0A\x0C\x10", 5), "10 is no map of this board");
+    check(!accepts(0, 0, "", 0), "no list is not the list of 00");
+    check(!accepts(3, 0, "", 0), "no list at all is accepted for 3");
+}
+
 int main(void)
 {
     test_marked();
@@ -349,6 +405,7 @@ int main(void)
     test_refusals();
     test_unsettled();
     test_sound();
+    test_stereo();
     printf("test.c: %d passed, %d failed\n", passed, failed);
     return failed != 0;
 }

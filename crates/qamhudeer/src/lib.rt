@@ -6,6 +6,8 @@ ghost use Rattle.sizes.specs.Sizes.{TABLE, REPLIES, ANSWER};
 ghost use Rattle.handed.specs.Handed.{requestOf};
 ghost use Rattle.starting.specs.Starting.{Started};
 ghost use Rattle.boundary.specs.Boundary.{Crossed};
+ghost use Rattle.machine.specs.Lists.{if_then_else_};
+ghost use Rattle.stereo.specs.Stereo.{Listed, accepts};
 
 // ---- sizes and places, for the header to be held against
 
@@ -114,4 +116,29 @@ pub extern "C" fn qamhudeer_call(
         replies,
         answer,
     )
+}
+
+// ---- lists for stereo
+
+// All maps with so many left and so many right channels, ascending: 0 and their number. A number above 2: 11. Room for fewer than 4
+// maps: 12. After a refusal the number is 0, and nothing is written.
+#[no_mangle]
+pub extern "C" fn qamhudeer_stereo(left: u8, right: u8, maps: &mut [u8], count: &mut usize) -> u8
+    ensures { λ r. ⌜ Listed left right (now (maps .entry)) r (now (count .exit)) (now (maps .exit)) ⌝ }
+{
+    let made = stereo::make(left, right, maps);
+    *count = made.count;
+    made.error
+}
+
+// 1 where the list holds each of these maps once and nothing else, else 0.
+#[no_mangle]
+pub extern "C" fn qamhudeer_stereo_accepts(left: u8, right: u8, maps: &[u8]) -> u8
+    ensures { λ r. ⌜ r ≡ (if accepts left right (now (maps .entry)) then 1 else 0) ⌝ }
+{
+    if stereo::accepts(left, right, maps) {
+        1
+    } else {
+        0
+    }
 }
