@@ -134,7 +134,7 @@ module _ (w : ℕ) (st : State) (tb : List ℕ) (t : T (sized w)) (h : WideHeld 
   all-channels : map channelIn (st .channels) ≡ wider (8 - w) (take w (map channelIn (st .channels)))
   all-channels = sym (take-append-drop w (map channelIn (st .channels))) ∙ ap (λ (l : List ChannelM). take w (map channelIn (st .channels)) ++ l) free
 
-  own-length : length (take w (map channelIn (st .channels))) ≡ w
+  pub own-length : length (take w (map channelIn (st .channels))) ≡ w
   own-length =
       let n = sized-within w t in
       let e = length-map (st .channels) channelIn ∙ h .eight in
