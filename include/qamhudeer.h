@@ -8,7 +8,7 @@
  * A call also reads a list of combinations. No two of these five overlap, nobody else writes to them during the call, and no
  * pointer is null, also where its length is 0. There is no other duty: whatever the bytes are and whatever the numbers, each
  * function returns, and each comment below says what every byte that was lent holds afterwards.
- * That is proved of the code (crates/boundary).
+ * That is proved of the code (crates/qamhudeer).
  */
 #ifndef QAMHUDEER_H
 #define QAMHUDEER_H

@@ -11,7 +11,7 @@
 #                            unless something failed
 #
 # CC is the compiler on x86-64, CC_X86_64 the one on another machine.
-library=$root/target/staticlib/libboundary.a
+library=$root/target/staticlib/libqamhudeer.a
 linker=
 skipped=77
 
@@ -38,7 +38,7 @@ library_ready() {
     has_kit || return
     complain "the library is proved and built, which may take minutes"
     mkdir -p "$root/target" && began=$(mktemp "$root/target/began.XXXXXX") && said=$(mktemp "$root/target/said.XXXXXX") || return
-    (cd "$root" && rt staticlib boundary) </dev/null >"$said" 2>&1 && [ -f "$library" ]
+    (cd "$root" && rt staticlib qamhudeer) </dev/null >"$said" 2>&1 && [ -f "$library" ]
     built=$?
     if [ $built -eq 0 ]; then
         touch -r "$began" "$library"

@@ -1,35 +1,34 @@
 -- What the promise of a call comes to: no second outcome fits it, what is refused moves nothing, and a sound state is followed
 -- by a sound state. Assumes nothing.
 use Prim.Native.Nat.{ℕ, _≤_}
-use mathlib.Core.Path.{_≡_, refl, ap, sym, _∙_}
+use mathlib.Core.Path.{_≡_, refl, ap, sym, subst, _∙_}
 use mathlib.Core.Bool.{Bool, true, false}
 use mathlib.Core.List.{List}
 use lib.Dec.{T, leb, le→leb}
 use lib.ListN.{length}
 use Rattle.machine.specs.Lists.{among}
-use Rattle.machine.specs.State.{State as StateM, Outcome as OutcomeM}
+use Rattle.machine.specs.State.{Outcome as OutcomeM}
 use Rattle.machine.specs.Call.{call, inRange}
 use Rattle.machine.proofs.Tests.{and-both}
-use Rattle.machine.proofs.Sound.{Parts, parts}
+use Rattle.machine.proofs.Sound.{parts}
 use Rattle.machine.proofs.Refusals.{refusals, refused-same}
 use Rattle.machine.proofs.KeepingCalls.{call-sound}
 use Rattle.machine.proofs.Board.{call-wide}
-use Rattle.store.specs.declared.State.{State}
-use Rattle.store.specs.Store.{structOf, tableOf, stateIn, Held}
-use Rattle.store.specs.Work.{Did}
-use Rattle.store.proofs.Store.{held-four, held-next}
-use Rattle.sound.specs.Sound.{Decides, soundTest}
-use Rattle.sound.proofs.Laws.{decides}
+use Rattle.store.specs.Store.{tableOf}
+use Rattle.board.specs.declared.Board.{Board}
+use Rattle.board.specs.declared.Outcome.{Outcome}
+use Rattle.board.specs.Board.{sized, structOf, stateIn, Held, Told}
+use Rattle.board.proofs.Laws.{held-next}
+use Rattle.sound.specs.Sound.{Decides, boardTest}
+use Rattle.sound.proofs.Own.{decides}
 use Rattle.answers.specs.declared.Request.{Request}
 use Rattle.answers.specs.declared.Answer.{Answer}
-use Rattle.answers.specs.declared.Outcome.{Outcome}
-use Rattle.answers.specs.Answers.{Told}
 use Rattle.refusals.specs.declared.Op.{Op}
 use Rattle.refusals.specs.Refusals.{askedOf}
 use Rattle.arbiter.specs.Arbiter.{Unmoved, Handled, Called}
-use Rattle.arbiter.proofs.Laws.{false-true}
+use Rattle.refusing.proofs.Laws.{false-true}
 
--- the same answer, struct, count, table and list
+-- the same answer, board, count, table and list
 pub record Same (d d₂ : Outcome) (tb tb₂ l l₂ : List ℕ) : Type 0 where
   pub outcome : d ≡ d₂
   pub table : tb ≡ tb₂
@@ -47,15 +46,15 @@ one-telling {d = d} {d₂ = d₂} t u =
       list = t .did .list ∙ sym (u .did .list);
     }
 
--- a struct and a table hold a sound state, or they do not
-pub held-or-not {ℓ} : {R : Type ℓ} (s : State) (tb : List ℕ) → (Held s tb → R) → ((Held s tb → ⊥) → R) → R
-held-or-not {R = R} s tb y n = go (soundTest s tb) (decides s tb)
+-- a board and a table hold a sound state, or they do not
+pub held-or-not {ℓ} : {R : Type ℓ} (b : Board) (tb : List ℕ) → (Held b tb → R) → ((Held b tb → ⊥) → R) → R
+held-or-not {R = R} b tb y n = go (boardTest b tb) (decides b tb)
   where
-    go : (b : Bool) → Decides b (Held s tb) → R
+    go : (x : Bool) → Decides x (Held b tb) → R
     go true d = y (d .only refl)
     go false d = n (λ h. false-true (d .always h))
 
-unmoved-same : {r : Request} {s : State} {tb l : List ℕ} {d d₂ : Outcome} {tb₁ tb₂ l₁ l₂ : List ℕ} → Unmoved r s tb l d tb₁ l₁ → Unmoved r s tb l d₂ tb₂ l₂
+unmoved-same : {r : Request} {b : Board} {tb l : List ℕ} {d d₂ : Outcome} {tb₁ tb₂ l₁ l₂ : List ℕ} → Unmoved r b tb l d tb₁ l₁ → Unmoved r b tb l d₂ tb₂ l₂
     → Same d d₂ tb₁ tb₂ l₁ l₂
 unmoved-same {d = d} {d₂ = d₂} t u =
     record {
@@ -64,33 +63,33 @@ unmoved-same {d = d} {d₂ = d₂} t u =
       list = t .list ∙ sym (u .list);
     }
 
-module _ {o : Op} {r : Request} {s : State} {ms tb l : List ℕ} where
+module _ {o : Op} {r : Request} {b : Board} {ms tb l : List ℕ} where
   -- no second outcome fits
-  pub one-outcome : {d d₂ : Outcome} {tb₁ tb₂ l₁ l₂ : List ℕ} → Called o r s ms tb l d tb₁ l₁ → Called o r s ms tb l d₂ tb₂ l₂
+  pub one-outcome : {d d₂ : Outcome} {tb₁ tb₂ l₁ l₂ : List ℕ} → Called o r b ms tb l d tb₁ l₁ → Called o r b ms tb l d₂ tb₂ l₂
       → Same d d₂ tb₁ tb₂ l₁ l₂
-  one-outcome c e = held-or-not s tb (λ h. one-telling (c .sound h) (e .sound h)) (λ n. unmoved-same (c .unsound n) (e .unsound n))
+  one-outcome c e = held-or-not b tb (λ h. one-telling (c .sound h) (e .sound h)) (λ n. unmoved-same (c .unsound n) (e .unsound n))
 
-  -- "After 1, 2, 3, 4, 5, -1, -3, -4 or -5 the state is as before": the struct and every byte of the table
-  pub refused-unmoved : {d : Outcome} {tb₁ l₁ : List ℕ} → Called o r s ms tb l d tb₁ l₁ → T (among (d .answer .error) refusals)
-      → (d .state ≡ s) × (tb₁ ≡ tb)
-  refused-unmoved {d} {tb₁} c t = held-or-not s tb sound (λ n. (c .unsound n .state, c .unsound n .table))
+  -- "After 1, 2, 3, 4, 5, -1, -3, -4 or -5 the state is as before": the board and every byte of the table
+  pub refused-unmoved : {d : Outcome} {tb₁ l₁ : List ℕ} → Called o r b ms tb l d tb₁ l₁ → T (among (d .answer .error) refusals)
+      → (d .state ≡ b) × (tb₁ ≡ tb)
+  refused-unmoved {d} {tb₁} c t = held-or-not b tb sound (λ n. (c .unsound n .state, c .unsound n .table))
     where
-      sound : Held s tb → (d .state ≡ s) × (tb₁ ≡ tb)
+      sound : Held b tb → (d .state ≡ b) × (tb₁ ≡ tb)
       sound h =
           let g = c .sound h in
-          let e : call (stateIn s tb) (askedOf o r ms (length l)) .next ≡ stateIn s tb = refused-same (stateIn s tb) (askedOf o r ms (length l)) (rw (← ap (λ (a : Answer). a .error) (g .answer)) t) in
+          let e : call (stateIn b tb) (askedOf o r ms (length l)) .next ≡ stateIn b tb = refused-same (stateIn b tb) (askedOf o r ms (length l)) (rw (← ap (λ (a : Answer). a .error) (g .answer)) t) in
           (g .did .struct ∙ ap structOf e ∙ sym (h .struct), g .did .table ∙ ap tableOf e ∙ sym (h .table))
 
 -- a sound state is followed by a sound state: the one that the machine names
-pub held-after : (o : Op) (r : Request) (ms l : List ℕ) {s : State} {tb : List ℕ} {d : Outcome} {tb₁ l₁ : List ℕ} → Held s tb
-    → (r .prec ≤ 255) × (r .key ≤ 65535) → Told (call (stateIn s tb) (askedOf o r ms (length l))) l d tb₁ l₁
-    → Held (d .state) tb₁ × (stateIn (d .state) tb₁ ≡ call (stateIn s tb) (askedOf o r ms (length l)) .next)
+pub held-after : (o : Op) (r : Request) (ms l : List ℕ) {b : Board} {tb : List ℕ} {d : Outcome} {tb₁ l₁ : List ℕ} → Held b tb
+    → (r .prec ≤ 255) × (r .key ≤ 65535) → Told (call (stateIn b tb) (askedOf o r ms (length l))) l d tb₁ l₁
+    → Held (d .state) tb₁ × (stateIn (d .state) tb₁ ≡ call (stateIn b tb) (askedOf o r ms (length l)) .next)
 unfolding inRange
-held-after o r ms l {s} {tb} {d} {tb₁} h g t =
+held-after o r ms l {b} {tb} {d} {tb₁} h g t =
     let c = askedOf o r ms (length l) in
-    let p = call-sound (stateIn s tb) c (and-both (leb (r .prec) 255) (leb (r .key) 65535) (le→leb (r .prec) 255 (g .0)) (le→leb (r .key) 65535 (g .1))) (h .sane) in
-    held-next (call (stateIn s tb) c .next) (d .state) tb₁ (parts _ p) (call-wide (stateIn s tb) c ∙ held-four h) (t .did .struct) (t .did .table)
+    let p = call-sound (stateIn b tb) c (and-both (leb (r .prec) 255) (leb (r .key) 65535) (le→leb (r .prec) 255 (g .0)) (le→leb (r .key) 65535 (g .1))) (h .sane) in
+    held-next (call (stateIn b tb) c .next) (d .state) tb₁ (parts _ p) (subst (λ (n : ℕ). T (sized n)) (sym (call-wide (stateIn b tb) c)) (h .size)) (t .did .struct) (t .did .table)
 
-pub handled : (o : Op) (r : Request) (ms l : List ℕ) {s : State} {tb : List ℕ} {d : Outcome} {tb₁ l₁ : List ℕ} → Held s tb
-    → (r .prec ≤ 255) × (r .key ≤ 65535) → Told (call (stateIn s tb) (askedOf o r ms (length l))) l d tb₁ l₁ → Handled o r s ms tb l d tb₁ l₁
+pub handled : (o : Op) (r : Request) (ms l : List ℕ) {b : Board} {tb : List ℕ} {d : Outcome} {tb₁ l₁ : List ℕ} → Held b tb
+    → (r .prec ≤ 255) × (r .key ≤ 65535) → Told (call (stateIn b tb) (askedOf o r ms (length l))) l d tb₁ l₁ → Handled o r b ms tb l d tb₁ l₁
 handled o r ms l h g t = let k = held-after o r ms l h g t in record { told = t; kept = k .0; next = k .1 }

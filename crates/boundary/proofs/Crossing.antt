@@ -25,7 +25,9 @@ use Rattle.answers.specs.declared.Outcome.{Outcome}
 use Rattle.refusals.specs.declared.Op.{Op}
 use Rattle.refusals.specs.Refusals.{opIn, askedOf}
 use Rattle.arbiter.proofs.Outcome.{one-outcome, held-or-not, refused-unmoved, held-after}
-use Rattle.boundary.specs.Boundary.{TABLE, ANSWER, opFor, answerBytes, Started, Unanswered, Unread, Carried, Crossed}
+use Rattle.sizes.specs.Sizes.{TABLE, ANSWER}
+use Rattle.handed.specs.Handed.{opFor, answerBytes}
+use Rattle.boundary.specs.Boundary.{Started, Unanswered, Unread, Carried, Crossed}
 
 -- ---- which case it is
 

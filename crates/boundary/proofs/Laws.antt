@@ -1,66 +1,32 @@
 -- How the functions meet their promises, case by case. Assumes nothing.
-use Prim.Native.Nat.{ℕ, _+_, _/_, _%_}
+use Prim.Native.Nat.{ℕ, _+_, _%_}
 use mathlib.Core.Path.{_≡_, refl, ap, sym, subst, _∙_}
 use mathlib.Core.Bool.{Bool, false}
-use mathlib.Core.List.{List, [], _∷_}
-use native.Mathlib.Omega.{arith}
-use lib.ListN.{length, replicate, set, length-replicate}
-use borrow.Author.Tests.{eq-eqb, ne-eqb}
+use mathlib.Core.List.{List}
+use lib.ListN.{length, replicate, length-replicate}
 use Rattle.memory.specs.Splice.{splice}
-use Rattle.memory.proofs.Splice.{stores-splice}
 use Rattle.machine.specs.State.{fresh}
 use Rattle.machine.specs.Commands.{done}
 use Rattle.machine.specs.Log.{opOf}
 use Rattle.machine.proofs.Tests.{test-true}
 use Rattle.store.specs.declared.State.{State}
 use Rattle.store.specs.Store.{structOf}
-use Rattle.image.specs.Image.{STATE, markOf, isWhole, Whole, Saved}
+use Rattle.image.specs.Image.{STATE, isWhole, Whole, Saved}
 use Rattle.image.proofs.Laws.{splice-whole}
 use Rattle.answers.specs.declared.Request.{Request}
 use Rattle.answers.specs.declared.Answer.{Answer}
 use Rattle.answers.specs.Answers.{answerOf}
 use Rattle.refusals.specs.declared.Op.{Op}
-use Rattle.refusals.specs.declared.Op.the-variants.{Open, Close, Abort, Event, Command}
-use Rattle.arbiter.proofs.Laws.{false-true}
-use Rattle.boundary.specs.Boundary.{TABLE, opFor, requestOf, answerBytes, Started, Carried, Crossed}
-
--- ---- the operation
-
-module _ (b : ℕ) where
-  pub op-open : b ≡ 0xF0 → Open ≡ opFor (opOf b)
-  unfolding opOf
-  op-open h = rw (eq-eqb b 0xF0 h)
-
-  pub op-close : b ≡ 0xF1 → Close ≡ opFor (opOf b)
-  unfolding opOf
-  op-close h = rw (ne-eqb b 0xF0 (λ z. omega arith), eq-eqb b 0xF1 h)
-
-  pub op-abort : b ≡ 0xF2 → Abort ≡ opFor (opOf b)
-  unfolding opOf
-  op-abort h = rw (ne-eqb b 0xF0 (λ z. omega arith), ne-eqb b 0xF1 (λ z. omega arith), eq-eqb b 0xF2 h)
-
-  pub op-event : b ≡ 0xF3 → Event ≡ opFor (opOf b)
-  unfolding opOf
-  op-event h = rw (ne-eqb b 0xF0 (λ z. omega arith), ne-eqb b 0xF1 (λ z. omega arith), ne-eqb b 0xF2 (λ z. omega arith), eq-eqb b 0xF3 h)
-
-  pub op-command : (b ≡ 0xF0 → ⊥) → (b ≡ 0xF1 → ⊥) → (b ≡ 0xF2 → ⊥) → (b ≡ 0xF3 → ⊥) → Command ≡ opFor (opOf b)
-  unfolding opOf
-  op-command n₀ n₁ n₂ n₃ = rw (ne-eqb b 0xF0 n₀, ne-eqb b 0xF1 n₁, ne-eqb b 0xF2 n₂, ne-eqb b 0xF3 n₃)
+use Rattle.refusing.proofs.Laws.{false-true}
+use Rattle.sizes.specs.Sizes.{TABLE}
+use Rattle.handed.specs.Handed.{opFor, requestOf, answerBytes}
+use Rattle.boundary.specs.Boundary.{Started, Carried, Crossed}
 
 -- ---- the request
 
 pub request-made : (op id flags map prec key : ℕ) {p : ℕ} → p ≡ (prec + 128) % 256
     → _≡_ {A = Request} (record { command = op; id = id; flags = flags; map = map; prec = p; key = key }) (requestOf op id flags map prec key)
 request-made op id flags map prec key e = ap (λ (x : ℕ). record { command = op; id = id; flags = flags; map = map; prec = x; key = key }) e
-
--- ---- the answer
-
-pub answer-stored : (l : List ℕ) (a : Answer) {m : ℕ} → length l ≡ 6 → m ≡ markOf (a .outstanding)
-    → set (set (set (set (set (set l 0 m) 1 (a .error)) 2 (a .map)) 3 (a .key / 256)) 4 (a .key % 256)) 5 (a .extra) ≡ answerBytes a
-unfolding answerBytes
-answer-stored l a {m} h e =
-    let vs = a .error ∷ a .map ∷ (a .key / 256) ∷ (a .key % 256) ∷ a .extra ∷ [] in
-    stores-splice l 0 m vs (omega arith) ∙ splice-whole l (m ∷ vs) (sym h) ∙ ap (λ (x : ℕ). x ∷ vs) e
 
 -- ---- a fresh device
 

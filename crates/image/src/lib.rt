@@ -1,4 +1,4 @@
-// The state as 414 bytes that a caller keeps: tested, read and written (specs/Image.antt has the layout).
+// The state as 414 bytes that a caller keeps: tested and read (specs/Image.antt has the layout; `saving` writes it).
 // Assumes nothing.
 use channel::Channel;
 use queue::Queue;
@@ -7,7 +7,7 @@ ghost use mathlib.Core.Path.{_≡_};
 ghost use mathlib.Core.Bool.{_&&_};
 ghost use Prim.Native.Nat.{_+_, _≤_};
 ghost use lib.ListN.{length};
-ghost use Rattle.image.specs.Image.{markOf, queueBytes, channelBytes, queueAt, channelAt, stateOf, marksAt, isWhole, Whole, Wrote, Entered, Saved};
+ghost use Rattle.image.specs.Image.{queueAt, channelAt, stateOf, marksAt, isWhole, Whole};
 
 // ---- the test
 
@@ -82,59 +82,4 @@ pub fn load(bytes: &[u8]) -> State
         opens: memory::key_at(bytes, 410),
         last: memory::key_at(bytes, 412),
     }
-}
-
-// ---- to bytes
-
-fn mark(on: bool) -> u8
-    ensures { λ r. ⌜ r ≡ markOf on ⌝ }
-{
-    if on { 1 } else { 0 }
-}
-
-fn put_queue(bytes: &mut [u8], at: usize, q: Queue)
-    requires { ⌜ at + 65 ≤ length (now bytes) ⌝ }
-    ensures { λ _. ⌜ Wrote (now (bytes .entry)) at (queueBytes q) 65 (now (bytes .exit)) ⌝ }
-{
-    let ids = q.ids;
-    bytes[at] = q.n;
-    memory::copy(bytes, at + 1, &ids);
-}
-
-fn put_channel(bytes: &mut [u8], at: usize, c: Channel)
-    requires { ⌜ at + 70 ≤ length (now bytes) ⌝ }
-    ensures { λ _. ⌜ Wrote (now (bytes .entry)) at (channelBytes c) 70 (now (bytes .exit)) ⌝ }
-{
-    let q = c.writes;
-    memory::put_key(bytes, at, c.key);
-    bytes[at + 2] = c.prec;
-    bytes[at + 3] = mark(c.locked);
-    bytes[at + 4] = mark(c.stopped);
-    put_queue(bytes, at + 5, q);
-}
-
-fn put_channels(bytes: &mut [u8], cs: [Channel; 4])
-    requires { ⌜ 280 ≤ length (now bytes) ⌝ }
-    ensures { λ _. ⌜ Entered (now (bytes .entry)) cs (now (bytes .exit)) ⌝ }
-{
-    let mut i: usize = 0;
-    while i < 4 {
-        let c = cs[i];
-        put_channel(bytes, i * 70, c);
-        i += 1;
-    }
-}
-
-pub fn save(s: State, bytes: &mut [u8])
-    requires { ⌜ length (now bytes) ≡ 414 ⌝ }
-    ensures { λ _. ⌜ Saved s (now (bytes .exit)) ⌝ }
-{
-    let cs = s.channels;
-    let locks = s.locks;
-    let waiting = s.waiting;
-    put_channels(bytes, cs);
-    put_queue(bytes, 280, locks);
-    put_queue(bytes, 345, waiting);
-    memory::put_key(bytes, 410, s.opens);
-    memory::put_key(bytes, 412, s.last);
 }

@@ -1,211 +1,38 @@
--- What the code's tests say of the machine's refusals: the twelve commands by their numbers, an outstanding id by its entry,
--- and each operation's list of tests on a board of four channels. Assumes nothing.
-use Prim.Native.Nat.{ℕ, zero, suc, _+_, _/_, _≤_, _<_}
-use mathlib.Core.Path.{_≡_, refl, ap, sym, _∙_}
-use mathlib.Core.Bool.{Bool, true, false, not, _&&_, _||_}
-use mathlib.Core.List.{List, [], _∷_, _++_, map}
-use native.Mathlib.Numerals.{add-one}
+-- The machine's refusals of a sound state are each operation's list of tests, with the bound of the board's maps. Assumes nothing.
+use Prim.Native.Nat.{ℕ, _+_, _/_, _^_, _≤_, _<_}
+use mathlib.Core.Path.{_≡_, ap, sym, _∙_}
+use mathlib.Core.Bool.{Bool, _&&_}
+use mathlib.Core.List.{List, [], _∷_, map}
 use native.Mathlib.Omega.{arith}
-use borrow.Author.Tests.{eqb-true, eqb-false, ltb-false, lt-ltb, le-ltb, le-leb, lt-leb, ne-eqb, not-true, not-false}
-use lib.Dec.{T, eqb, leb, ltb}
-use lib.ListN.{length, getD, drop, drop-of-length-le}
-use lib.Seq.{drop-cons}
-use Rattle.memory.specs.Splice.{block}
-use Rattle.table.specs.Entry.{writeEntry, lockEntry, waitEntry}
+use borrow.Author.Tests.{ltb-false, lt-ltb, le-ltb}
+use lib.Dec.{T, eqb, ltb}
+use lib.ListN.{length}
 use Rattle.machine.specs.Numbers.{NOROOM}
-use Rattle.machine.specs.Lists.{if_then_else_, any, all, among}
-use Rattle.machine.specs.State.{Channel as ChannelM, State as StateM, Call, Op as OpM, OPEN, CLOSE, ABORT, EVENT, COMMAND}
+use Rattle.machine.specs.Lists.{if_then_else_, any, among}
+use Rattle.machine.specs.State.{State as StateM, Call, Op as OpM, OPEN, CLOSE, ABORT, EVENT, COMMAND}
 use Rattle.machine.specs.Sound.{sound, ids}
 use Rattle.machine.specs.Kinds.{kind, unknown, allocates}
 use Rattle.machine.specs.Refusals.{refused, first, badList, badMaps, badMap, refusal}
-use Rattle.machine.proofs.Tests.{by-test, test-true, test-false, and-left, and-right}
-use Rattle.store.specs.declared.State.{State}
-use Rattle.store.specs.Store.{Item, writeItem, lockItem, waitItem, writeItems, items, lookup, keys, Each, stateIn, Held}
-use Rattle.store.proofs.Store.{keys-items, parts-long, block-tableOf, held-parts, held-four}
+use Rattle.machine.proofs.Tests.{by-test, test-true, test-false}
+use Rattle.board.specs.declared.Board.{Board}
+use Rattle.board.specs.Board.{topOf, stateIn, Held}
+use Rattle.board.proofs.Laws.{top-pow, held-parts, held-width, held-sized}
 use Rattle.answers.specs.declared.Request.{Request}
 use Rattle.refusals.specs.declared.Op.{Op}
 use Rattle.refusals.specs.declared.Op.the-variants.{Open, Close, Abort, Event, Command}
-use Rattle.refusals.specs.Refusals.{opIn, askedOf, numberOf, high, used, openTests, closeTests, abortTests, eventTests, commandTests, Refuses}
+use Rattle.refusals.specs.Refusals.{opIn, askedOf, openTests, closeTests, abortTests, commandTests, Refuses}
+use Rattle.steps.specs.Steps.{numberOf, high, used, eventTests}
+use Rattle.steps.proofs.Laws.{used-among}
 
--- ---- a list of tests: its first is met, or is passed
+-- ---- the machine's tests of a sound state, on a board whose maps are those below a bound
 
-pub met : (b : Bool) (e : ℕ) (ts : List (Bool × ℕ)) → b ≡ true → e ≡ numberOf (first ((b, e) ∷ ts))
-unfolding first
-met b e ts h = rw h
-
-pub past : (b : Bool) (e : ℕ) (ts : List (Bool × ℕ)) {n : ℕ} → b ≡ false → n ≡ numberOf (first ts) → n ≡ numberOf (first ((b, e) ∷ ts))
-unfolding first
-past b e ts h q = rw h q
-
-pub none : 0 ≡ numberOf (first [])
-unfolding first
-none = refl
-
-pub high-true : {m : ℕ} → 16 ≤ m → high m ≡ true
-high-true {m} h = rw (le-ltb m 16 h)
-
-pub high-false : {m : ℕ} → m < 16 → high m ≡ false
-high-false {m} h = rw (lt-ltb m 16 h)
-
-pub id-past : {i : ℕ} → i < 64 → ltb 63 i ≡ false
-id-past {i} h = le-ltb 63 i (omega arith)
-
-pub unknown-met : {b k : Bool} → b ≡ not k → not b ≡ true → k ≡ true
-unknown-met {b} {k} e h = not-false k (sym e ∙ not-true b h)
-
-pub unknown-past : {b k : Bool} → b ≡ not k → not b ≡ false → k ≡ false
-unknown-past {b} {k} e h = not-true k (sym e ∙ not-false b h)
-
--- the tests of a list of combinations, in front of others
-module _ (a b : Bool) (ts : List (Bool × ℕ)) where
-  pub two-stop : {n : ℕ} → n ≡ numberOf (first ((a, 252) ∷ (b, 251) ∷ [])) → (n ≡ 0 → ⊥) → n ≡ numberOf (first ((a, 252) ∷ (b, 251) ∷ ts))
-  two-stop {n} e h = go a b e
-    where
-      go : (x y : Bool) → n ≡ numberOf (first ((x, 252) ∷ (y, 251) ∷ [])) → n ≡ numberOf (first ((x, 252) ∷ (y, 251) ∷ ts))
-      go true y q = unfold first in q
-      go false true q = unfold first in q
-      go false false q = absurd (h (unfold first in q))
-
-  pub two-past : {n m : ℕ} → n ≡ numberOf (first ((a, 252) ∷ (b, 251) ∷ [])) → n ≡ 0 → m ≡ numberOf (first ts) → m ≡ numberOf (first ((a, 252) ∷ (b, 251) ∷ ts))
-  two-past {n} {m} e h k = go a b e
-    where
-      go : (x y : Bool) → n ≡ numberOf (first ((x, 252) ∷ (y, 251) ∷ [])) → m ≡ numberOf (first ((x, 252) ∷ (y, 251) ∷ ts))
-      go true y q = absurd (let z : n ≡ 252 = unfold first in q in omega arith)
-      go false true q = absurd (let z : n ≡ 251 = unfold first in q in omega arith)
-      go false false q = unfold first in k
-
--- a command's last two tests: the combinations where it allocates, else the map
-module _ (k a b d : Bool) where
-  pub reads-list : k ≡ true → first ((k && a, 252) ∷ (if k then b else d, 251) ∷ []) ≡ first ((a, 252) ∷ (b, 251) ∷ [])
-  reads-list e = rw e
-
-  pub reads-map : k ≡ false → first ((k && a, 252) ∷ (if k then b else d, 251) ∷ []) ≡ first ((d, 251) ∷ [])
-  unfolding first
-  reads-map e = rw e
-
--- ---- combinations, one after another
-
-pub record Low (ms : List ℕ) (i : ℕ) : Type 0 where
-  pub rest : any high (drop i ms) ≡ any high ms
-
-pub low-start : (ms : List ℕ) → Low ms 0
-low-start ms = record { rest = refl }
-
-module _ {ms : List ℕ} {i : ℕ} (t : Low ms i) where
-  pub low-end : length ms ≤ i → false ≡ any high ms
-  unfolding any
-  low-end h = rw (drop-of-length-le ms h) at (t .rest)
-
-  module _ (h : i < length ms) where
-    pub low-stop : 16 ≤ getD ms i 0 → true ≡ any high ms
-    unfolding any
-    low-stop e = rw (drop-cons ms i 0 h, le-ltb _ _ e) at (t .rest)
-
-    pub low-more : getD ms i 0 < 16 → Low ms (i + 1)
-    unfolding any
-    low-more e = record { rest = rw (add-one i) (rw (drop-cons ms i 0 h, lt-ltb _ _ e) at (t .rest)) }
-
--- ---- the commands: one computed test of the numbers of a byte
-
-abbrev twelve : ℕ → Bool
-twelve n = leb n 10 && leb 1 n || eqb n 13 || eqb n 32
-
-abbrev alike : Bool → Bool → Bool
-alike true b = b
-alike false b = not b
-
-alike-same : (a b : Bool) → T (alike a b) → a ≡ b
-alike-same true b t = sym (test-true b t)
-alike-same false b t = sym (test-false b t)
-
-unfoldable below : ℕ → List ℕ
-below zero = []
-below (suc n) = n ∷ below n
-
-all-below : (p : ℕ → Bool) (n i : ℕ) → i < n → T (all p (below n)) → T (p i)
-unfolding all below
-all-below p zero i h t = absurd (omega arith)
-all-below p (suc n) i h t =
-    by-test (eqb i n) (λ u. rw (eqb-true i n (test-true (eqb i n) u)) (and-left (p n) (all p (below n)) t))
-    (λ u. let g = eqb-false i n (test-false (eqb i n) u) in all-below p n i (omega arith) (and-right (p n) (all p (below n)) t))
-
-abbrev sorted : ℕ → Bool
-sorted n = alike (twelve n) (not (unknown (kind n))) && alike (eqb n 32) (allocates (kind n))
-
-all-sorted : T (all sorted (below 256))
-unfolding all below kind unknown allocates
-all-sorted = tt
-
-module _ (n : ℕ) (h : n < 256) where
-  known-twelve : twelve n ≡ not (unknown (kind n))
-  known-twelve = alike-same (twelve n) (not (unknown (kind n))) (and-left (alike (twelve n) (not (unknown (kind n)))) (alike (eqb n 32) (allocates (kind n))) (all-below sorted 256 n h all-sorted))
-
-  pub known-low : 1 ≤ n → n ≤ 10 → true ≡ not (unknown (kind n))
-  known-low a b = let e : twelve n ≡ true = rw (le-leb n 10 b, le-leb 1 n a) in sym e ∙ known-twelve
-
-  pub known-late : 10 < n → (n ≡ 13 → ⊥) → eqb n 32 ≡ not (unknown (kind n))
-  known-late a b = let e : twelve n ≡ eqb n 32 = rw (lt-leb n 10 a, ne-eqb n 13 b) in sym e ∙ known-twelve
-
-  pub allocates-32 : eqb n 32 ≡ allocates (kind n)
-  allocates-32 = alike-same (eqb n 32) (allocates (kind n)) (and-right (alike (twelve n) (not (unknown (kind n)))) (alike (eqb n 32) (allocates (kind n))) (all-below sorted 256 n h all-sorted))
-
-pub known-none : (n : ℕ) → n ≡ 0 → false ≡ not (unknown (kind n))
-unfolding kind unknown
-known-none n e = rw e
-
-pub known-lock : (n : ℕ) → n ≡ 13 → true ≡ not (unknown (kind n))
-unfolding kind unknown
-known-lock n e = rw e
-
--- ---- an outstanding id's entry begins with a command
-
-abbrev Begun : List Item → Type 0
-Begun xs = Each (λ x. eqb (getD (x .entry) 0 0) 0 ≡ false) xs
-
-begun-append : (xs ys : List Item) → Begun xs → Begun ys → Begun (xs ++ ys)
-begun-append [] ys l m = m
-begun-append (x ∷ xs) ys l m = (l .0, begun-append xs ys (l .1) m)
-
-begun-map {ℓ} : {A : Type ℓ} (f : A → Item) → ((a : A) → eqb (getD (f a .entry) 0 0) 0 ≡ false) → (ys : List A) → Begun (map f ys)
-begun-map f h [] = tt
-begun-map f h (y ∷ ys) = (h y, begun-map f h ys)
-
-begun-writes : (cs : List ChannelM) → Begun (writeItems cs)
-unfolding writeItems writeEntry
-begun-writes [] = tt
-begun-writes (c ∷ cs) = begun-append (map (writeItem (c .key)) (c .writes)) (writeItems cs) (begun-map (writeItem (c .key)) (λ i. refl) (c .writes)) (begun-writes cs)
-
-begun-items : (s : StateM) → Begun (items s)
-unfolding items lockEntry waitEntry
-begun-items s =
-    begun-append (writeItems (s .channels) ++ map lockItem (s .locks)) (map waitItem (s .waiting))
-    (begun-append (writeItems (s .channels)) (map lockItem (s .locks)) (begun-writes (s .channels)) (begun-map lockItem (λ l. refl) (s .locks)))
-    (begun-map waitItem (λ r. refl) (s .waiting))
-
-begun-lookup : (i : ℕ) (xs : List Item) → Begun xs → not (eqb (getD (lookup i xs) 0 0) 0) ≡ among i (keys xs)
-unfolding lookup among any
-begun-lookup i [] b = refl
-begun-lookup i (x ∷ xs) b = go (eqb i (x .id)) (begun-lookup i xs (b .1))
-  where
-    go : (t : Bool) → not (eqb (getD (lookup i xs) 0 0) 0) ≡ any (eqb i) (keys xs) → not (eqb (getD (if t then x .entry else lookup i xs) 0 0) 0) ≡ (t || any (eqb i) (keys xs))
-    go true e = rw (b .0)
-    go false e = e
-
-pub used-among : {st : State} {tb : List ℕ} → Held st tb → (i : ℕ) → i < 64 → used tb i ≡ among i (ids (stateIn st tb))
-used-among {st} {tb} h i g =
-    let s = stateIn st tb in
-    let e : block 23 tb i ≡ lookup i (items s) = ap (λ (l : List ℕ). block 23 l i) (h .table) ∙ block-tableOf s i (parts-long s (held-parts h)) g in
-    ap (λ (l : List ℕ). not (eqb (getD l 0 0) 0)) e ∙ begun-lookup i (items s) (begun-items s) ∙ ap (among i) (keys-items s)
-
--- ---- the machine's tests of a sound state on a board of four channels
-
-maps-four : (c : Call) (s : StateM) → length (s .channels) ≡ 4 → badMaps c s ≡ any high (c .combos)
+maps-below : (bound : ℕ) (c : Call) (s : StateM) → 2 ^ length (s .channels) ≡ bound → badMaps c s ≡ any (high bound) (c .combos)
 unfolding badMaps
-maps-four c s e = rw e
+maps-below bound c s e = rw e
 
-map-four : (c : Call) (s : StateM) → length (s .channels) ≡ 4 → badMap c s ≡ high (c .map)
+map-below : (bound : ℕ) (c : Call) (s : StateM) → 2 ^ length (s .channels) ≡ bound → badMap c s ≡ high bound (c .map)
 unfolding badMap
-map-four c s e = rw e
+map-below bound c s e = rw e
 
 module _ (c : Call) (s : StateM) (ok : T (sound s)) where
   short-list : (o : OpM) → c .room < 64 → refusal o c s ≡ refused NOROOM
@@ -225,14 +52,14 @@ module _ (c : Call) (s : StateM) (ok : T (sound s)) where
     unfolding refusal first
     abort-left = rw (test-true (sound s) ok, le-ltb _ _ h)
 
-    module _ (four : length (s .channels) ≡ 4) where
-      open-left : refusal OPEN c s ≡ first (openTests (c .combos) (s .opens))
+    module _ (bound : ℕ) (wide : 2 ^ length (s .channels) ≡ bound) where
+      open-left : refusal OPEN c s ≡ first (openTests bound (c .combos) (s .opens))
       unfolding refusal first badList
-      open-left = rw (test-true (sound s) ok, le-ltb _ _ h, maps-four c s four)
+      open-left = rw (test-true (sound s) ok, le-ltb _ _ h, maps-below bound c s wide)
 
-      event-left : refusal EVENT c s ≡ first (eventTests (c .map))
+      event-left : refusal EVENT c s ≡ first (eventTests bound (c .map))
       unfolding refusal first
-      event-left = rw (test-true (sound s) ok, le-ltb _ _ h, map-four c s four)
+      event-left = rw (test-true (sound s) ok, le-ltb _ _ h, map-below bound c s wide)
 
       command-left : (n : ℕ) (u : Bool) → (c .id < 64 → u ≡ among (c .id) (ids s))
           → refusal (COMMAND n) c s
@@ -242,38 +69,48 @@ module _ (c : Call) (s : StateM) (ok : T (sound s)) where
           ∷ (eqb (s .opens) 0, 2)
           ∷ (unknown (kind n), 253)
           ∷ (allocates (kind n) && ltb 16 (length (c .combos)), 252)
-          ∷ (if allocates (kind n) then any high (c .combos) else high (c .map), 251)
+          ∷ (if allocates (kind n) then any (high bound) (c .combos) else high bound (c .map), 251)
           ∷ [])
       unfolding refusal first badList
       command-left n u e =
           by-test (ltb 63 (c .id)) (λ t. rw (test-true (sound s) ok, le-ltb _ _ h, test-true (ltb 63 (c .id)) t))
           (λ t.
           let g = ltb-false 63 (c .id) (test-false (ltb 63 (c .id)) t) in
-          rw (test-true (sound s) ok, le-ltb _ _ h, e (omega arith), maps-four c s four, map-four c s four))
+          rw (test-true (sound s) ok, le-ltb _ _ h, e (omega arith), maps-below bound c s wide, map-below bound c s wide))
 
 -- ---- the promise
 
 room-six : (len : ℕ) → 384 ≤ len → 64 ≤ len / 6
 room-six len h = omega arith
 
-module _ {o : Op} {r : Request} {s : State} {ms tb : List ℕ} {len : ℕ} (h : Held s tb) where
-  pub no-room : len < 384 → Refuses o r s ms tb len 5
-  no-room l = record { number = sym (ap numberOf (short-list (askedOf o r ms len) (stateIn s tb) (h .sane) (opIn o (r .command)) (omega arith))) }
+-- the bound is that of the board's highest map
+bound-is : {b : Board} {tb : List ℕ} → Held b tb → {top : ℕ} → top ≡ topOf (b .width) → 2 ^ length (stateIn b tb .channels) ≡ top + 1
+bound-is {b} {tb} h {top} e = ap (λ (n : ℕ). 2 ^ n) (sym (held-width h)) ∙ (sym (top-pow (b .width) (held-sized h)) ∙ ap (λ (n : ℕ). n + 1) (sym e))
 
-module _ {r : Request} {s : State} {ms tb : List ℕ} {len : ℕ} (h : Held s tb) (l : 384 ≤ len) {e : ℕ} where
-  pub open-told : e ≡ numberOf (first (openTests ms (s .opens))) → Refuses Open r s ms tb len e
-  open-told q = record { number = q ∙ sym (ap numberOf (open-left (askedOf Open r ms len) (stateIn s tb) (h .sane) (room-six len l) (held-four h))) }
+module _ {o : Op} {r : Request} {b : Board} {ms tb : List ℕ} {len : ℕ} (h : Held b tb) where
+  pub no-room : len < 384 → Refuses o r b ms tb len 5
+  no-room l = record { number = sym (ap numberOf (short-list (askedOf o r ms len) (stateIn b tb) (h .sane) (opIn o (r .command)) (omega arith))) }
 
-  pub close-told : e ≡ numberOf (first (closeTests (s .opens))) → Refuses Close r s ms tb len e
-  close-told q = record { number = q ∙ sym (ap numberOf (close-left (askedOf Close r ms len) (stateIn s tb) (h .sane) (room-six len l))) }
+module _ {r : Request} {b : Board} {ms tb : List ℕ} {len : ℕ} (h : Held b tb) (l : 384 ≤ len) {top : ℕ} (t : top ≡ topOf (b .width)) {e : ℕ} where
+  pub open-told : e ≡ numberOf (first (openTests (top + 1) ms (b .state .opens))) → Refuses Open r b ms tb len e
+  open-told q = record { number = q ∙ sym (ap numberOf (open-left (askedOf Open r ms len) (stateIn b tb) (h .sane) (room-six len l) (top + 1) (bound-is h t))) }
 
-  pub abort-told : e ≡ numberOf (first (abortTests (r .id))) → Refuses Abort r s ms tb len e
-  abort-told q = record { number = q ∙ sym (ap numberOf (abort-left (askedOf Abort r ms len) (stateIn s tb) (h .sane) (room-six len l))) }
+  pub close-told : e ≡ numberOf (first (closeTests (b .state .opens))) → Refuses Close r b ms tb len e
+  close-told q = record { number = q ∙ sym (ap numberOf (close-left (askedOf Close r ms len) (stateIn b tb) (h .sane) (room-six len l))) }
 
-  pub event-told : e ≡ numberOf (first (eventTests (r .map))) → Refuses Event r s ms tb len e
-  event-told q = record { number = q ∙ sym (ap numberOf (event-left (askedOf Event r ms len) (stateIn s tb) (h .sane) (room-six len l) (held-four h))) }
+  pub abort-told : e ≡ numberOf (first (abortTests (r .id))) → Refuses Abort r b ms tb len e
+  abort-told q = record { number = q ∙ sym (ap numberOf (abort-left (askedOf Abort r ms len) (stateIn b tb) (h .sane) (room-six len l))) }
 
-  pub command-told : e ≡ numberOf (first (commandTests r ms tb (s .opens)))
-      → Refuses Command r s ms tb len e
+  pub event-told : e ≡ numberOf (first (eventTests (top + 1) (r .map))) → Refuses Event r b ms tb len e
+  event-told q = record { number = q ∙ sym (ap numberOf (event-left (askedOf Event r ms len) (stateIn b tb) (h .sane) (room-six len l) (top + 1) (bound-is h t))) }
+
+  pub command-told : e ≡ numberOf (first (commandTests (top + 1) r ms tb (b .state .opens))) → Refuses Command r b ms tb len e
   command-told q =
-      record { number = q ∙ sym (ap numberOf (command-left (askedOf Command r ms len) (stateIn s tb) (h .sane) (room-six len l) (held-four h) (r .command) (used tb (r .id)) (used-among h (r .id)))) }
+      record {
+        number =
+            q
+            ∙ sym
+            (ap numberOf
+            (command-left (askedOf Command r ms len) (stateIn b tb) (h .sane) (room-six len l) (top + 1) (bound-is h t) (r .command) (used tb (r .id))
+            (used-among (stateIn b tb) (held-parts h) tb (h .table) (r .id))));
+      }

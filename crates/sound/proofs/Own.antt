@@ -21,8 +21,8 @@ use Rattle.entries.specs.Entries.{requestTest}
 use Rattle.board.specs.declared.Board.{Board}
 use Rattle.board.specs.Board.{sized, topOf, stateIn, Held}
 use Rattle.board.proofs.Laws.{sized-within, top-pow, held-parts, held-width, held-sized, held-wide, held-spare, held-own, own-length}
-use Rattle.sound.specs.Sound.{Decides, Within}
-use Rattle.sound.proofs.Laws.{requests-reach}
+use Rattle.sound.specs.Sound.{Decides, Within, soundTest, boardTest}
+use Rattle.sound.proofs.Laws.{yes-T, requests-reach, decides as wide-decides}
 
 -- ---- a channel of good shape without a key is a free one
 
@@ -127,3 +127,23 @@ module _ (b : Board) (tb : List ℕ) where
               λ h. let p : topOf w + 1 ≡ 2 ^ length cs = top-pow w t ∙ ap (λ (n : ℕ). 2 ^ n) (held-width h) in
               d .always (record { held = held-wide h .0; low = subst (λ (n : ℕ). T (all (requestTest n) rs)) (sym p) (requests-same cs rs (held-parts h .waitingOK)) });
         }
+
+-- ---- the test as one word
+
+top-small : (w : ℕ) → topOf w ≤ 255
+top-small w = go (eqb w 4)
+  where
+    go : (b : Bool) → (if b then 15 else 255) ≤ 255
+    go true = omega arith
+    go false = omega arith
+
+pub decides : (b : Board) (tb : List ℕ) → Decides (boardTest b tb) (Held b tb)
+unfolding boardTest
+decides b tb = go (sized (b .width)) refl (all vacant (drop (b .width) (b .state .channels))) refl
+  where
+    go : (x : Bool) → sized (b .width) ≡ x → (y : Bool) → all vacant (drop (b .width) (b .state .channels)) ≡ y
+        → Decides (x && y && soundTest (topOf (b .width) + 1) (b .state) tb) (Held b tb)
+    go true e true f = tells b tb (yes-T _ e) (yes-T _ f) refl (wide-decides (topOf (b .width)) (b .state) tb (top-small (b .width)))
+    go true e false f = not-spare b tb f
+    go false e true f = not-sized b tb e
+    go false e false f = not-sized b tb e

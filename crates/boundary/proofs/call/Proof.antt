@@ -1,0 +1,94 @@
+-- `call` meets its contract: the two tests say which case of the promise is asked. Assumes nothing.
+use mathlib.Core.Path.{_≡_, sym, _∙_}
+use lib.ListN.{length}
+use borrow.Author.Tests.{not-true, not-false}
+use Rattle.machine.specs.Commands.{done}
+use Rattle.answers.specs.Answers.{answerOf}
+use Rattle.sound.proofs.Laws.{yes-T}
+use Rattle.boundary.proofs.Laws.{request-made, no-answer, not-read, was-carried}
+use borrow.Author.Needs.{needs}
+use Rattle.boundary.proofs.call.Statement.{statement}
+use Rattle.boundary.proofs.call.Tie as tie
+
+returns : tie.Need-returns
+returns c = let n : length (c .before .before .before .before .before .before .args .answer .now) ≡ 6 → ⊥ = c .if1 .taken in no-answer n
+
+whole-requires : tie.Need-whole-requires
+whole-requires c κs = search needs
+
+done-requires : tie.Need-done-requires
+done-requires c κs = search needs
+
+put-answer-requires : tie.Need-put-answer-requires
+put-answer-requires c κs = search needs
+
+same-length : tie.Need-same-length
+same-length c = search needs
+
+same-length-2 : tie.Need-same-length-2
+same-length-2 c = search needs
+
+returns-2 : tie.Need-returns-2
+returns-2 c =
+    let p = c .before .before in
+    let d = p .before in
+    let t = d .before .before in
+    let w = t .before in
+    let key = w .before .before .before .before .before .before .before .before .args .key in
+    let e : d .done .result ≡ answerOf (done 1 0 key 255) = d .done .ensures in
+    not-read (w .before .before .if1 .left) (w .whole .ensures) (not-true _ (t .if2 .taken)) e (p .put-answer .ensures)
+
+stored-requires : tie.Need-stored-requires
+stored-requires c κs = search needs
+
+op-of-requires : tie.Need-op-of-requires
+op-of-requires c κs = search needs
+
+carry-requires : tie.Need-carry-requires
+carry-requires c κs =
+    let e = c .before .before .before .before .before .before in
+    let w = e .before in
+    (yes-T _ (sym (w .whole .ensures) ∙ not-false _ (e .if2 .left)), w .before .before .if1 .left)
+
+same-length-3 : tie.Need-same-length-3
+same-length-3 c = search needs
+
+same-length-4 : tie.Need-same-length-4
+same-length-4 c = search needs
+
+same-length-5 : tie.Need-same-length-5
+same-length-5 c = search needs
+
+same-length-6 : tie.Need-same-length-6
+same-length-6 c = search needs
+
+returns-3 : tie.Need-returns-3
+returns-3 c =
+    let k = c .before .before .before .before .before .before .before .before in
+    let o = k .before .before .before .before .before in
+    let p = o .before in
+    let e = p .before in
+    let w = e .before in
+    let a = w .before .before .before .before .before .before .before .before .args in
+    was-carried (w .before .before .if1 .left) (yes-T _ (sym (w .whole .ensures) ∙ not-false _ (e .if2 .left))) (o .op-of .ensures)
+    (request-made (a .op) (a .id) (a .flags) (a .map) (a .prec) (a .key) (p .stored .ensures)) (k .carry .ensures)
+
+pub call-spec : {M : Type 1} → statement M
+call-spec =
+    tie.close
+    (tie.spec
+    returns
+    whole-requires
+    done-requires
+    put-answer-requires
+    same-length
+    same-length-2
+    returns-2
+    stored-requires
+    op-of-requires
+    carry-requires
+    same-length-3
+    same-length-4
+    same-length-5
+    same-length-6
+    returns-3)

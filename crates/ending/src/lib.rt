@@ -1,0 +1,82 @@
+// The write-end event, on the lowest channel that the map names: the front write ends. Assumes nothing.
+use answers::Outcome;
+use answers::Request;
+use channel::Channel;
+use reply::Reply;
+use store::State;
+ghost use mathlib.Core.Path.{_≡_};
+ghost use mathlib.Core.List.{[], _∷_};
+ghost use Prim.Native.Nat.{_<_, _^_};
+ghost use lib.ListN.{getD};
+ghost use Rattle.machine.specs.State.{free};
+ghost use Rattle.machine.specs.Commands.{done, doEvent};
+ghost use Rattle.channel.specs.Channel.{channelIn, channelOf};
+ghost use Rattle.store.specs.Store.{stateIn};
+ghost use Rattle.store.specs.Work.{Ready, Did};
+ghost use Rattle.answers.specs.Answers.{callOf, answerOf, Told};
+ghost use Rattle.play.specs.Play.{frontOf, withFront};
+
+pub fn event(r: Request, s: State, table: &mut [u8], replies: &mut [u8]) -> Outcome
+    requires { ⌜ Ready s (now table) (now replies) 0 1 ⌝ }
+    ensures { λ d. ⌜ Told (doEvent (callOf r []) (stateIn s (now (table .entry)))) (now (replies .entry)) d (now (table .exit)) (now (replies .exit)) ⌝ }
+{
+    let i = channel::lowest(r.map);
+    if 8 <= i {
+        let no = answers::done(0, 0, r.key, 255);
+        return Outcome {
+            answer: no,
+            state: s,
+            n: 0,
+        };
+    }
+    let cs = s.channels;
+    let c = cs[i];
+    let id = play::front(c);
+    if id == 255 {
+        let no = answers::done(0, 0, r.key, 255);
+        return Outcome {
+            answer: no,
+            state: s,
+            n: 0,
+        };
+    }
+    end_front(r, s, table, replies, i, c, id)
+}
+
+// The front write of channel i ends.
+fn end_front(
+    r: Request,
+    s: State,
+    table: &mut [u8],
+    replies: &mut [u8],
+    i: usize,
+    c: Channel,
+    id: u8,
+) -> Outcome
+    requires { ⌜ Ready s (now table) (now replies) 0 1 × (i < 8) × (c ≡ getD (s .channels) i (channelOf free)) × (id ≡ frontOf (channelIn c)) × (id < 255) ⌝ }
+    ensures { λ d. ⌜ (d .answer ≡ answerOf (done 0 (2 ^ i) (r .key) 255)) × Did (withFront i (stateIn s (now (table .entry)))) (record { id = id; command = 3; error = 0; map = 2 ^ i; key = c .key } ∷ []) (now (replies .entry)) 0 (d .state) (now (table .exit)) (now (replies .exit)) (d .n) ⌝ }
+{
+    let b = play::bit(i);
+    let n = reply::put(
+        replies,
+        0,
+        Reply {
+            id,
+            command: 3,
+            error: 0,
+            map: b,
+            key: c.key,
+        },
+    );
+    table::clear(table, id);
+    let q = c.writes;
+    let q2 = q.remove(0);
+    let d = c.with_writes(q2);
+    let t = play::put_channel(s, i, d);
+    let a = answers::done(0, b, r.key, 255);
+    Outcome {
+        answer: a,
+        state: t,
+        n,
+    }
+}

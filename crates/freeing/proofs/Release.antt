@@ -1,0 +1,213 @@
+-- Channels freed: their writes aborted, then the locks sifted on the table without those writes. Assumes nothing.
+use Prim.Native.Nat.{ℕ, pred, _+_, _-_, _*_, _≤_, _<_}
+use mathlib.Core.Path.{_≡_, refl, ap, sym, subst, _∙_}
+use mathlib.Core.Bool.{false, not}
+use mathlib.Core.List.{List, [], _∷_, _++_, map}
+use native.Mathlib.Omega.{arith}
+use lib.ListN.{length, length-append}
+use Rattle.reply.specs.Replies.{sent}
+use Rattle.reply.proofs.Laws.{sent-append, length-sent}
+use Rattle.machine.specs.Lists.{keep}
+use Rattle.machine.specs.State.{Channel as ChannelM, Lock, Reply}
+use Rattle.machine.specs.Maps.{odd, half, change}
+use Rattle.machine.specs.Granting.{abortedIn}
+use Rattle.machine.specs.Commands.{matching, freed, cleared, isEmpty, freeing, freeingReplies, done, each, silent, owned, doFree, doClose}
+use Rattle.machine.proofs.Tests.{if-elim}
+use Rattle.machine.proofs.Lists.{Sub, end, sub-refl, sub-nil, sub-append}
+use Rattle.queue.specs.Queue.{queueOf}
+use Rattle.channel.specs.declared.Change.the-variants.{Free}
+use Rattle.channel.specs.declared.Channel.{Channel}
+use Rattle.channel.specs.Channel.{channelOf, changedOf, changeEach, matchingEach}
+use Rattle.store.specs.declared.State.{State}
+use Rattle.store.specs.Store.{writeItem, lockItem, waitItem, writeItems, items, tableOf, stateIn, Held}
+use Rattle.store.specs.Work.{Ready, Did}
+use Rattle.store.proofs.Table.{good-sub}
+use Rattle.store.proofs.Store.{held-parts, held-eight, good-of}
+use Rattle.granting.specs.Granting.{idled, writesIn}
+use Rattle.granting.proofs.Laws.{held-changed, held-cleared}
+use Rattle.locks.specs.declared.Sifted.{Sifted}
+use Rattle.locks.specs.Locks.{lefts, ending, Sifting, Sifts}
+use Rattle.locks.proofs.Laws.{lefts-freed, ending-freed, maps-small}
+use Rattle.answers.specs.declared.Request.{Request}
+use Rattle.answers.specs.declared.Answer.{Answer}
+use Rattle.answers.specs.declared.Outcome.{Outcome}
+use Rattle.answers.specs.Answers.{callOf, answerOf, Told}
+use Rattle.sweep.specs.Sweep.{errorAt}
+use Rattle.sweep.proofs.Matching.{match-is}
+use Rattle.sweep.proofs.Steps.{Ends, end-room, told-each}
+
+sub-items : (m : ℕ) (cs : List ChannelM) → Sub (writeItems (change freed m cs)) (writeItems cs)
+unfolding writeItems change
+sub-items m [] = end
+sub-items m (c ∷ cs) =
+    sub-append
+    (if-elim (λ (d : ChannelM). Sub (map (writeItem (d .key)) (d .writes)) (map (writeItem (c .key)) (c .writes))) (odd m)
+    (λ _. sub-nil (map (writeItem (c .key)) (c .writes))) (λ _. sub-refl (map (writeItem (c .key)) (c .writes))))
+    (sub-items (half m) cs)
+
+-- ---- of a state that is held
+
+module _ {st : State} {tb : List ℕ} (m : ℕ) (h : Held st tb) where
+  abbrev pub left : List Lock
+  left = lefts false m (stateIn st tb .locks)
+
+  abbrev pub over : List Reply
+  over = ending false m (stateIn st tb .locks)
+
+  pub left-is : left ≡ keep (λ l. not (isEmpty l)) (cleared (length (stateIn st tb .channels)) m (stateIn st tb .locks))
+  left-is = rw (held-eight h) (lefts-freed m (stateIn st tb .locks))
+
+  pub replies-are : abortedIn m (stateIn st tb .channels) ++ over ≡ freeingReplies m (stateIn st tb)
+  unfolding freeingReplies
+  replies-are = rw (held-eight h, ending-freed m (stateIn st tb .locks))
+
+  pub replies-count : length (abortedIn m (stateIn st tb .channels)) + length over ≡ length (freeingReplies m (stateIn st tb))
+  replies-count = sym (length-append (abortedIn m (stateIn st tb .channels)) over) ∙ ap length replies-are
+
+module _ {st : State} {tb l : List ℕ} (m : ℕ) (p : Ready st tb l 0 (length (freeingReplies m (stateIn st tb)))) where
+  pub abort-fits : 0 * 6 + length (abortedIn m (stateIn st tb .channels)) * 6 ≤ length l
+  abort-fits =
+      let r = p .room in
+      let f = p .fits in
+      let e = replies-count m (p .held) in
+      omega arith
+
+  module _ (b : m < 256) {l₁ tb₁ : List ℕ} {at : ℕ}
+      (w : (at ≡ 0 + length (abortedIn m (stateIn st tb .channels))) × (l₁ ≡ sent l 0 (abortedIn m (stateIn st tb .channels)))
+      × (tb₁ ≡ idled (writesIn m (stateIn st tb .channels)) tb)) where
+    pub sifting : Sifting false m (st .locks) tb₁ l₁ at
+    unfolding tableOf items
+    sifting =
+        let s = stateIn st tb in
+        let h = p .held in
+        let r = p .room in
+        let f = p .fits in
+        record {
+          pre = writeItems (change freed m (s .channels));
+          ls = s .locks;
+          post = map waitItem (s .waiting);
+          locked = record {
+            queue = ap (λ (x : State). x .locks) (h .struct);
+            table = w .2 ∙ held-cleared h freed (λ _. refl) m;
+            good = good-sub (sub-append (sub-append (sub-items m (s .channels)) (sub-refl (map lockItem (s .locks)))) (sub-refl (map waitItem (s .waiting))))
+                (good-of s (held-parts h));
+            maps = maps-small s (held-parts h) (held-eight h);
+          };
+          wanted = b;
+          room = let e = replies-count m h in
+              let q = length-sent l 0 (abortedIn m (s .channels)) (omega arith) in
+              let z = ap length (w .1) in
+              let c = w .0 in
+              omega arith;
+        }
+
+    pub freed-did : {l₂ tb₂ : List ℕ} {f : Sifted} {ds : List Channel} → ds ≡ changeEach (changedOf Free) m (st .channels)
+        → Sifts false m (st .locks) tb₁ l₁ at f tb₂ l₂
+        → Did (freeing m (stateIn st tb)) (freeingReplies m (stateIn st tb)) l 0
+        (record { channels = ds; locks = f .locks; waiting = st .waiting; opens = st .opens; last = st .last }) tb₂ l₂ (f .n)
+    unfolding freeing tableOf items sifting
+    freed-did {l₂} {tb₂} {f} {ds} u g =
+        let s = stateIn st tb in
+        let h = p .held in
+        let v = g sifting in
+        let n = replies-count m h in
+        let a = abort-fits in
+        let c : ds ≡ map channelOf (change freed m (s .channels)) = u ∙ held-changed h Free m in
+        let q : f .locks ≡ queueOf (map (λ x. x .id) (keep (λ x. not (isEmpty x)) (cleared (length (s .channels)) m (s .locks)))) =
+        v .queue ∙ ap (λ (ls : List Lock). queueOf (map (λ x. x .id) ls)) (left-is m h) in
+        let x : st .waiting ≡ queueOf (map (λ y. y .id) (s .waiting)) = ap (λ (y : State). y .waiting) (h .struct) in
+        record {
+          struct = λ i. record { channels = c i; locks = q i; waiting = x i; opens = st .opens; last = st .last };
+          table = v .table
+              ∙ ap (λ (ls : List Lock). Rattle.store.specs.Store.entries 64 0 (writeItems (change freed m (s .channels)) ++ map lockItem ls ++ map waitItem (s .waiting))) (left-is m h);
+          list = v .replies ∙ (rw (w .1, w .0, ← replies-are m h) (sent-append l 0 (abortedIn m (s .channels)) (over m h) (omega arith)));
+          count = v .count ∙ (let k = w .0 in omega arith);
+        }
+
+-- ---- FREE
+
+module _ {st : State} {tb : List ℕ} (r : Request) (h : Held st tb) (b : r .map < 256) (free : r .command ≡ 9) {ok : ℕ}
+    (e : ok ≡ matchingEach (r .key) (r .map) (st .channels)) where
+  pub free-ready : {l : List ℕ} → Ready st tb l 0 (length (freeingReplies (matching (r .key) (r .map) (stateIn st tb .channels)) (stateIn st tb)) + 1)
+      → Ready st tb l 0 (length (freeingReplies ok (stateIn st tb)))
+  free-ready p =
+      let q : ok ≡ matching (r .key) (r .map) (stateIn st tb .channels) = e ∙ match-is h (r .key) (r .map) in
+      let f = p .fits in
+      record { held = h; room = p .room; fits = rw q (omega arith) }
+
+  pub free-did : {l l₁ tb₁ : List ℕ} {t : State} {n : ℕ} → Did (freeing ok (stateIn st tb)) (freeingReplies ok (stateIn st tb)) l 0 t tb₁ l₁ n
+      → Did (freeing (matching (r .key) (r .map) (stateIn st tb .channels)) (stateIn st tb))
+      (freeingReplies (matching (r .key) (r .map) (stateIn st tb .channels)) (stateIn st tb)) l 0 t tb₁ l₁ n
+  free-did {l} {l₁} {tb₁} {t} {n} g =
+      subst (λ (y : ℕ). Did (freeing y (stateIn st tb)) (freeingReplies y (stateIn st tb)) l 0 t tb₁ l₁ n) (e ∙ match-is h (r .key) (r .map)) g
+
+  pub free-room : {l l₁ tb₁ : List ℕ} {t : State} {n : ℕ}
+      → Ready st tb l 0 (length (freeingReplies (matching (r .key) (r .map) (stateIn st tb .channels)) (stateIn st tb)) + 1)
+      → Did (freeing ok (stateIn st tb)) (freeingReplies ok (stateIn st tb)) l 0 t tb₁ l₁ n → n * 6 + 6 ≤ length l₁
+  free-room p g = let f = p .fits in end-room (p .room) (omega arith) (free-did g)
+
+  pub told-free : {l l₁ l₂ tb₁ : List ℕ} {t : State} {n : ℕ} {x : Answer} {d : Outcome} → 384 ≤ length l
+      → 0 + (length (freeingReplies (matching (r .key) (r .map) (stateIn st tb .channels)) (stateIn st tb)) + 1) ≤ 64
+      → Did (freeing ok (stateIn st tb)) (freeingReplies ok (stateIn st tb)) l 0 t tb₁ l₁ n
+      → x ≡ answerOf (done (errorAt ok (r .map)) ok (r .key) 255) → Ends r x t n l₁ d l₂ → Told (doFree (callOf r []) (stateIn st tb)) l d tb₁ l₂
+  unfolding doFree
+  told-free {l} {l₁} {l₂} {tb₁} {t} {n} {x} {d} room fits g v f =
+      let s = stateIn st tb in
+      let m = matching (r .key) (r .map) (s .channels) in
+      subst (λ (y : ℕ). Told (each y (callOf r []) (freeingReplies m s) (freeing m s) s) l d tb₁ l₂) free (told-each r h b e room (omega arith) (free-did g) v f)
+
+-- ---- CLOSE
+
+less : (n : ℕ) → n - 1 ≡ pred n
+less n = omega arith
+
+owned-eight : (k : ℕ) (cs : List ChannelM) → length cs ≡ 8 → owned k cs ≡ matching k 255 cs
+unfolding owned matching odd half
+owned-eight k [] f = absurd (omega arith)
+owned-eight k (a ∷ []) f = absurd (omega arith)
+owned-eight k (a ∷ b ∷ []) f = absurd (omega arith)
+owned-eight k (a ∷ b ∷ c ∷ []) f = absurd (omega arith)
+owned-eight k (a ∷ b ∷ c ∷ d ∷ []) f = absurd (omega arith)
+owned-eight k (a ∷ b ∷ c ∷ d ∷ u ∷ []) f = absurd (omega arith)
+owned-eight k (a ∷ b ∷ c ∷ d ∷ u ∷ v ∷ []) f = absurd (omega arith)
+owned-eight k (a ∷ b ∷ c ∷ d ∷ u ∷ v ∷ w ∷ []) f = absurd (omega arith)
+owned-eight k (a ∷ b ∷ c ∷ d ∷ u ∷ v ∷ w ∷ x ∷ []) f = refl
+owned-eight k (a ∷ b ∷ c ∷ d ∷ u ∷ v ∷ w ∷ x ∷ y ∷ cs) f = absurd (omega arith)
+
+module _ {st : State} {tb : List ℕ} (r : Request) (h : Held st tb) {ok : ℕ} (e : ok ≡ matchingEach (r .key) 255 (st .channels)) where
+  pub owned-is : ok ≡ owned (r .key) (stateIn st tb .channels)
+  owned-is = e ∙ match-is h (r .key) 255 ∙ sym (owned-eight (r .key) (stateIn st tb .channels) (held-eight h))
+
+  pub close-ready : {l : List ℕ} → Ready st tb l 0 (length (freeingReplies (owned (r .key) (stateIn st tb .channels)) (stateIn st tb)))
+      → Ready st tb l 0 (length (freeingReplies ok (stateIn st tb)))
+  close-ready p = record { held = h; room = p .room; fits = rw owned-is (p .fits) }
+
+  pub close-opens : {l l₁ tb₁ : List ℕ} {t : State} {n : ℕ} → Did (freeing ok (stateIn st tb)) (freeingReplies ok (stateIn st tb)) l 0 t tb₁ l₁ n → t .opens ≡ st .opens
+  unfolding freeing
+  close-opens g = ap (λ (y : State). y .opens) (g .struct)
+
+  pub told-close : {l l₁ tb₁ : List ℕ} {t : State} {n : ℕ} {x : Answer} → x ≡ answerOf (done 0 0 (r .key) 255)
+      → Did (freeing ok (stateIn st tb)) (freeingReplies ok (stateIn st tb)) l 0 t tb₁ l₁ n
+      → Told (doClose (callOf r []) (stateIn st tb)) l
+      (record { answer = x; state = record { channels = t .channels; locks = t .locks; waiting = t .waiting; opens = t .opens - 1; last = t .last }; n = n }) tb₁ l₁
+  unfolding doClose silent tableOf items
+  told-close {l} {l₁} {tb₁} {t} {n} {x} v g =
+      let s = stateIn st tb in
+      let q : Did (freeing (owned (r .key) (s .channels)) s) (freeingReplies (owned (r .key) (s .channels)) s) l 0 t tb₁ l₁ n =
+      subst (λ (y : ℕ). Did (freeing y s) (freeingReplies y s) l 0 t tb₁ l₁ n) owned-is g in
+      let o : t .opens - 1 ≡ pred (s .opens) = ap (λ (y : ℕ). y - 1) (close-opens g) ∙ less (s .opens) in
+      record {
+        answer = v;
+        did = record {
+          struct = λ i. record {
+            channels = q .struct i .channels;
+            locks = q .struct i .locks;
+            waiting = q .struct i .waiting;
+            opens = o i;
+            last = q .struct i .last;
+          };
+          table = q .table;
+          list = q .list;
+          count = q .count;
+        };
+      }

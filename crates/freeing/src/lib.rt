@@ -1,0 +1,68 @@
+// FREE and CLOSE: channels freed, their writes aborted, their bits cleared in every lock.
+// A command is promised in the machine's words: its answer, the state it leaves and its replies. Assumes nothing.
+use answers::Outcome;
+use answers::Request;
+use channel::Change;
+use store::State;
+ghost use mathlib.Core.Path.{_≡_};
+ghost use mathlib.Core.Bool.{false};
+ghost use mathlib.Core.List.{[]};
+ghost use Prim.Native.Nat.{_+_, _≤_, _<_};
+ghost use lib.ListN.{length};
+ghost use Rattle.machine.specs.Commands.{matching as matchingM, freeing as freeingM, freeingReplies, owned, doFree, doClose};
+ghost use Rattle.store.specs.Store.{stateIn};
+ghost use Rattle.store.specs.Work.{Ready, Did};
+ghost use Rattle.answers.specs.Answers.{callOf, Told};
+
+pub struct Freed {
+    pub state: State,
+    pub n: usize,
+}
+
+// The channels of a map freed: their writes aborted, their bits cleared in every lock.
+pub fn freeing(s: State, map: u8, table: &mut [u8], replies: &mut [u8]) -> Freed
+    requires { ⌜ Ready s (now table) (now replies) 0 (length (freeingReplies map (stateIn s (now table)))) × (map < 256) ⌝ }
+    ensures { λ r. ⌜ Did (freeingM map (stateIn s (now (table .entry)))) (freeingReplies map (stateIn s (now (table .entry)))) (now (replies .entry)) 0 (r .state) (now (table .exit)) (now (replies .exit)) (r .n) ⌝ }
+{
+    let cs = s.channels;
+    let at = granting::abort_named(table, replies, 0, cs, map);
+    let q = s.locks;
+    let f = locks::sift(q, table, replies, at, map, false);
+    let ds = channel::change_named(cs, map, Change::Free);
+    let left = f.locks;
+    let mut t = s;
+    t.channels = ds;
+    t.locks = left;
+    Freed { state: t, n: f.n }
+}
+
+// FREE.
+pub fn free(r: Request, s: State, table: &mut [u8], replies: &mut [u8]) -> Outcome
+    requires { ⌜ Ready s (now table) (now replies) 0 (length (freeingReplies (matchingM (r .key) (r .map) (stateIn s (now table) .channels)) (stateIn s (now table))) + 1) × (r .map < 256) × (r .command ≡ 9) ⌝ }
+    ensures { λ d. ⌜ Told (doFree (callOf r []) (stateIn s (now (table .entry)))) (now (replies .entry)) d (now (table .exit)) (now (replies .exit)) ⌝ }
+{
+    let cs = s.channels;
+    let ok = channel::matching(cs, r.key, r.map);
+    let f = freeing(s, ok, table, replies);
+    let t = f.state;
+    let a = sweep::verdict(r, ok);
+    answers::finished(r, a, t, replies, f.n)
+}
+
+// CLOSE: one opening less, and every channel with the key freed.
+pub fn close(r: Request, s: State, table: &mut [u8], replies: &mut [u8]) -> Outcome
+    requires { ⌜ Ready s (now table) (now replies) 0 (length (freeingReplies (owned (r .key) (stateIn s (now table) .channels)) (stateIn s (now table)))) × (1 ≤ s .opens) ⌝ }
+    ensures { λ d. ⌜ Told (doClose (callOf r []) (stateIn s (now (table .entry)))) (now (replies .entry)) d (now (table .exit)) (now (replies .exit)) ⌝ }
+{
+    let cs = s.channels;
+    let ok = channel::matching(cs, r.key, 255);
+    let f = freeing(s, ok, table, replies);
+    let mut t = f.state;
+    t.opens = t.opens - 1;
+    let a = answers::done(0, 0, r.key, 255);
+    Outcome {
+        answer: a,
+        state: t,
+        n: f.n,
+    }
+}

@@ -1,0 +1,48 @@
+// OPEN, before settling: a grant, or nothing. Assumes nothing.
+use answers::Outcome;
+use answers::Request;
+use choosing::Look;
+use store::State;
+ghost use mathlib.Core.List.{List};
+ghost use Prim.Native.Nat.{ℕ, _+_, _<_};
+ghost use lib.ListN.{length};
+ghost use Rattle.machine.specs.Choosing.{grants};
+ghost use Rattle.machine.specs.Granting.{abortedIn};
+ghost use Rattle.machine.specs.Allocating.{opening, doOpen};
+ghost use Rattle.store.specs.Store.{stateIn};
+ghost use Rattle.store.specs.Work.{Ready};
+ghost use Rattle.answers.specs.Answers.{callOf, Told};
+
+// It is granted a map, and the device is open once more.
+fn enter(r: Request, s: State, table: &mut [u8], replies: &mut [u8], map: u8) -> Outcome
+    requires { ⌜ Ready s (now table) (now replies) 0 (length (abortedIn map (stateIn s (now table) .channels))) × (s .opens < 65535) ⌝ }
+    ensures { λ d. ⌜ ((ms : List ℕ) → Told (opening (grants map) (callOf r ms) (stateIn s (now (table .entry)))) (now (replies .entry)) d (now (table .exit)) (now (replies .exit))) ⌝ }
+{
+    let g = granting::grant(s, table, replies, 0, map, r.key, r.prec);
+    let yes = answers::done(0, map, g.key, 255);
+    let mut t = g.state;
+    t.opens = t.opens + 1;
+    Outcome {
+        answer: yes,
+        state: t,
+        n: g.n,
+    }
+}
+
+// OPEN never waits: failing or held, it is answered -11 and nothing is changed.
+pub fn open(r: Request, s: State, combos: &[u8], table: &mut [u8], replies: &mut [u8]) -> Outcome
+    requires { ⌜ Ready s (now table) (now replies) 0 1 × (s .opens < 65535) ⌝ }
+    ensures { λ d. ⌜ Told (doOpen (callOf r (now (combos .entry))) (stateIn s (now (table .entry)))) (now (replies .entry)) d (now (table .exit)) (now (replies .exit)) ⌝ }
+{
+    let cs = s.channels;
+    let l = choosing::look_at(cs, r.prec, combos);
+    let Look::Grants(m) = l else {
+        let no = answers::done(245, 0, r.key, 255);
+        return Outcome {
+            answer: no,
+            state: s,
+            n: 0,
+        };
+    };
+    enter(r, s, table, replies, m)
+}

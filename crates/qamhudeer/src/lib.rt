@@ -1,0 +1,114 @@
+// The arbiter for programs in C: every exported function, and nothing else. Each forwards to a library function with the same promise.
+// None asks anything of its caller but memory that is its own. Assumes nothing.
+ghost use mathlib.Core.Path.{_≡_};
+ghost use Rattle.image.specs.Image.{STATE, CHANNEL, LOCKS, WAITING, OPENS, LAST};
+ghost use Rattle.sizes.specs.Sizes.{TABLE, REPLIES, ANSWER};
+ghost use Rattle.handed.specs.Handed.{requestOf};
+ghost use Rattle.boundary.specs.Boundary.{Started, Crossed};
+
+// ---- sizes and places, for the header to be held against
+
+#[no_mangle]
+pub extern "C" fn qamhudeer_state_size() -> usize
+    ensures { λ r. ⌜ r ≡ STATE ⌝ }
+{
+    sizes::state_size()
+}
+
+#[no_mangle]
+pub extern "C" fn qamhudeer_table_size() -> usize
+    ensures { λ r. ⌜ r ≡ TABLE ⌝ }
+{
+    sizes::table_size()
+}
+
+#[no_mangle]
+pub extern "C" fn qamhudeer_replies_size() -> usize
+    ensures { λ r. ⌜ r ≡ REPLIES ⌝ }
+{
+    sizes::replies_size()
+}
+
+#[no_mangle]
+pub extern "C" fn qamhudeer_answer_size() -> usize
+    ensures { λ r. ⌜ r ≡ ANSWER ⌝ }
+{
+    sizes::answer_size()
+}
+
+#[no_mangle]
+pub extern "C" fn qamhudeer_channel_size() -> usize
+    ensures { λ r. ⌜ r ≡ CHANNEL ⌝ }
+{
+    sizes::channel_size()
+}
+
+#[no_mangle]
+pub extern "C" fn qamhudeer_offset_of_locks() -> usize
+    ensures { λ r. ⌜ r ≡ LOCKS ⌝ }
+{
+    sizes::offset_of_locks()
+}
+
+#[no_mangle]
+pub extern "C" fn qamhudeer_offset_of_waiting() -> usize
+    ensures { λ r. ⌜ r ≡ WAITING ⌝ }
+{
+    sizes::offset_of_waiting()
+}
+
+#[no_mangle]
+pub extern "C" fn qamhudeer_offset_of_opens() -> usize
+    ensures { λ r. ⌜ r ≡ OPENS ⌝ }
+{
+    sizes::offset_of_opens()
+}
+
+#[no_mangle]
+pub extern "C" fn qamhudeer_offset_of_last() -> usize
+    ensures { λ r. ⌜ r ≡ LAST ⌝ }
+{
+    sizes::offset_of_last()
+}
+
+// ---- a fresh device, and a call
+
+// A fresh device: 0. Memory of another size: 1, and nothing moves.
+#[no_mangle]
+pub extern "C" fn qamhudeer_fresh(state: &mut [u8], table: &mut [u8]) -> u8
+    ensures { λ r. ⌜ Started (now (state .entry)) (now (table .entry)) r (now (state .exit)) (now (table .exit)) ⌝ }
+{
+    boundary::fresh(state, table)
+}
+
+// The number of replies; 255 where the answer is not lent six bytes, and nothing moves.
+#[no_mangle]
+pub extern "C" fn qamhudeer_call(
+    op: u8,
+    id: u8,
+    flags: u8,
+    map: u8,
+    prec: u8,
+    key: u16,
+    combos: &[u8],
+    state: &mut [u8],
+    table: &mut [u8],
+    replies: &mut [u8],
+    answer: &mut [u8],
+) -> usize
+    ensures { λ n. ⌜ Crossed op (requestOf op id flags map prec key) (now (combos .entry)) (now (state .entry)) (now (table .entry)) (now (replies .entry)) (now (answer .entry)) n (now (state .exit)) (now (table .exit)) (now (replies .exit)) (now (answer .exit)) ⌝ }
+{
+    boundary::call(
+        op,
+        id,
+        flags,
+        map,
+        prec,
+        key,
+        combos,
+        state,
+        table,
+        replies,
+        answer,
+    )
+}

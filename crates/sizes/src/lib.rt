@@ -1,0 +1,59 @@
+// Sizes of what a program in C lends, and the places in the state's bytes, for the header to be held against.
+// Assumes nothing.
+ghost use mathlib.Core.Path.{_≡_};
+ghost use Rattle.image.specs.Image.{STATE, CHANNEL, LOCKS, WAITING, OPENS, LAST};
+ghost use Rattle.sizes.specs.Sizes.{TABLE, REPLIES, ANSWER};
+
+pub fn state_size() -> usize
+    ensures { λ r. ⌜ r ≡ STATE ⌝ }
+{
+    414
+}
+
+pub fn table_size() -> usize
+    ensures { λ r. ⌜ r ≡ TABLE ⌝ }
+{
+    1472
+}
+
+pub fn replies_size() -> usize
+    ensures { λ r. ⌜ r ≡ REPLIES ⌝ }
+{
+    384
+}
+
+pub fn answer_size() -> usize
+    ensures { λ r. ⌜ r ≡ ANSWER ⌝ }
+{
+    6
+}
+
+pub fn channel_size() -> usize
+    ensures { λ r. ⌜ r ≡ CHANNEL ⌝ }
+{
+    70
+}
+
+pub fn offset_of_locks() -> usize
+    ensures { λ r. ⌜ r ≡ LOCKS ⌝ }
+{
+    280
+}
+
+pub fn offset_of_waiting() -> usize
+    ensures { λ r. ⌜ r ≡ WAITING ⌝ }
+{
+    345
+}
+
+pub fn offset_of_opens() -> usize
+    ensures { λ r. ⌜ r ≡ OPENS ⌝ }
+{
+    410
+}
+
+pub fn offset_of_last() -> usize
+    ensures { λ r. ⌜ r ≡ LAST ⌝ }
+{
+    412
+}

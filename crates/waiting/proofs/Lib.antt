@@ -1,0 +1,3 @@
+pub mod Stealing
+pub mod Steps
+pub mod Waiting

@@ -1,0 +1,118 @@
+// What is done to one waiting request: looked at, dropped, granted, or held, which ends the locks over its map.
+// A step is promised in the machine's words: the state it leaves and the replies it adds. Assumes nothing.
+use choosing::Look;
+use reply::Reply;
+use store::State;
+ghost use mathlib.Core.Path.{_≡_};
+ghost use mathlib.Core.List.{[], _∷_, _++_};
+ghost use Prim.Native.Nat.{_+_, _<_};
+ghost use lib.ListN.{length};
+ghost use Rattle.machine.specs.Numbers.{ALLOCFAILED};
+ghost use Rattle.machine.specs.Choosing.{look};
+ghost use Rattle.machine.specs.Granting.{abortedIn, keyFor, granted};
+ghost use Rattle.machine.specs.Settling.{replied};
+ghost use Rattle.choosing.specs.Choosing.{lookOf};
+ghost use Rattle.store.specs.Store.{structOf, tableOf, stateIn, Held};
+ghost use Rattle.store.specs.Work.{Ready, Did};
+ghost use Rattle.waiting.specs.Waiting.{waiter, outAt, stolen, withoutLocks};
+
+pub struct Settled {
+    pub state: State,
+    pub n: usize,
+}
+
+// What the waiting request at place i comes to.
+pub fn look_at(s: State, table: &[u8], i: usize) -> Look
+    requires { ⌜ Held s (now table) × (i < s .waiting .n) ⌝ }
+    ensures { λ r. ⌜ r ≡ lookOf (look (waiter i (stateIn s (now (table .entry))) .prec) (waiter i (stateIn s (now (table .entry))) .combos) (stateIn s (now (table .entry)) .channels)) ⌝ }
+{
+    let q = s.waiting;
+    let id = q.at(i);
+    let cs = s.channels;
+    let prec = table::prec(table, id);
+    let list = table::combos(table, id);
+    choosing::look_at(cs, prec, list)
+}
+
+// The waiting request at place i is gone, and its id idle.
+fn take_out(s: State, table: &mut [u8], i: usize) -> State
+    requires { ⌜ Held s (now table) × (i < s .waiting .n) ⌝ }
+    ensures { λ r. ⌜ (r ≡ structOf (outAt i (stateIn s (now (table .entry))))) × (now (table .exit) ≡ tableOf (outAt i (stateIn s (now (table .entry))))) ⌝ }
+{
+    let q = s.waiting;
+    let id = q.at(i);
+    table::clear(table, id);
+    let left = q.remove(i);
+    let mut t = s;
+    t.waiting = left;
+    t
+}
+
+// It fails with NOWAIT: replied -11 and dropped.
+pub fn drop_one(s: State, table: &mut [u8], replies: &mut [u8], n: usize, i: usize) -> Settled
+    requires { ⌜ Ready s (now table) (now replies) n 1 × (i < s .waiting .n) ⌝ }
+    ensures { λ r. ⌜ Did (outAt i (stateIn s (now (table .entry)))) (replied ALLOCFAILED 0 (waiter i (stateIn s (now (table .entry))) .key) (waiter i (stateIn s (now (table .entry)))) ∷ []) (now (replies .entry)) n (r .state) (now (table .exit)) (now (replies .exit)) (r .n) ⌝ }
+{
+    let q = s.waiting;
+    let id = q.at(i);
+    let key = table::key(table, id);
+    let t = take_out(s, table, i);
+    let at = reply::put(
+        replies,
+        n,
+        Reply {
+            id,
+            command: 32,
+            error: 245,
+            map: 0,
+            key,
+        },
+    );
+    Settled { state: t, n: at }
+}
+
+// It is granted a map: the grant, the reply.
+pub fn grant_one(
+    s: State,
+    table: &mut [u8],
+    replies: &mut [u8],
+    n: usize,
+    i: usize,
+    map: u8,
+) -> Settled
+    requires { ⌜ Ready s (now table) (now replies) n (length (abortedIn map (stateIn s (now table) .channels)) + 1) × (i < s .waiting .n) ⌝ }
+    ensures { λ r. ⌜ Did (granted map (waiter i (stateIn s (now (table .entry))) .key) (waiter i (stateIn s (now (table .entry))) .prec) (outAt i (stateIn s (now (table .entry))))) (abortedIn map (stateIn s (now (table .entry)) .channels) ++ replied 0 map (keyFor (waiter i (stateIn s (now (table .entry))) .key) (outAt i (stateIn s (now (table .entry))))) (waiter i (stateIn s (now (table .entry)))) ∷ []) (now (replies .entry)) n (r .state) (now (table .exit)) (now (replies .exit)) (r .n) ⌝ }
+{
+    let q = s.waiting;
+    let id = q.at(i);
+    let key = table::key(table, id);
+    let prec = table::prec(table, id);
+    let t = take_out(s, table, i);
+    let g = granting::grant(t, table, replies, n, map, key, prec);
+    let at = reply::put(
+        replies,
+        g.n,
+        Reply {
+            id,
+            command: 32,
+            error: 0,
+            map,
+            key: g.key,
+        },
+    );
+    let u = g.state;
+    Settled { state: u, n: at }
+}
+
+// It is held: every lock over a channel of its map is replied -12 and ends; the channels stay locked.
+pub fn steal(s: State, table: &mut [u8], replies: &mut [u8], n: usize, map: u8) -> Settled
+    requires { ⌜ Ready s (now table) (now replies) n (length (stolen map (stateIn s (now table)))) × (map < 256) ⌝ }
+    ensures { λ r. ⌜ Did (withoutLocks map (stateIn s (now (table .entry)))) (stolen map (stateIn s (now (table .entry)))) (now (replies .entry)) n (r .state) (now (table .exit)) (now (replies .exit)) (r .n) ⌝ }
+{
+    let q = s.locks;
+    let f = locks::sift(q, table, replies, n, map, true);
+    let left = f.locks;
+    let mut t = s;
+    t.locks = left;
+    Settled { state: t, n: f.n }
+}
