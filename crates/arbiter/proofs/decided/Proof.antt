@@ -13,7 +13,7 @@ same-length c = search needs
 
 returns : tie.Need-returns
 returns c =
-    let f = c .before in
+    let f = c .before .before in
     let t = f .before .before in
     refused-told (t .before .before .before .before .pre) (t .if1 .taken) (f .refuse .ensures)
 
