@@ -62,6 +62,10 @@ table-wide k s = rw (writeItems-wide k (s .channels))
 
 -- ---- the state that they hold
 
+take-front : (cs ds : List ChannelM) → take (length cs) (map channelOf (cs ++ ds)) ≡ map channelOf cs
+take-front [] ds = refl
+take-front (c ∷ cs) ds = ap (λ (l : List Channel). channelOf c ∷ l) (take-front cs ds)
+
 module _ (s : StateM) (p : Parts s) where
   within : length (s .channels) + (8 - length (s .channels)) ≡ 8
   within = let n = leb→le (length (s .channels)) 8 (p .most) in omega arith
@@ -118,6 +122,12 @@ module _ {b : Board} {tb : List ℕ} (h : Held b tb) where
       let k = 8 - length (u .channels) in
       wide-next (widen k u) (b .state) tb (own-wide u (held-parts h)) (own-eight u (held-parts h)) (ap (λ (x : Board). x .state) (h .struct))
       (h .table ∙ sym (table-wide k u))
+
+  -- the structs of the board's own channels
+  pub held-channels : take (b .width) (b .state .channels) ≡ map channelOf (stateIn b tb .channels)
+  held-channels =
+      let u = stateIn b tb in
+      ap (λ (x : Board). take (x .width) (x .state .channels)) (h .struct) ∙ take-front (u .channels) (frees (8 - length (u .channels)))
 
   pub held-length : length tb ≡ 1472
   held-length = ap length (h .table) ∙ length-tableOf (stateIn b tb) (parts-long (stateIn b tb) (held-parts h))
