@@ -3,14 +3,16 @@ use Prim.Native.Nat.{ℕ, _+_, _%_}
 use mathlib.Core.Path.{_≡_, refl, ap, sym, subst, _∙_}
 use mathlib.Core.Bool.{Bool, false}
 use mathlib.Core.List.{List}
+use lib.Dec.{T}
 use lib.ListN.{length, replicate, length-replicate}
 use Rattle.memory.specs.Splice.{splice}
-use Rattle.machine.specs.State.{fresh}
+use Rattle.machine.specs.State.{freshOn}
 use Rattle.machine.specs.Commands.{done}
 use Rattle.machine.specs.Log.{opOf}
 use Rattle.machine.proofs.Tests.{test-true}
-use Rattle.store.specs.declared.State.{State}
-use Rattle.store.specs.Store.{structOf}
+use Rattle.board.specs.declared.Board.{Board}
+use Rattle.board.specs.Board.{sized, freshBoard}
+use Rattle.board.proofs.Laws.{fresh-of}
 use Rattle.image.specs.Image.{STATE, isWhole, Whole, Saved}
 use Rattle.image.proofs.Laws.{splice-whole}
 use Rattle.answers.specs.declared.Request.{Request}
@@ -30,21 +32,21 @@ request-made op id flags map prec key e = ap (λ (x : ℕ). record { command = o
 
 -- ---- a fresh device
 
-module _ {st tb : List ℕ} where
-  pub not-begun : ((length st ≡ STATE) × (length tb ≡ TABLE) → ⊥) → Started st tb 1 st tb
+module _ {w : ℕ} {st tb : List ℕ} where
+  pub not-begun : (T (sized w) × (length st ≡ STATE) × (length tb ≡ TABLE) → ⊥) → Started w st tb 1 st tb
   not-begun n =
-      record { begun = λ h g. absurd (n (h, g)); otherwise = λ _. record { result = refl; state = refl; table = refl } }
+      record { begun = λ t h g. absurd (n (t, h, g)); otherwise = λ _. record { result = refl; state = refl; table = refl } }
 
-  pub begun : length st ≡ STATE → length tb ≡ TABLE → {s : State} {st′ tb′ : List ℕ} → s ≡ structOf fresh → Saved s st′
-      → tb′ ≡ splice tb 0 (replicate (length tb) 0) → Started st tb 0 st′ tb′
-  begun h g {s} {st′} e v c =
+  pub begun : T (sized w) → length st ≡ STATE → length tb ≡ TABLE → {b : Board} {st′ tb′ : List ℕ} → b ≡ freshBoard w → Saved b st′
+      → tb′ ≡ splice tb 0 (replicate (length tb) 0) → Started w st tb 0 st′ tb′
+  begun t h g {b} {st′} e v c =
       record {
-        begun = λ _ _. record {
+        begun = λ _ _ _. record {
           result = refl;
-          state = subst (λ (x : State). Saved x st′) e v;
+          state = subst (λ (x : Board). Saved x st′) (e ∙ fresh-of w t) v;
           table = c ∙ splice-whole tb _ (length-replicate {A = ℕ} (length tb) 0);
         };
-        otherwise = λ n. absurd (n (h, g));
+        otherwise = λ n. absurd (n (t, h, g));
       }
 
 -- ---- a call

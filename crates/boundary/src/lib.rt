@@ -2,8 +2,8 @@
 // `fresh` and `call` ask nothing: whatever the bytes are, the answer and every byte lent are determined (specs/Boundary.antt).
 // `qamhudeer` exports them to programs in C. Assumes nothing.
 use answers::Request;
+use board::Board;
 use refusals::Op;
-use store::State;
 ghost use mathlib.Core.Path.{_≡_};
 ghost use lib.ListN.{length};
 ghost use Rattle.image.specs.Image.{Whole};
@@ -12,18 +12,21 @@ ghost use Rattle.boundary.specs.Boundary.{Started, Carried, Crossed};
 
 // ---- a fresh device, and a call
 
-// A fresh device: 0. Memory of another size: 1, and nothing moves.
-pub fn fresh(state: &mut [u8], table: &mut [u8]) -> u8
-    ensures { λ r. ⌜ Started (now (state .entry)) (now (table .entry)) r (now (state .exit)) (now (table .exit)) ⌝ }
+// A fresh device of four or eight channels: 0. Another number of channels, or memory of another size: 1, and nothing moves.
+pub fn fresh(channels: u8, state: &mut [u8], table: &mut [u8]) -> u8
+    ensures { λ r. ⌜ Started channels (now (state .entry)) (now (table .entry)) r (now (state .exit)) (now (table .exit)) ⌝ }
 {
-    if state.len() != 414 {
+    if !Board::sized(channels) {
+        return 1;
+    }
+    if state.len() != 695 {
         return 1;
     }
     if table.len() != 1472 {
         return 1;
     }
-    let s = State::fresh();
-    saving::save(s, state);
+    let b = Board::fresh(channels);
+    saving::save(b, state);
     let n = table.len();
     memory::clear(table, 0, n);
     0
@@ -42,8 +45,8 @@ fn carry(
     requires { ⌜ Whole (now state) × (length (now answer) ≡ 6) ⌝ }
     ensures { λ n. ⌜ Carried op r (now (combos .entry)) (now (state .entry)) (now (table .entry)) (now (replies .entry)) n (now (state .exit)) (now (table .exit)) (now (replies .exit)) (now (answer .exit)) ⌝ }
 {
-    let s = image::load(state);
-    let d = arbiter::call(op, r, s, combos, table, replies);
+    let b = image::load(state);
+    let d = arbiter::call(op, r, b, combos, table, replies);
     let a = d.answer;
     let t = d.state;
     saving::save(t, state);

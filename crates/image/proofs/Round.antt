@@ -179,7 +179,7 @@ module _ (b : Board) (z : Sized b) where
   unfolding stateOf
   stateOf-imageOf =
       let c : channelsAt 8 (imageOf b) 0 ≡ b .state .channels =
-          ap₂ (λ (n : ℕ) (l : List ℕ). channelsAt n l 0) (sym (z .eight)) at-locks ∙ channels-back (Q ++ (W ++ (M ++ (N ++ E)))) (b .state .channels) (z .channels) [] 0 refl in
+      ap₂ (λ (n : ℕ) (l : List ℕ). channelsAt n l 0) (sym (z .eight)) at-locks ∙ channels-back (Q ++ (W ++ (M ++ (N ++ E)))) (b .state .channels) (z .channels) [] 0 refl in
       let q = ap (λ (x : List ℕ). queueAt x 560) at-locks ∙ queue-back P4 560 long-4 (W ++ (M ++ (N ++ E))) (b .state .locks) (z .locks) in
       let w = ap (λ (x : List ℕ). queueAt x 625) at-waiting ∙ queue-back P5 625 long-5 (M ++ (N ++ E)) (b .state .waiting) (z .waiting) in
       let m = ap (λ (x : List ℕ). keyAt x 690) at-opens ∙ key-back P6 690 long-6 (N ++ E) (b .state .opens) in
@@ -192,7 +192,7 @@ module _ (b : Board) (z : Sized b) where
   unfolding isWhole
   imageOf-whole y =
       let m : allMarks 8 (imageOf b) 0 ≡ true =
-          ap₂ (λ (n : ℕ) (l : List ℕ). allMarks n l 0) (sym (z .eight)) at-locks ∙ channels-marks (Q ++ (W ++ (M ++ (N ++ E)))) (b .state .channels) (z .channels) [] 0 refl in
+      ap₂ (λ (n : ℕ) (l : List ℕ). allMarks n l 0) (sym (z .eight)) at-locks ∙ channels-marks (Q ++ (W ++ (M ++ (N ++ E)))) (b .state .channels) (z .channels) [] 0 refl in
       rw (eq-eqb (length (imageOf b)) 695 image-long, m, y) tt
 
 pub saved : (b : Board) {l : List ℕ} → Sized b → l ≡ imageOf b → ((i : ℕ) → getD l i 0 < 256) → Saved b l

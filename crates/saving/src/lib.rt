@@ -4,8 +4,8 @@ use board::Board;
 use channel::Channel;
 use queue::Queue;
 ghost use mathlib.Core.Path.{_≡_};
-ghost use Prim.Native.Nat.{_+_, _≤_};
-ghost use lib.ListN.{length};
+ghost use Prim.Native.Nat.{_+_, _≤_, _<_};
+ghost use lib.ListN.{length, set};
 ghost use Rattle.image.specs.Image.{markOf, queueBytes, channelBytes, Wrote, Entered, Saved};
 
 fn mark(on: bool) -> u8
@@ -47,6 +47,14 @@ fn put_channels(bytes: &mut [u8], cs: [Channel; 8])
     }
 }
 
+// How many channels the board has, in the last byte.
+fn put_width(bytes: &mut [u8], width: u8)
+    requires { ⌜ 694 < length (now bytes) ⌝ }
+    ensures { λ _. ⌜ now (bytes .exit) ≡ set (now (bytes .entry)) 694 width ⌝ }
+{
+    bytes[694] = width;
+}
+
 pub fn save(b: Board, bytes: &mut [u8])
     requires { ⌜ length (now bytes) ≡ 695 ⌝ }
     ensures { λ _. ⌜ Saved b (now (bytes .exit)) ⌝ }
@@ -60,5 +68,5 @@ pub fn save(b: Board, bytes: &mut [u8])
     put_queue(bytes, 625, waiting);
     memory::put_key(bytes, 690, s.opens);
     memory::put_key(bytes, 692, s.last);
-    bytes[694] = b.width;
+    put_width(bytes, b.width);
 }

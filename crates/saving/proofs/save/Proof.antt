@@ -1,43 +1,45 @@
+-- `save` meets its contract: part after part is written, and nothing is left. Assumes nothing.
+use mathlib.Core.Path.{_∙_}
+use Rattle.image.proofs.Laws.{state-wrote, queue-filled}
+use Rattle.image.proofs.Round.{saved}
 use borrow.Author.Needs.{needs}
 use Rattle.saving.proofs.save.Statement.{statement}
 use Rattle.saving.proofs.save.Tie as tie
-use Rattle.saving.proofs.save.Reads as reads
-use Rattle.saving.proofs.save.Lts as lts
-use Rattle.memory.proofs.put_key.Reads as put-key-reads
-use Rattle.saving.proofs.put_channels.Reads as put-channels-reads
-use Rattle.saving.proofs.put_queue.Reads as put-queue-reads
 
--- src/lib.rt:58:5
 put-channels-requires : tie.Need-put-channels-requires
 put-channels-requires c κs = search needs
 
--- src/lib.rt:59:5
 put-queue-requires : tie.Need-put-queue-requires
 put-queue-requires c κs = search needs
 
--- src/lib.rt:60:5
 put-queue-requires-2 : tie.Need-put-queue-requires-2
 put-queue-requires-2 c κs = search needs
 
--- src/lib.rt:61:5
 put-key-requires : tie.Need-put-key-requires
 put-key-requires c κs = search needs
 
--- src/lib.rt:62:5
 put-key-requires-2 : tie.Need-put-key-requires-2
 put-key-requires-2 c κs = search needs
 
--- src/lib.rt:63:5
-slice-write-bytes : tie.Need-slice-write-bytes
-slice-write-bytes c = search needs
+put-width-requires : tie.Need-put-width-requires
+put-width-requires c κs = search needs
 
--- src/lib.rt:50:1
 same-length : tie.Need-same-length
-same-length c = ?
+same-length c = search needs
 
--- src/lib.rt:50:1
 returns : tie.Need-returns
-returns c = ?
+returns c =
+    let o = c .before .before in
+    let z = o .before .before .before .before in
+    let y = z .before .before .before .before in
+    let x = y .before .before .before .before in
+    let w = x .before .before .before .before in
+    let v = w .before .before .before .before in
+    let s = v .before .before .before .before .before .before .before in
+    let a = s .args in
+    let e = state-wrote (a .bytes .now) (a .b) (s .pre) (v .put-channels .ensures .wrote) (w .put-queue .ensures) (x .put-queue2 .ensures) (y .put-key .ensures) (z .put-key2 .ensures) in
+    saved (a .b) record { eight = v .put-channels .ensures .eight; channels = v .put-channels .ensures .filled; locks = queue-filled (w .put-queue .ensures); waiting = queue-filled (x .put-queue2 .ensures) }
+    (o .put-width .ensures ∙ e) (λ i. c .slice-known7 .given i .fits)
 
 pub save-spec : {M : Type 1} → statement M
 save-spec =
@@ -48,6 +50,6 @@ save-spec =
     put-queue-requires-2
     put-key-requires
     put-key-requires-2
-    slice-write-bytes
+    put-width-requires
     same-length
     returns)
