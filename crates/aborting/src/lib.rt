@@ -11,9 +11,8 @@ ghost use Prim.Native.Nat.{_<_};
 ghost use lib.ListN.{getD};
 ghost use Rattle.memory.specs.Splice.{block};
 ghost use Rattle.machine.specs.Commands.{doAbort};
-ghost use Rattle.store.specs.Store.{stateIn};
 ghost use Rattle.store.specs.Work.{Ready};
-ghost use Rattle.answers.specs.Answers.{callOf, Told};
+ghost use Rattle.answers.specs.Answers.{callOf, Does};
 ghost use Rattle.aborting.specs.Aborting.{cancels as cancelsM};
 
 fn cancels(command: u8) -> bool
@@ -25,7 +24,7 @@ fn cancels(command: u8) -> bool
 // Removed, and replied -2 with the command and the key that its entry has.
 fn cancel(r: Request, s: State, table: &mut [u8], replies: &mut [u8], command: u8) -> Outcome
     requires { ⌜ Ready s (now table) (now replies) 0 1 × (r .id < 64) × (command ≡ getD (block 23 (now table) (r .id)) 0 0) × (cancelsM command ≡ true) ⌝ }
-    ensures { λ d. ⌜ Told (doAbort (callOf r []) (stateIn s (now (table .entry)))) (now (replies .entry)) d (now (table .exit)) (now (replies .exit)) ⌝ }
+    ensures { λ d. ⌜ Does (doAbort (callOf r [])) s (now (table .entry)) (now (replies .entry)) d (now (table .exit)) (now (replies .exit)) ⌝ }
 {
     let key = table::key(table, r.id);
     let n = reply::put(
@@ -51,7 +50,7 @@ fn cancel(r: Request, s: State, table: &mut [u8], replies: &mut [u8], command: u
 
 pub fn abort(r: Request, s: State, table: &mut [u8], replies: &mut [u8]) -> Outcome
     requires { ⌜ Ready s (now table) (now replies) 0 1 × (r .id < 64) ⌝ }
-    ensures { λ d. ⌜ Told (doAbort (callOf r []) (stateIn s (now (table .entry)))) (now (replies .entry)) d (now (table .exit)) (now (replies .exit)) ⌝ }
+    ensures { λ d. ⌜ Does (doAbort (callOf r [])) s (now (table .entry)) (now (replies .entry)) d (now (table .exit)) (now (replies .exit)) ⌝ }
 {
     let command = table::command(table, r.id);
     if cancels(command) {

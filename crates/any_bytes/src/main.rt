@@ -18,7 +18,6 @@
 // beyond the replies. These are compared with copies made before the call.
 mod same;
 mod scene;
-mod show;
 mod words;
 
 use scene::Scene;

@@ -1,13 +1,11 @@
 // What a call is given beside the request, and the ways to change it. Assumes nothing.
 use crate::same;
-use crate::show;
 use crate::words;
 use crate::words::at;
 use answers::Outcome;
 use answers::Request;
 use channel::Channel;
 use queue::Queue;
-use refusals::Op;
 use store::State;
 ghost use Prim.Native.Nat.{_≤_};
 
@@ -23,28 +21,13 @@ pub struct Scene {
 
 // ---- a request
 
-fn op_of(number: u8) -> Op {
-    match number {
-        0xF0 => Op::Open,
-        0xF1 => Op::Close,
-        0xF2 => Op::Abort,
-        0xF3 => Op::Event,
-        _ => Op::Command,
-    }
-}
-
-// A precedence stands as itself plus 128.
-fn prec_of(b: u8) -> u8 {
-    if b < 128 { b + 128 } else { b - 128 }
-}
-
 fn ask(w: &[u8]) -> Request {
     Request {
         command: at(w, 0),
         id: at(w, 1),
         flags: at(w, 2),
         map: at(w, 3),
-        prec: prec_of(at(w, 4)),
+        prec: handed::stored(at(w, 4)),
         key: words::pair(at(w, 5), at(w, 6)),
     }
 }
@@ -82,7 +65,7 @@ fn cut(
     let k = least(lent, table.len());
     let m = least(room, list.len());
     let r = ask(w);
-    let op = op_of(r.command);
+    let op = handed::op_of(r.command);
     arbiter::call(
         op,
         r,
@@ -260,7 +243,7 @@ impl Scene {
         let writes = c.writes;
         let d = Channel {
             key: words::pair(at(w, 1), at(w, 2)),
-            prec: prec_of(at(w, 3)),
+            prec: handed::stored(at(w, 3)),
             locked: at(w, 4) == 1,
             stopped: at(w, 5) == 1,
             writes,

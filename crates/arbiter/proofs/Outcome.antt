@@ -1,19 +1,23 @@
 -- What the promise of a call comes to: no second outcome fits it, what is refused moves nothing, and a sound state is followed
 -- by a sound state. Assumes nothing.
-use Prim.Native.Nat.{ℕ, _≤_}
+use Prim.Native.Nat.{ℕ, _+_, _≤_}
 use mathlib.Core.Path.{_≡_, refl, ap, sym, subst, _∙_}
 use mathlib.Core.Bool.{Bool, true, false}
-use mathlib.Core.List.{List}
+use mathlib.Core.List.{List, []}
 use lib.Dec.{T, leb, le→leb}
 use lib.ListN.{length}
-use Rattle.machine.specs.Lists.{among}
-use Rattle.machine.specs.State.{Outcome as OutcomeM}
+use Rattle.memory.proofs.Splice.{splice-none}
+use Rattle.machine.specs.Numbers.{UNSOUND}
+use Rattle.machine.specs.Lists.{any, among}
+use Rattle.machine.specs.State.{Reply, Outcome as OutcomeM}
+use Rattle.machine.specs.Commands.{done}
 use Rattle.machine.specs.Call.{call, inRange}
 use Rattle.machine.proofs.Tests.{and-both}
 use Rattle.machine.proofs.Sound.{parts}
-use Rattle.machine.proofs.Refusals.{refusals, refused-same}
+use Rattle.machine.proofs.Refusals.{refusals, mute, heard, ownReply, refused-same, refused-mute, refused-heard}
 use Rattle.machine.proofs.KeepingCalls.{call-sound}
 use Rattle.machine.proofs.Board.{call-wide}
+use Rattle.reply.specs.Replies.{sent}
 use Rattle.store.specs.Store.{tableOf}
 use Rattle.board.specs.declared.Board.{Board}
 use Rattle.board.specs.declared.Outcome.{Outcome}
@@ -24,7 +28,7 @@ use Rattle.sound.proofs.Own.{decides}
 use Rattle.answers.specs.declared.Request.{Request}
 use Rattle.answers.specs.declared.Answer.{Answer}
 use Rattle.refusals.specs.declared.Op.{Op}
-use Rattle.refusals.specs.Refusals.{askedOf}
+use Rattle.refusals.specs.Refusals.{opIn, askedOf}
 use Rattle.arbiter.specs.Arbiter.{Unmoved, Handled, Called}
 use Rattle.refusing.proofs.Laws.{false-true}
 
@@ -63,11 +67,20 @@ unmoved-same {d = d} {d₂ = d₂} t u =
       list = t .list ∙ sym (u .list);
     }
 
+not-heard : T (among UNSOUND heard) → ⊥
+unfolding among any
+not-heard t = t
+
 module _ {o : Op} {r : Request} {b : Board} {ms tb l : List ℕ} where
   -- no second outcome fits
   pub one-outcome : {d d₂ : Outcome} {tb₁ tb₂ l₁ l₂ : List ℕ} → Called o r b ms tb l d tb₁ l₁ → Called o r b ms tb l d₂ tb₂ l₂
       → Same d d₂ tb₁ tb₂ l₁ l₂
   one-outcome c e = held-or-not b tb (λ h. one-telling (c .sound h) (e .sound h)) (λ n. unmoved-same (c .unsound n) (e .unsound n))
+
+  -- nor of a call on a state that is known to be sound
+  pub one-handling : {d d₂ : Outcome} {tb₁ tb₂ l₁ l₂ : List ℕ} → Handled o r b ms tb l d tb₁ l₁ → Handled o r b ms tb l d₂ tb₂ l₂
+      → Same d d₂ tb₁ tb₂ l₁ l₂
+  one-handling c e = one-telling (c .told) (e .told)
 
   -- "After 1, 2, 3, 4, 5, -1, -3, -4 or -5 the state is as before": the board and every byte of the table
   pub refused-unmoved : {d : Outcome} {tb₁ l₁ : List ℕ} → Called o r b ms tb l d tb₁ l₁ → T (among (d .answer .error) refusals)
@@ -79,6 +92,30 @@ module _ {o : Op} {r : Request} {b : Board} {ms tb l : List ℕ} where
           let g = c .sound h in
           let e : call (stateIn b tb) (askedOf o r ms (length l)) .next ≡ stateIn b tb = refused-same (stateIn b tb) (askedOf o r ms (length l)) (rw (← ap (λ (a : Answer). a .error) (g .answer)) t) in
           (g .did .struct ∙ ap structOf e ∙ sym (h .struct), g .did .table ∙ ap tableOf e ∙ sym (h .table))
+
+  -- "After 1 to 5 the reply list is too": no reply, and every byte of the list
+  pub refused-silent : {d : Outcome} {tb₁ l₁ : List ℕ} → Called o r b ms tb l d tb₁ l₁ → T (among (d .answer .error) mute)
+      → (d .n ≡ 0) × (l₁ ≡ l)
+  refused-silent {d} {tb₁} {l₁} c t = held-or-not b tb sound (λ n. (c .unsound n .count, c .unsound n .list))
+    where
+      sound : Held b tb → (d .n ≡ 0) × (l₁ ≡ l)
+      sound h =
+          let g = c .sound h in
+          let e : call (stateIn b tb) (askedOf o r ms (length l)) .replies ≡ [] = refused-mute (stateIn b tb) (askedOf o r ms (length l)) (rw (← ap (λ (a : Answer). a .error) (g .answer)) t) in
+          (g .did .count ∙ ap (λ (x : List Reply). 0 + length x) e, g .did .list ∙ ap (sent l 0) e ∙ splice-none l 0)
+
+  -- "after -3, -4 and -5 it gains only the command's own reply, if due"; after -1, which only OPEN gets, none
+  pub refused-replied : {d : Outcome} {tb₁ l₁ : List ℕ} → Called o r b ms tb l d tb₁ l₁ → T (among (d .answer .error) heard)
+      → l₁ ≡ sent l 0 (ownReply (opIn o (r .command)) (askedOf o r ms (length l)) (d .answer .error))
+  unfolding done
+  refused-replied {d} {tb₁} {l₁} c t = held-or-not b tb sound (λ n. absurd (not-heard (subst (λ (x : ℕ). T (among x heard)) (ap (λ (a : Answer). a .error) (c .unsound n .answer)) t)))
+    where
+      sound : Held b tb → l₁ ≡ sent l 0 (ownReply (opIn o (r .command)) (askedOf o r ms (length l)) (d .answer .error))
+      sound h =
+          let g = c .sound h in
+          let k : d .answer .error ≡ call (stateIn b tb) (askedOf o r ms (length l)) .answer .error = ap (λ (a : Answer). a .error) (g .answer) in
+          let e = refused-heard (stateIn b tb) (askedOf o r ms (length l)) (subst (λ (x : ℕ). T (among x heard)) k t) in
+          g .did .list ∙ ap (sent l 0) (e ∙ ap (ownReply (opIn o (r .command)) (askedOf o r ms (length l))) (sym k))
 
 -- a sound state is followed by a sound state: the one that the machine names
 pub held-after : (o : Op) (r : Request) (ms l : List ℕ) {b : Board} {tb : List ℕ} {d : Outcome} {tb₁ l₁ : List ℕ} → Held b tb

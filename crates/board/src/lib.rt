@@ -33,7 +33,7 @@ impl Board {
     pub fn top(width: u8) -> u8
         ensures { λ r. ⌜ r ≡ topOf width ⌝ }
     {
-        if width == Board::FOUR { 15 } else { 255 }
+        if width == Board::FOUR { 15 } else { State::TOP }
     }
 
     pub fn fresh(width: u8) -> Self

@@ -30,7 +30,8 @@ use Rattle.refusals.specs.Refusals.{opIn, askedOf}
 use Rattle.arbiter.proofs.Outcome.{one-outcome, held-or-not, refused-unmoved, held-after}
 use Rattle.sizes.specs.Sizes.{TABLE, ANSWER}
 use Rattle.handed.specs.Handed.{opFor, answerBytes}
-use Rattle.boundary.specs.Boundary.{Started, Unanswered, Unread, Carried, Crossed}
+use Rattle.starting.specs.Starting.{Started}
+use Rattle.boundary.specs.Boundary.{Unanswered, Unread, Carried, Crossed}
 
 -- ---- which case it is
 

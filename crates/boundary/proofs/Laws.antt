@@ -3,51 +3,24 @@ use Prim.Native.Nat.{ℕ, _+_, _%_}
 use mathlib.Core.Path.{_≡_, refl, ap, sym, subst, _∙_}
 use mathlib.Core.Bool.{Bool, false}
 use mathlib.Core.List.{List}
-use lib.Dec.{T}
-use lib.ListN.{length, replicate, length-replicate}
-use Rattle.memory.specs.Splice.{splice}
-use Rattle.machine.specs.State.{freshOn}
+use lib.ListN.{length}
 use Rattle.machine.specs.Commands.{done}
 use Rattle.machine.specs.Log.{opOf}
 use Rattle.machine.proofs.Tests.{test-true}
-use Rattle.board.specs.declared.Board.{Board}
-use Rattle.board.specs.Board.{sized, freshBoard}
-use Rattle.board.proofs.Laws.{fresh-of}
-use Rattle.image.specs.Image.{STATE, isWhole, Whole, Saved}
-use Rattle.image.proofs.Laws.{splice-whole}
+use Rattle.image.specs.Image.{isWhole, Whole}
 use Rattle.answers.specs.declared.Request.{Request}
 use Rattle.answers.specs.declared.Answer.{Answer}
 use Rattle.answers.specs.Answers.{answerOf}
 use Rattle.refusals.specs.declared.Op.{Op}
 use Rattle.refusing.proofs.Laws.{false-true}
-use Rattle.sizes.specs.Sizes.{TABLE}
 use Rattle.handed.specs.Handed.{opFor, requestOf, answerBytes}
-use Rattle.boundary.specs.Boundary.{Started, Carried, Crossed}
+use Rattle.boundary.specs.Boundary.{Carried, Crossed}
 
 -- ---- the request
 
 pub request-made : (op id flags map prec key : ℕ) {p : ℕ} → p ≡ (prec + 128) % 256
     → _≡_ {A = Request} (record { command = op; id = id; flags = flags; map = map; prec = p; key = key }) (requestOf op id flags map prec key)
 request-made op id flags map prec key e = ap (λ (x : ℕ). record { command = op; id = id; flags = flags; map = map; prec = x; key = key }) e
-
--- ---- a fresh device
-
-module _ {w : ℕ} {st tb : List ℕ} where
-  pub not-begun : (T (sized w) × (length st ≡ STATE) × (length tb ≡ TABLE) → ⊥) → Started w st tb 1 st tb
-  not-begun n =
-      record { begun = λ t h g. absurd (n (t, h, g)); otherwise = λ _. record { result = refl; state = refl; table = refl } }
-
-  pub begun : T (sized w) → length st ≡ STATE → length tb ≡ TABLE → {b : Board} {st′ tb′ : List ℕ} → b ≡ freshBoard w → Saved b st′
-      → tb′ ≡ splice tb 0 (replicate (length tb) 0) → Started w st tb 0 st′ tb′
-  begun t h g {b} {st′} e v c =
-      record {
-        begun = λ _ _ _. record {
-          result = refl;
-          state = subst (λ (x : Board). Saved x st′) (e ∙ fresh-of w t) v;
-          table = c ∙ splice-whole tb _ (length-replicate {A = ℕ} (length tb) 0);
-        };
-        otherwise = λ n. absurd (n (t, h, g));
-      }
 
 -- ---- a call
 

@@ -2,9 +2,6 @@
 -- Assumes nothing.
 --
 --   UNANSWERED                 255: the result of a call whose answer has no room
---   Begun .. , NotBegun ..     a fresh device: 0, its state, a table of zeros; another number of channels than 4 or 8, or memory of
---                              another size: 1, and nothing moved
---   Started w st tb r st′ tb′  the promise of `fresh` for w channels
 --   Unanswered ..              the answer is not lent six bytes: 255, and nothing moved
 --   Unread key ..              the state's bytes hold no struct: no replies, the answer 1 with map 0 and the key given, and nothing else moved
 --   Carried o r ..             a call on the struct that the state's bytes hold: its outcome, whose state is saved in their place
@@ -12,42 +9,21 @@
 use Prim.Native.Nat.{ℕ}
 use mathlib.Core.Path.{_≡_}
 use mathlib.Core.List.{List}
-use lib.Dec.{T}
-use lib.ListN.{length, replicate}
+use lib.ListN.{length}
 use Rattle.machine.specs.Numbers.{UNSOUND, NONE}
-use Rattle.machine.specs.State.{freshOn}
 use Rattle.machine.specs.Commands.{done}
 use Rattle.machine.specs.Log.{opOf}
-use Rattle.image.specs.Image.{STATE, stateOf, Whole, Saved}
+use Rattle.image.specs.Image.{stateOf, Whole, Saved}
 use Rattle.answers.specs.declared.Request.{Request}
 use Rattle.answers.specs.Answers.{answerOf}
 use Rattle.board.specs.declared.Outcome.{Outcome}
-use Rattle.board.specs.Board.{sized, structOf}
 use Rattle.refusals.specs.declared.Op.{Op}
 use Rattle.arbiter.specs.Arbiter.{Called}
-use Rattle.sizes.specs.Sizes.{TABLE, ANSWER}
+use Rattle.sizes.specs.Sizes.{ANSWER}
 use Rattle.handed.specs.Handed.{opFor, answerBytes}
 
 abbrev pub UNANSWERED : ℕ
 UNANSWERED = 255
-
--- ---- a fresh device
-
-pub record Begun (w : ℕ) (tb : List ℕ) (r : ℕ) (st′ tb′ : List ℕ) : Type 0 where
-  pub result : r ≡ 0
-  pub state : Saved (structOf (freshOn w)) st′
-  pub table : tb′ ≡ replicate (length tb) 0
-
-pub record NotBegun (st tb : List ℕ) (r : ℕ) (st′ tb′ : List ℕ) : Type 0 where
-  pub result : r ≡ 1
-  pub state : st′ ≡ st
-  pub table : tb′ ≡ tb
-
-pub record Started (w : ℕ) (st tb : List ℕ) (r : ℕ) (st′ tb′ : List ℕ) : Type 0 where
-  pub begun : T (sized w) → length st ≡ STATE → length tb ≡ TABLE → Begun w tb r st′ tb′
-  pub otherwise : (T (sized w) × (length st ≡ STATE) × (length tb ≡ TABLE) → ⊥) → NotBegun st tb r st′ tb′
-
--- ---- a call
 
 pub record Unanswered (st tb l an : List ℕ) (n : ℕ) (st′ tb′ l′ an′ : List ℕ) : Type 0 where
   pub count : n ≡ UNANSWERED

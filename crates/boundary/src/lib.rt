@@ -1,36 +1,13 @@
 // The arbiter on bytes. State, table, replies and answer are bytes that the caller keeps and lends; nothing is kept here.
-// `fresh` and `call` ask nothing: whatever the bytes are, the answer and every byte lent are determined (specs/Boundary.antt).
-// `qamhudeer` exports them to programs in C. Assumes nothing.
+// `call` asks nothing: whatever the bytes are, the answer and every byte lent are determined (specs/Boundary.antt).
+// `qamhudeer` exports it to programs in C. Assumes nothing.
 use answers::Request;
-use board::Board;
 use refusals::Op;
 ghost use mathlib.Core.Path.{_≡_};
 ghost use lib.ListN.{length};
 ghost use Rattle.image.specs.Image.{Whole};
 ghost use Rattle.handed.specs.Handed.{requestOf};
-ghost use Rattle.boundary.specs.Boundary.{Started, Carried, Crossed};
-
-// ---- a fresh device, and a call
-
-// A fresh device of four or eight channels: 0. Another number of channels, or memory of another size: 1, and nothing moves.
-pub fn fresh(channels: u8, state: &mut [u8], table: &mut [u8]) -> u8
-    ensures { λ r. ⌜ Started channels (now (state .entry)) (now (table .entry)) r (now (state .exit)) (now (table .exit)) ⌝ }
-{
-    if !Board::sized(channels) {
-        return 1;
-    }
-    if state.len() != 695 {
-        return 1;
-    }
-    if table.len() != 1472 {
-        return 1;
-    }
-    let b = Board::fresh(channels);
-    saving::save(b, state);
-    let n = table.len();
-    memory::clear(table, 0, n);
-    0
-}
+ghost use Rattle.boundary.specs.Boundary.{Carried, Crossed};
 
 // A call on bytes that hold a struct, with room for the answer.
 fn carry(
@@ -43,7 +20,8 @@ fn carry(
     answer: &mut [u8],
 ) -> usize
     requires { ⌜ Whole (now state) × (length (now answer) ≡ 6) ⌝ }
-    ensures { λ n. ⌜ Carried op r (now (combos .entry)) (now (state .entry)) (now (table .entry)) (now (replies .entry)) n (now (state .exit)) (now (table .exit)) (now (replies .exit)) (now (answer .exit)) ⌝ }
+    ensures { λ n. ⌜ Carried op r (now (combos .entry)) (now (state .entry)) (now (table .entry)) (now (replies .entry))
+        n (now (state .exit)) (now (table .exit)) (now (replies .exit)) (now (answer .exit)) ⌝ }
 {
     let b = image::load(state);
     let d = arbiter::call(op, r, b, combos, table, replies);
@@ -68,7 +46,9 @@ pub fn call(
     replies: &mut [u8],
     answer: &mut [u8],
 ) -> usize
-    ensures { λ n. ⌜ Crossed op (requestOf op id flags map prec key) (now (combos .entry)) (now (state .entry)) (now (table .entry)) (now (replies .entry)) (now (answer .entry)) n (now (state .exit)) (now (table .exit)) (now (replies .exit)) (now (answer .exit)) ⌝ }
+    ensures { λ n. ⌜ Crossed op (requestOf op id flags map prec key) (now (combos .entry))
+        (now (state .entry)) (now (table .entry)) (now (replies .entry)) (now (answer .entry))
+        n (now (state .exit)) (now (table .exit)) (now (replies .exit)) (now (answer .exit)) ⌝ }
 {
     if answer.len() != 6 {
         return 255;

@@ -5,20 +5,20 @@ use channel::Channel;
 use reply::Reply;
 use store::State;
 ghost use mathlib.Core.Path.{_≡_};
-ghost use mathlib.Core.List.{[], _∷_};
-ghost use Prim.Native.Nat.{_<_, _^_};
+ghost use mathlib.Core.List.{[]};
+ghost use Prim.Native.Nat.{_<_};
 ghost use lib.ListN.{getD};
 ghost use Rattle.machine.specs.State.{free};
 ghost use Rattle.machine.specs.Commands.{done, doEvent};
 ghost use Rattle.channel.specs.Channel.{channelIn, channelOf};
-ghost use Rattle.store.specs.Store.{stateIn};
-ghost use Rattle.store.specs.Work.{Ready, Did};
-ghost use Rattle.answers.specs.Answers.{callOf, answerOf, Told};
-ghost use Rattle.play.specs.Play.{frontOf, withFront};
+ghost use Rattle.store.specs.Work.{Ready};
+ghost use Rattle.answers.specs.Answers.{callOf, Does};
+ghost use Rattle.play.specs.Play.{frontOf};
+ghost use Rattle.ending.specs.Ending.{EndsFront};
 
 pub fn event(r: Request, s: State, table: &mut [u8], replies: &mut [u8]) -> Outcome
     requires { ⌜ Ready s (now table) (now replies) 0 1 ⌝ }
-    ensures { λ d. ⌜ Told (doEvent (callOf r []) (stateIn s (now (table .entry)))) (now (replies .entry)) d (now (table .exit)) (now (replies .exit)) ⌝ }
+    ensures { λ d. ⌜ Does (doEvent (callOf r [])) s (now (table .entry)) (now (replies .entry)) d (now (table .exit)) (now (replies .exit)) ⌝ }
 {
     let i = channel::lowest(r.map);
     if 8 <= i {
@@ -54,7 +54,7 @@ fn end_front(
     id: u8,
 ) -> Outcome
     requires { ⌜ Ready s (now table) (now replies) 0 1 × (i < 8) × (c ≡ getD (s .channels) i (channelOf free)) × (id ≡ frontOf (channelIn c)) × (id < 255) ⌝ }
-    ensures { λ d. ⌜ (d .answer ≡ answerOf (done 0 (2 ^ i) (r .key) 255)) × Did (withFront i (stateIn s (now (table .entry)))) (record { id = id; command = 3; error = 0; map = 2 ^ i; key = c .key } ∷ []) (now (replies .entry)) 0 (d .state) (now (table .exit)) (now (replies .exit)) (d .n) ⌝ }
+    ensures { λ d. ⌜ EndsFront i id (c .key) r s (now (table .entry)) (now (replies .entry)) d (now (table .exit)) (now (replies .exit)) ⌝ }
 {
     let b = play::bit(i);
     let n = reply::put(

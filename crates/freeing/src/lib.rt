@@ -9,10 +9,11 @@ ghost use mathlib.Core.Bool.{false};
 ghost use mathlib.Core.List.{[]};
 ghost use Prim.Native.Nat.{_+_, _≤_, _<_};
 ghost use lib.ListN.{length};
-ghost use Rattle.machine.specs.Commands.{matching as matchingM, freeing as freeingM, freeingReplies, owned, doFree, doClose};
+ghost use Rattle.machine.specs.Commands.{freeingReplies, doFree, doClose};
 ghost use Rattle.store.specs.Store.{stateIn};
-ghost use Rattle.store.specs.Work.{Ready, Did};
-ghost use Rattle.answers.specs.Answers.{callOf, Told};
+ghost use Rattle.store.specs.Work.{Ready};
+ghost use Rattle.freeing.specs.Freeing.{matchReplies, ownedReplies, Frees};
+ghost use Rattle.answers.specs.Answers.{callOf, Does};
 
 pub struct Freed {
     pub state: State,
@@ -22,7 +23,7 @@ pub struct Freed {
 // The channels of a map freed: their writes aborted, their bits cleared in every lock.
 pub fn freeing(s: State, map: u8, table: &mut [u8], replies: &mut [u8]) -> Freed
     requires { ⌜ Ready s (now table) (now replies) 0 (length (freeingReplies map (stateIn s (now table)))) × (map < 256) ⌝ }
-    ensures { λ r. ⌜ Did (freeingM map (stateIn s (now (table .entry)))) (freeingReplies map (stateIn s (now (table .entry)))) (now (replies .entry)) 0 (r .state) (now (table .exit)) (now (replies .exit)) (r .n) ⌝ }
+    ensures { λ r. ⌜ Frees map s (now (table .entry)) (now (replies .entry)) r (now (table .exit)) (now (replies .exit)) ⌝ }
 {
     let cs = s.channels;
     let at = granting::abort_named(table, replies, 0, cs, map);
@@ -38,8 +39,8 @@ pub fn freeing(s: State, map: u8, table: &mut [u8], replies: &mut [u8]) -> Freed
 
 // FREE.
 pub fn free(r: Request, s: State, table: &mut [u8], replies: &mut [u8]) -> Outcome
-    requires { ⌜ Ready s (now table) (now replies) 0 (length (freeingReplies (matchingM (r .key) (r .map) (stateIn s (now table) .channels)) (stateIn s (now table))) + 1) × (r .map < 256) × (r .command ≡ 9) ⌝ }
-    ensures { λ d. ⌜ Told (doFree (callOf r []) (stateIn s (now (table .entry)))) (now (replies .entry)) d (now (table .exit)) (now (replies .exit)) ⌝ }
+    requires { ⌜ Ready s (now table) (now replies) 0 (length (matchReplies r (stateIn s (now table))) + 1) × (r .map < 256) × (r .command ≡ 9) ⌝ }
+    ensures { λ d. ⌜ Does (doFree (callOf r [])) s (now (table .entry)) (now (replies .entry)) d (now (table .exit)) (now (replies .exit)) ⌝ }
 {
     let cs = s.channels;
     let ok = channel::matching(cs, r.key, r.map);
@@ -51,11 +52,11 @@ pub fn free(r: Request, s: State, table: &mut [u8], replies: &mut [u8]) -> Outco
 
 // CLOSE: one opening less, and every channel with the key freed.
 pub fn close(r: Request, s: State, table: &mut [u8], replies: &mut [u8]) -> Outcome
-    requires { ⌜ Ready s (now table) (now replies) 0 (length (freeingReplies (owned (r .key) (stateIn s (now table) .channels)) (stateIn s (now table)))) × (1 ≤ s .opens) ⌝ }
-    ensures { λ d. ⌜ Told (doClose (callOf r []) (stateIn s (now (table .entry)))) (now (replies .entry)) d (now (table .exit)) (now (replies .exit)) ⌝ }
+    requires { ⌜ Ready s (now table) (now replies) 0 (length (ownedReplies r (stateIn s (now table)))) × (1 ≤ s .opens) ⌝ }
+    ensures { λ d. ⌜ Does (doClose (callOf r [])) s (now (table .entry)) (now (replies .entry)) d (now (table .exit)) (now (replies .exit)) ⌝ }
 {
     let cs = s.channels;
-    let ok = channel::matching(cs, r.key, 255);
+    let ok = channel::matching(cs, r.key, State::TOP);
     let f = freeing(s, ok, table, replies);
     let mut t = f.state;
     t.opens = t.opens - 1;

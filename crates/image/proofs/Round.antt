@@ -203,6 +203,10 @@ saved b {l} z e h =
       whole = subst (λ (x : List ℕ). Whole x) (sym e) (imageOf-whole b z (subst (λ (x : List ℕ). all isByte x ≡ true) e (bytes-all l h)));
     }
 
+-- no second image fits: a board is saved as these bytes and no others
+pub one-image : {b : Board} {l l₂ : List ℕ} → Saved b l → Saved b l₂ → l ≡ l₂
+one-image x y = x .bytes ∙ sym (y .bytes)
+
 -- ---- bytes that are whole are those of the board that they hold
 
 -- n bytes from a place on, and m behind them

@@ -5,17 +5,17 @@ use queue::Queue;
 use store::State;
 use table::Head;
 ghost use mathlib.Core.Path.{_≡_};
-ghost use mathlib.Core.Bool.{not};
 ghost use mathlib.Core.List.{List};
 ghost use Prim.Native.Nat.{ℕ, _+_, _≤_, _<_};
-ghost use lib.Dec.{T};
 ghost use lib.ListN.{length};
+ghost use mathlib.Core.Bool.{not};
+ghost use lib.Dec.{T};
 ghost use Rattle.machine.specs.Lists.{among};
 ghost use Rattle.machine.specs.Sound.{ids};
 ghost use Rattle.machine.specs.Allocating.{waits};
 ghost use Rattle.queue.specs.Queue.{listOf};
 ghost use Rattle.store.specs.Store.{stateIn, Held, Small};
-ghost use Rattle.answers.specs.Answers.{callOf, Told};
+ghost use Rattle.answers.specs.Answers.{callOf, Does};
 ghost use Rattle.joining.specs.Joining.{placeIn};
 
 // Where a request of this precedence joins: before the first of lower precedence.
@@ -39,7 +39,7 @@ fn place(q: Queue, table: &[u8], prec: u8) -> usize
 // The request joins the waiting ones and is outstanding. No reply is due, so whatever list there is stays as it is.
 pub fn wait(r: Request, s: State, combos: &[u8], table: &mut [u8]) -> Outcome
     requires { ⌜ Held s (now table) × (length (now combos) ≤ 16) × (r .id < 64) × T (not (among (r .id) (ids (stateIn s (now table))))) ⌝ }
-    ensures { λ d. ⌜ ((l : List ℕ) → Told (waits (callOf r (now (combos .entry))) (stateIn s (now (table .entry)))) l d (now (table .exit)) l) ⌝ }
+    ensures { λ d. ⌜ ((l : List ℕ) → Does (waits (callOf r (now (combos .entry)))) s (now (table .entry)) l d (now (table .exit)) l) ⌝ }
 {
     let q = s.waiting;
     let k = place(q, table, r.prec);

@@ -12,15 +12,15 @@ ghost use lib.Dec.{T};
 ghost use Rattle.machine.specs.Lists.{among};
 ghost use Rattle.machine.specs.Sound.{ids};
 ghost use Rattle.machine.specs.Commands.{doLock};
-ghost use Rattle.store.specs.Store.{structOf, tableOf, stateIn, Held};
-ghost use Rattle.store.specs.Work.{Ready};
-ghost use Rattle.answers.specs.Answers.{callOf, Told};
+ghost use Rattle.store.specs.Store.{stateIn, Held};
+ghost use Rattle.store.specs.Work.{Stands, Ready};
+ghost use Rattle.answers.specs.Answers.{callOf, Does};
 ghost use Rattle.locking.specs.Locking.{lockedBy};
 
 // A lock that is outstanding: its id last in the queue, its entry in the table, its channels marked.
 fn enter(r: Request, s: State, table: &mut [u8]) -> State
     requires { ⌜ Held s (now table) × (r .id < 64) × T (not (among (r .id) (ids (stateIn s (now table))))) ⌝ }
-    ensures { λ t. ⌜ (t ≡ structOf (lockedBy r (stateIn s (now (table .entry))))) × (now (table .exit) ≡ tableOf (lockedBy r (stateIn s (now (table .entry))))) ⌝ }
+    ensures { λ t. ⌜ Stands (lockedBy r (stateIn s (now (table .entry)))) t (now (table .exit)) ⌝ }
 {
     table::put(
         table,
@@ -46,7 +46,7 @@ fn enter(r: Request, s: State, table: &mut [u8]) -> State
 
 pub fn lock(r: Request, s: State, table: &mut [u8], replies: &mut [u8]) -> Outcome
     requires { ⌜ Ready s (now table) (now replies) 0 1 × (r .map < 256) × (r .id < 64) × T (not (among (r .id) (ids (stateIn s (now table))))) × (r .command ≡ 13) ⌝ }
-    ensures { λ d. ⌜ Told (doLock (callOf r []) (stateIn s (now (table .entry)))) (now (replies .entry)) d (now (table .exit)) (now (replies .exit)) ⌝ }
+    ensures { λ d. ⌜ Does (doLock (callOf r [])) s (now (table .entry)) (now (replies .entry)) d (now (table .exit)) (now (replies .exit)) ⌝ }
 {
     let cs = s.channels;
     let ok = channel::matching(cs, r.key, r.map);

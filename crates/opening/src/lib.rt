@@ -11,12 +11,12 @@ ghost use Rattle.machine.specs.Granting.{abortedIn};
 ghost use Rattle.machine.specs.Allocating.{opening, doOpen};
 ghost use Rattle.store.specs.Store.{stateIn};
 ghost use Rattle.store.specs.Work.{Ready};
-ghost use Rattle.answers.specs.Answers.{callOf, Told};
+ghost use Rattle.answers.specs.Answers.{callOf, Does};
 
 // It is granted a map, and the device is open once more.
 fn enter(r: Request, s: State, table: &mut [u8], replies: &mut [u8], map: u8) -> Outcome
     requires { ⌜ Ready s (now table) (now replies) 0 (length (abortedIn map (stateIn s (now table) .channels))) × (s .opens < 65535) ⌝ }
-    ensures { λ d. ⌜ ((ms : List ℕ) → Told (opening (grants map) (callOf r ms) (stateIn s (now (table .entry)))) (now (replies .entry)) d (now (table .exit)) (now (replies .exit))) ⌝ }
+    ensures { λ d. ⌜ ((ms : List ℕ) → Does (opening (grants map) (callOf r ms)) s (now (table .entry)) (now (replies .entry)) d (now (table .exit)) (now (replies .exit))) ⌝ }
 {
     let g = granting::grant(s, table, replies, 0, map, r.key, r.prec);
     let yes = answers::done(0, map, g.key, 255);
@@ -32,7 +32,7 @@ fn enter(r: Request, s: State, table: &mut [u8], replies: &mut [u8], map: u8) ->
 // OPEN never waits: failing or held, it is answered -11 and nothing is changed.
 pub fn open(r: Request, s: State, combos: &[u8], table: &mut [u8], replies: &mut [u8]) -> Outcome
     requires { ⌜ Ready s (now table) (now replies) 0 1 × (s .opens < 65535) ⌝ }
-    ensures { λ d. ⌜ Told (doOpen (callOf r (now (combos .entry))) (stateIn s (now (table .entry)))) (now (replies .entry)) d (now (table .exit)) (now (replies .exit)) ⌝ }
+    ensures { λ d. ⌜ Does (doOpen (callOf r (now (combos .entry)))) s (now (table .entry)) (now (replies .entry)) d (now (table .exit)) (now (replies .exit)) ⌝ }
 {
     let cs = s.channels;
     let l = choosing::look_at(cs, r.prec, combos);

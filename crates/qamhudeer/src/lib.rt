@@ -4,7 +4,8 @@ ghost use mathlib.Core.Path.{_≡_};
 ghost use Rattle.image.specs.Image.{STATE, CHANNEL, LOCKS, WAITING, OPENS, LAST, CHANNELS};
 ghost use Rattle.sizes.specs.Sizes.{TABLE, REPLIES, ANSWER};
 ghost use Rattle.handed.specs.Handed.{requestOf};
-ghost use Rattle.boundary.specs.Boundary.{Started, Crossed};
+ghost use Rattle.starting.specs.Starting.{Started};
+ghost use Rattle.boundary.specs.Boundary.{Crossed};
 
 // ---- sizes and places, for the header to be held against
 
@@ -85,7 +86,7 @@ pub extern "C" fn qamhudeer_offset_of_channels() -> usize
 pub extern "C" fn qamhudeer_fresh(channels: u8, state: &mut [u8], table: &mut [u8]) -> u8
     ensures { λ r. ⌜ Started channels (now (state .entry)) (now (table .entry)) r (now (state .exit)) (now (table .exit)) ⌝ }
 {
-    boundary::fresh(channels, state, table)
+    starting::fresh(channels, state, table)
 }
 
 // The number of replies; 255 where the answer is not lent six bytes, and nothing moves.
@@ -103,7 +104,9 @@ pub extern "C" fn qamhudeer_call(
     replies: &mut [u8],
     answer: &mut [u8],
 ) -> usize
-    ensures { λ n. ⌜ Crossed op (requestOf op id flags map prec key) (now (combos .entry)) (now (state .entry)) (now (table .entry)) (now (replies .entry)) (now (answer .entry)) n (now (state .exit)) (now (table .exit)) (now (replies .exit)) (now (answer .exit)) ⌝ }
+    ensures { λ n. ⌜ Crossed op (requestOf op id flags map prec key) (now (combos .entry))
+        (now (state .entry)) (now (table .entry)) (now (replies .entry)) (now (answer .entry))
+        n (now (state .exit)) (now (table .exit)) (now (replies .exit)) (now (answer .exit)) ⌝ }
 {
     boundary::call(
         op,

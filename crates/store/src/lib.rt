@@ -3,6 +3,7 @@
 // nothing below the call reads how many a board has. Assumes nothing.
 use channel::Channel;
 use queue::Queue;
+use table::Head;
 ghost use mathlib.Core.Path.{_≡_};
 ghost use lib.ListN.{set};
 ghost use Prim.Native.Nat.{_<_};
@@ -18,10 +19,13 @@ pub struct State {
 }
 
 impl State {
-    // How many requests the table has, and how many combinations a list may have. The highest map is the board's to say.
-    pub const REQUESTS: u8 = 64;
+    // How many requests the table has, how many combinations a list may have, and the map of all eight channels. A board's highest
+    // map is the board's to say.
+    pub const REQUESTS: u8 = Queue::ROOM as u8;
 
-    pub const COMBOS: usize = 16;
+    pub const COMBOS: usize = Head::COMBOS;
+
+    pub const TOP: u8 = 255;
 
     pub fn fresh() -> Self
         ensures { λ r. ⌜ r ≡ structOf (freshOn 8) ⌝ }

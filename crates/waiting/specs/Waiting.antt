@@ -4,16 +4,27 @@
 --   nobody        no request: what stands at a place beyond the last
 --   waiter i s    the waiting request at place i
 --   outAt i s     the state without it
+--   lookAt i s    what the request at place i comes to
+--   droppedReplies i s              the reply -11 to it
+--   grantedAt i m s, grantedReplies i m s   the state in which it is granted the map m, and the replies: to the writes that end, then its own
+--   Makes f g ..  a step's promise: of the state held it makes the state f, and behind the first n replies it sends g
 --   stolen m s, withoutLocks m s   the replies -12 to the locks over a channel of m, and the state without those locks
 use Prim.Native.Nat.{ℕ, suc, _+_}
 use mathlib.Core.Bool.{false, not}
-use mathlib.Core.List.{List, [], _++_, map}
+use mathlib.Core.List.{List, [], _∷_, _++_, map}
 use lib.ListN.{length, getD, take, drop}
-use Rattle.machine.specs.Numbers.{CHANNELSTOLEN}
+use Rattle.machine.specs.Numbers.{ALLOCFAILED, CHANNELSTOLEN}
 use Rattle.machine.specs.Lists.{keep}
 use Rattle.machine.specs.State.{Request, Reply, State, withWaiting, withLocks}
 use Rattle.machine.specs.Maps.{meets}
+use Rattle.machine.specs.Choosing.{Look, look}
+use Rattle.machine.specs.Granting.{keyFor, abortedIn, granted}
 use Rattle.machine.specs.Commands.{ended}
+use Rattle.machine.specs.Settling.{replied}
+use Rattle.store.specs.declared.State.{State as Struct}
+use Rattle.store.specs.Store.{stateIn}
+use Rattle.store.specs.Work.{Did}
+use Rattle.waiting.specs.declared.Settled.{Settled}
 
 abbrev pub nobody : Request
 nobody = record { id = 0; key = 0; prec = 0; impatient = false; combos = [] }
@@ -29,3 +40,18 @@ stolen m s = map (ended CHANNELSTOLEN) (keep (λ l. meets (length (s .channels))
 
 abbrev pub withoutLocks : ℕ → State → State
 withoutLocks m s = withLocks (keep (λ l. not (meets (length (s .channels)) m (l .map))) (s .locks)) s
+
+abbrev pub lookAt : ℕ → State → Look
+lookAt i s = look (waiter i s .prec) (waiter i s .combos) (s .channels)
+
+abbrev pub droppedReplies : ℕ → State → List Reply
+droppedReplies i s = replied ALLOCFAILED 0 (waiter i s .key) (waiter i s) ∷ []
+
+abbrev pub grantedAt : ℕ → ℕ → State → State
+grantedAt i m s = granted m (waiter i s .key) (waiter i s .prec) (outAt i s)
+
+abbrev pub grantedReplies : ℕ → ℕ → State → List Reply
+grantedReplies i m s = abortedIn m (s .channels) ++ replied 0 m (keyFor (waiter i s .key) (outAt i s)) (waiter i s) ∷ []
+
+abbrev pub Makes : (State → State) → (State → List Reply) → Struct → List ℕ → List ℕ → ℕ → Settled → List ℕ → List ℕ → Type 0
+Makes f g st tb l n r tb′ l′ = Did (f (stateIn st tb)) (g (stateIn st tb)) l n (r .state) tb′ l′ (r .n)

@@ -4,17 +4,13 @@ use choosing::Look;
 use reply::Reply;
 use store::State;
 ghost use mathlib.Core.Path.{_≡_};
-ghost use mathlib.Core.List.{[], _∷_, _++_};
 ghost use Prim.Native.Nat.{_+_, _<_};
 ghost use lib.ListN.{length};
-ghost use Rattle.machine.specs.Numbers.{ALLOCFAILED};
-ghost use Rattle.machine.specs.Choosing.{look};
-ghost use Rattle.machine.specs.Granting.{abortedIn, keyFor, granted};
-ghost use Rattle.machine.specs.Settling.{replied};
+ghost use Rattle.machine.specs.Granting.{abortedIn};
 ghost use Rattle.choosing.specs.Choosing.{lookOf};
-ghost use Rattle.store.specs.Store.{structOf, tableOf, stateIn, Held};
-ghost use Rattle.store.specs.Work.{Ready, Did};
-ghost use Rattle.waiting.specs.Waiting.{waiter, outAt, stolen, withoutLocks};
+ghost use Rattle.store.specs.Store.{stateIn, Held};
+ghost use Rattle.store.specs.Work.{Stands, Ready};
+ghost use Rattle.waiting.specs.Waiting.{outAt, lookAt, droppedReplies, grantedAt, grantedReplies, stolen, withoutLocks, Makes};
 
 pub struct Settled {
     pub state: State,
@@ -24,7 +20,7 @@ pub struct Settled {
 // What the waiting request at place i comes to.
 pub fn look_at(s: State, table: &[u8], i: usize) -> Look
     requires { ⌜ Held s (now table) × (i < s .waiting .n) ⌝ }
-    ensures { λ r. ⌜ r ≡ lookOf (look (waiter i (stateIn s (now (table .entry))) .prec) (waiter i (stateIn s (now (table .entry))) .combos) (stateIn s (now (table .entry)) .channels)) ⌝ }
+    ensures { λ r. ⌜ r ≡ lookOf (lookAt i (stateIn s (now (table .entry)))) ⌝ }
 {
     let q = s.waiting;
     let id = q.at(i);
@@ -37,7 +33,7 @@ pub fn look_at(s: State, table: &[u8], i: usize) -> Look
 // The waiting request at place i is gone, and its id idle.
 fn take_out(s: State, table: &mut [u8], i: usize) -> State
     requires { ⌜ Held s (now table) × (i < s .waiting .n) ⌝ }
-    ensures { λ r. ⌜ (r ≡ structOf (outAt i (stateIn s (now (table .entry))))) × (now (table .exit) ≡ tableOf (outAt i (stateIn s (now (table .entry))))) ⌝ }
+    ensures { λ r. ⌜ Stands (outAt i (stateIn s (now (table .entry)))) r (now (table .exit)) ⌝ }
 {
     let q = s.waiting;
     let id = q.at(i);
@@ -51,7 +47,7 @@ fn take_out(s: State, table: &mut [u8], i: usize) -> State
 // It fails with NOWAIT: replied -11 and dropped.
 pub fn drop_one(s: State, table: &mut [u8], replies: &mut [u8], n: usize, i: usize) -> Settled
     requires { ⌜ Ready s (now table) (now replies) n 1 × (i < s .waiting .n) ⌝ }
-    ensures { λ r. ⌜ Did (outAt i (stateIn s (now (table .entry)))) (replied ALLOCFAILED 0 (waiter i (stateIn s (now (table .entry))) .key) (waiter i (stateIn s (now (table .entry)))) ∷ []) (now (replies .entry)) n (r .state) (now (table .exit)) (now (replies .exit)) (r .n) ⌝ }
+    ensures { λ r. ⌜ Makes (outAt i) (droppedReplies i) s (now (table .entry)) (now (replies .entry)) n r (now (table .exit)) (now (replies .exit)) ⌝ }
 {
     let q = s.waiting;
     let id = q.at(i);
@@ -81,7 +77,7 @@ pub fn grant_one(
     map: u8,
 ) -> Settled
     requires { ⌜ Ready s (now table) (now replies) n (length (abortedIn map (stateIn s (now table) .channels)) + 1) × (i < s .waiting .n) ⌝ }
-    ensures { λ r. ⌜ Did (granted map (waiter i (stateIn s (now (table .entry))) .key) (waiter i (stateIn s (now (table .entry))) .prec) (outAt i (stateIn s (now (table .entry))))) (abortedIn map (stateIn s (now (table .entry)) .channels) ++ replied 0 map (keyFor (waiter i (stateIn s (now (table .entry))) .key) (outAt i (stateIn s (now (table .entry))))) (waiter i (stateIn s (now (table .entry)))) ∷ []) (now (replies .entry)) n (r .state) (now (table .exit)) (now (replies .exit)) (r .n) ⌝ }
+    ensures { λ r. ⌜ Makes (grantedAt i map) (grantedReplies i map) s (now (table .entry)) (now (replies .entry)) n r (now (table .exit)) (now (replies .exit)) ⌝ }
 {
     let q = s.waiting;
     let id = q.at(i);
@@ -107,7 +103,7 @@ pub fn grant_one(
 // It is held: every lock over a channel of its map is replied -12 and ends; the channels stay locked.
 pub fn steal(s: State, table: &mut [u8], replies: &mut [u8], n: usize, map: u8) -> Settled
     requires { ⌜ Ready s (now table) (now replies) n (length (stolen map (stateIn s (now table)))) × (map < 256) ⌝ }
-    ensures { λ r. ⌜ Did (withoutLocks map (stateIn s (now (table .entry)))) (stolen map (stateIn s (now (table .entry)))) (now (replies .entry)) n (r .state) (now (table .exit)) (now (replies .exit)) (r .n) ⌝ }
+    ensures { λ r. ⌜ Makes (withoutLocks map) (stolen map) s (now (table .entry)) (now (replies .entry)) n r (now (table .exit)) (now (replies .exit)) ⌝ }
 {
     let q = s.locks;
     let f = locks::sift(q, table, replies, n, map, true);

@@ -5,23 +5,20 @@ use channel::Channel;
 use store::State;
 use table::Head;
 ghost use mathlib.Core.Path.{_≡_};
+ghost use mathlib.Core.List.{[]};
+ghost use Prim.Native.Nat.{_<_};
+ghost use lib.ListN.{length, getD};
 ghost use mathlib.Core.Bool.{not};
-ghost use mathlib.Core.List.{[], _++_};
-ghost use Prim.Native.Nat.{_+_, _*_, _<_};
 ghost use lib.Dec.{T};
-ghost use lib.ListN.{length, getD, replicate};
-ghost use Rattle.memory.specs.Splice.{splice};
-ghost use Rattle.table.specs.Entry.{headBytes};
 ghost use Rattle.machine.specs.Lists.{among};
-ghost use Rattle.machine.specs.State.{free};
 ghost use Rattle.machine.specs.Sound.{ids};
+ghost use Rattle.machine.specs.State.{free};
 ghost use Rattle.machine.specs.Commands.{doWrite};
 ghost use Rattle.channel.specs.Channel.{channelOf};
-ghost use Rattle.store.specs.Store.{structOf, stateIn, Held};
+ghost use Rattle.store.specs.Store.{stateIn, Held};
 ghost use Rattle.store.specs.Work.{Ready};
-ghost use Rattle.answers.specs.Answers.{callOf, Told};
-ghost use Rattle.play.specs.Play.{withBack};
-ghost use Rattle.writing.specs.Writing.{placeOf};
+ghost use Rattle.answers.specs.Answers.{callOf, Does};
+ghost use Rattle.writing.specs.Writing.{placeOf, Joins};
 
 // Whether WRITE is for a channel of the caller's: its place, or 8.
 fn place(r: Request, s: State) -> usize
@@ -39,7 +36,7 @@ fn place(r: Request, s: State) -> usize
 
 pub fn write(r: Request, s: State, table: &mut [u8], replies: &mut [u8]) -> Outcome
     requires { ⌜ Ready s (now table) (now replies) 0 1 × (r .command ≡ 3) × (r .id < 64) × T (not (among (r .id) (ids (stateIn s (now table))))) ⌝ }
-    ensures { λ d. ⌜ Told (doWrite (callOf r []) (stateIn s (now (table .entry)))) (now (replies .entry)) d (now (table .exit)) (now (replies .exit)) ⌝ }
+    ensures { λ d. ⌜ Does (doWrite (callOf r [])) s (now (table .entry)) (now (replies .entry)) d (now (table .exit)) (now (replies .exit)) ⌝ }
 {
     let i = place(r, s);
     if 8 <= i {
@@ -60,7 +57,7 @@ pub fn write(r: Request, s: State, table: &mut [u8], replies: &mut [u8]) -> Outc
 // The write joins the queue of channel i, and its entry is written.
 fn join(r: Request, s: State, table: &mut [u8], i: usize, c: Channel) -> State
     requires { ⌜ Held s (now table) × (i < 8) × (c ≡ getD (s .channels) i (channelOf free)) × (r .id < 64) × T (not (among (r .id) (ids (stateIn s (now table))))) ⌝ }
-    ensures { λ t. ⌜ (t ≡ structOf (withBack i (r .id) (stateIn s (now (table .entry))))) × (now (table .exit) ≡ splice (now (table .entry)) (r .id * 23) (headBytes (record { command = 3; key = r .key; map = 0; prec = 0; impatient = 0; n = 0 }) ++ replicate 16 0)) ⌝ }
+    ensures { λ t. ⌜ Joins i r s (now (table .entry)) t (now (table .exit)) ⌝ }
 {
     table::put(
         table,

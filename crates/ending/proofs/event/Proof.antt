@@ -54,8 +54,9 @@ end-front-requires c κs =
     let l = c .before .before .before .before .before .before .before .lowest in
     let n : l .result < 8 = c .before .before .before .before .before .before .if1 .left in
     let g : l .result < length (s .args .s .channels) = rw (h .eight) n in
-    let z : c .before .before .before .front .result < 255 = omega (arith, c .before .before .if2 .left) in
-    (s .pre, n, getD-any (s .args .s .channels) _ _ _ g, c .before .before .before .front .ensures, z)
+    let first = c .before .before .before .front in
+    let z : first .result < 255 = omega (arith, c .before .before .if2 .left) in
+    (s .pre, n, getD-any (s .args .s .channels) _ _ _ g, first .ensures, z)
 
 same-length : tie.Need-same-length
 same-length c = search needs
@@ -71,8 +72,9 @@ returns-3 c =
     let n : l .result < 8 = c .before .before .before .before .before .before .before .before .before .before .before .if1 .left in
     let g : l .result < length (s .args .s .channels) = rw (h .eight) n in
     let e = c .before .before .before .before .end-front .ensures in
-    let z : c .before .before .before .before .before .before .before .before .front .result < 255 = omega (arith, c .before .before .before .before .before .before .before .if2 .left) in
-    event-told h (s .args .r) _ (l .ensures) n _ (getD-any (s .args .s .channels) _ _ _ g) _ (c .before .before .before .before .before .before .before .before .front .ensures) z (e .0) (e .1)
+    let first = c .before .before .before .before .before .before .before .before .front in
+    let z : first .result < 255 = omega (arith, c .before .before .before .before .before .before .before .if2 .left) in
+    event-told h (s .args .r) _ (l .ensures) n _ (getD-any (s .args .s .channels) _ _ _ g) _ (first .ensures) z (e .0) (e .1)
 
 pub event-spec : {M : Type 1} → statement M
 event-spec =

@@ -50,8 +50,9 @@ join-requires : tie.Need-join-requires
 join-requires c κs =
     let s = c .before .before .before .before .before .before .before in
     let p = s .pre in
-    let n : c .before .before .before .before .place .result < 8 = c .before .before .before .if1 .left in
-    let g : c .before .before .before .before .place .result < length (s .args .s .channels) = rw (p .0 .held .eight) n in
+    let found = c .before .before .before .before .place in
+    let n : found .result < 8 = c .before .before .before .if1 .left in
+    let g : found .result < length (s .args .s .channels) = rw (p .0 .held .eight) n in
     (p .0 .held, n, getD-any (s .args .s .channels) _ _ _ g, p .2, p .3)
 
 pending-requires : tie.Need-pending-requires
@@ -65,8 +66,9 @@ returns-2 c =
     let s = c .before .before .before .before .before .before .before .before .before .before .before in
     let p = s .pre in
     let j = c .before .before .before .join .ensures in
-    let i : c .before .before .before .before .before .before .before .before .place .result < 8 = c .before .before .before .before .before .before .before .if1 .left in
-    write-told (p .0 .held) (s .args .r) _ (c .before .before .before .before .before .before .before .before .place .ensures) i (p .2) (p .3) (c .pending .ensures) (j .0) (j .1)
+    let found = c .before .before .before .before .before .before .before .before .place in
+    let i : found .result < 8 = c .before .before .before .before .before .before .before .if1 .left in
+    write-told (p .0 .held) (s .args .r) _ (found .ensures) i (p .2) (p .3) (c .pending .ensures) (j .0) (j .1)
 
 pub write-spec : {M : Type 1} → statement M
 write-spec =

@@ -2,8 +2,8 @@
 use borrow.Author.Needs.{needs}
 use Prim.Native.Nat.{_≤_, _-_}
 use lib.ListN.{length}
-use Rattle.any_bytes.proofs.show.records.Statement.{statement}
-use Rattle.any_bytes.proofs.show.records.Tie as tie
+use Rattle.show.proofs.records.Statement.{statement}
+use Rattle.show.proofs.records.Tie as tie
 
 abbrev Inv-loop : tie.InvT-loop
 Inv-loop list n i₀ t4 i = i ≤ length list

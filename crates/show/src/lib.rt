@@ -1,4 +1,5 @@
-// What a trial writes. Assumes nothing.
+// What a trial of `any_bytes` writes. No function hands anything back or changes memory; what is written, no contract can say.
+// Assumes nothing.
 use answers::Answer;
 ghost use Prim.Native.Nat.{_<_};
 

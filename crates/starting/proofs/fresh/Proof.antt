@@ -1,14 +1,16 @@
 -- `fresh` meets its contract: the tests say which half of the promise is asked. Assumes nothing.
 use mathlib.Core.Path.{_≡_, sym, _∙_}
-use mathlib.Core.Bool.{Bool, false}
+use mathlib.Core.Bool.{Bool, true, false}
 use lib.Dec.{T}
 use lib.ListN.{length}
 use borrow.Author.Tests.{not-true, not-false}
-use Rattle.sound.proofs.Laws.{yes-T}
-use Rattle.boundary.proofs.Laws.{not-begun, begun}
+use Rattle.starting.proofs.Laws.{not-begun, begun}
 use borrow.Author.Needs.{needs}
-use Rattle.boundary.proofs.fresh.Statement.{statement}
-use Rattle.boundary.proofs.fresh.Tie as tie
+use Rattle.starting.proofs.fresh.Statement.{statement}
+use Rattle.starting.proofs.fresh.Tie as tie
+
+yes-T : (b : Bool) → b ≡ true → T b
+yes-T b e = rw e tt
 
 no-T : {b : Bool} → b ≡ false → T b → ⊥
 no-T e t = rw e at t
