@@ -1,71 +1,62 @@
--- The room that the program's functions have: lumps get shorter, and a line keeps its 527 places. Assumes nothing.
-use Prim.Native.Nat.{ℕ, suc, _+_, _-_, _*_, _≤_, _<_}
-use mathlib.Core.Path.{_≡_, refl, ap, sym, _∙_}
-use mathlib.Core.Bool.{Bool}
-use mathlib.Core.List.{List, [], _∷_}
+-- What the program begins with is ready, and a call of `fill` or `finish` leaves it so. Assumes nothing.
+use Prim.Native.Nat.{ℕ, _+_, _-_, _≤_, _<_}
+use mathlib.Core.Path.{_≡_, refl, ap, sym, subst, _∙_}
+use mathlib.Core.Bool.{Bool, true, false}
+use mathlib.Core.List.{List}
+use native.Mathlib.Nat.{zero-add}
 use native.Mathlib.Omega.{arith}
-use lib.Dec.{eqb}
-use lib.ListN.{length, take, drop, replicate, length-take, length-drop}
-use Rattle.machine.specs.Lists.{if_then_else_}
-use Rattle.machine.proofs.Tests.{if-elim}
-use Rattle.memory.specs.Splice.{splice}
-use Rattle.memory.proofs.Splice.{length-splice}
+use lib.ListN.{length, take, drop, replicate, length-drop}
+use lib.Seq.{take-all}
+use Rattle.machine.specs.State.{fresh}
 use Rattle.store.specs.declared.State.{State}
 use Rattle.store.specs.Store.{structOf, tableOf, entries, lookup, items, writeItems, Held}
-use Rattle.machine.specs.State.{fresh}
-use Rattle.feeding.proofs.Whole.{fresh-held}
+use Rattle.taking.specs.declared.Taken.{Taken}
+use Rattle.taking.specs.Desk.{deskOf, needed, filled}
+use Rattle.paging.specs.Paging.{Fills, Finishes}
+use Rattle.whole_log.proofs.Progress.{Went, desk-good, fills-went, fills-on, finished-went, left-held, left-within, left-inside, left-size, left-used}
+use Rattle.whole_log.proofs.Whole.{fresh-held}
 use Rattle.arbiter_log.specs.declared.Desk.{Desk}
 use Rattle.arbiter_log.specs.Desk.{Ready}
-use Rattle.lines.specs.ChannelLines.{channelLines}
-use Rattle.lines.proofs.ChannelLines.{length-channelLines}
-use Rattle.frames.specs.declared.Gathered.{Gathered}
-use Rattle.frames.specs.Frames.{front, used, kept, Gathers}
-use Rattle.frames.proofs.Lumps.{used-within}
 
-used-some : (bs : List ℕ) → 0 < length bs → 1 ≤ used bs
-unfolding used
-used-some [] h = absurd (omega arith)
-used-some (b ∷ bs) h = if-elim (λ (n : ℕ). 1 ≤ n) (eqb b 10) (λ _. omega arith) (λ _. omega arith)
+-- the room that a page of the program has is enough, the channels shown or not
+enough : (show : Bool) {k : ℕ} → 1033 ≤ k → 0 + needed show ≤ k
+enough true h = omega arith
+enough false h = omega arith
 
-module _ {l : List ℕ} {n : ℕ} {bs : List ℕ} {g : Gathered} {l′ : List ℕ} (t : Gathers l n bs g l′) where
-  used-of : g .used ≡ used bs
-  used-of = ap (λ (x : Gathered). x .used) (t .answer)
+-- a call of `fill` on an empty page
+module _ {show : Bool} {d : Desk} {tb l page bs : List ℕ} {t : Taken} {l′ tb′ page′ : List ℕ} (r : Ready d tb page) (w : Fills show (d .state) tb l (d .line) bs page 0 t l′ tb′ page′) where
+  went : Went (deskOf (d .state) tb l (d .line) page 0) (length bs) (filled show (deskOf (d .state) tb l (d .line) page 0) bs)
+  went = fills-went w (r .held) (r .within) (omega arith)
 
-  pub gathered-within : g .used ≤ length bs
-  gathered-within = rw used-of (used-within bs)
+  pub fill-ready : (ok : Bool) → Ready (record { state = t .state; line = t .line; ok = ok }) tb′ page′
+  fill-ready ok =
+      let e = left-size went (w .leaves) in
+      let m = r .room in
+      record { held = left-held went (w .leaves); within = left-within went (w .leaves); room = omega arith }
 
-  pub gathered-some : 0 < length bs → 1 ≤ g .used
-  gathered-some h = rw used-of (used-some bs h)
+  pub fill-inside : t .at ≤ length page′
+  fill-inside = left-inside went (w .leaves)
 
-  module _ (h : n ≤ 527) where
-    few : n + length (kept n bs) ≤ 527
-    few = let k = length-take (527 - n) (front bs) in omega arith
+  fill-most : t .used ≤ length bs
+  fill-most = let a = left-used went (w .leaves) in omega arith
 
-    pub gathered-few : g .n ≤ 527
-    gathered-few = rw (ap (λ (x : Gathered). x .n) (t .answer)) few
+  fill-some : 0 < length bs → 0 < t .used
+  fill-some h = fills-on w (r .held) (r .within) (enough show (r .room)) h
 
-    pub gathered-size : length l ≡ 527 → length l′ ≡ 527
-    gathered-size e = let f = few in ap length (t .filled) ∙ length-splice l n (kept n bs) (omega arith) ∙ e
-
--- four channels are told in 60 bytes
-pub board-length : {st : State} {tb b : List ℕ} → Held st tb → b ≡ channelLines 0 (st .channels) → 60 ≡ length b
-board-length {st} h e = let n = length-channelLines 0 (st .channels) in let f = h .four in sym (ap length e ∙ n ∙ ap (λ (k : ℕ). 15 * k) f)
-
--- the desk after a lump is gathered
-pub gathered-ready : {d : Desk} {l tb page bs : List ℕ} {g : Gathered} {l′ : List ℕ} → Ready d l tb page → Gathers l (d .line) bs g l′
-    → Ready (record { state = d .state; line = g .n; page = d .page }) l′ tb page
-gathered-ready r t =
-    record { held = r .held; size = gathered-size t (r .within) (r .size); within = gathered-few t (r .within); stands = r .stands; room = r .room }
-
--- a turn uses some of the lump, and no more than there is
-pub gathered-on : {l : List ℕ} {n : ℕ} {g : Gathered} {l′ : List ℕ} (input : List ℕ) (from : ℕ) → Gathers l n (take (length input - from) (drop from input)) g l′ → from < length input
-    → (from + g .used ≤ length input) × (length input - (from + g .used) < length input - from)
-gathered-on input from t h =
+-- on the rest of a lump: some of it is used, and no more than there is
+pub fill-on : {show : Bool} {d : Desk} {tb l page : List ℕ} {t : Taken} {l′ tb′ page′ : List ℕ} (input : List ℕ) (from : ℕ) → Ready d tb page → from < length input
+    → Fills show (d .state) tb l (d .line) (take (length input - from) (drop from input)) page 0 t l′ tb′ page′ → (from + t .used ≤ length input) × (from < from + t .used)
+fill-on input from r h w =
     let e = length-drop from input in
-    let k = length-take (length input - from) (drop from input) in
-    let a = gathered-within t in
-    let b = gathered-some t (omega arith) in
+    let c = ap length (take-all (length input - from) (drop from input) (omega arith)) in
+    let a = fill-most r w in
+    let b = fill-some r w (omega arith) in
     (omega arith, omega arith)
+
+pub finish-inside : {show : Bool} {d : Desk} {tb l page : List ℕ} {t : Taken} {tb′ page′ : List ℕ} → Ready d tb page → Finishes show (d .state) tb l (d .line) page 0 t tb′ page′
+    → t .at ≤ length page′
+finish-inside {show} {d} {tb} {l} {page} r w =
+    left-inside (finished-went show (deskOf (d .state) tb l (d .line) page 0) (desk-good l (r .held) (r .within) (omega arith))) (w .leaves)
 
 -- where the program begins: the fresh device, and a table of zeros
 
@@ -74,12 +65,5 @@ unfolding tableOf entries lookup items writeItems
 fresh-table = refl
 
 pub fresh-ready : {s : State} {ok : Bool} {page : List ℕ} → s ≡ structOf fresh → 65536 ≡ length page
-    → Ready (record { state = s; line = 0; page = record { at = 0; ok = ok } }) (replicate 527 0) (replicate 1472 0) page
-fresh-ready {s} {page = page} e n =
-    record {
-      held = rw (e, ← fresh-table) fresh-held;
-      size = refl;
-      within = omega arith;
-      stands = omega arith;
-      room = omega arith;
-    }
+    → Ready (record { state = s; line = 0; ok = ok }) (replicate 1472 0) page
+fresh-ready {s} {page = page} e n = record { held = rw (e, ← fresh-table) fresh-held; within = omega arith; room = omega arith }

@@ -1,0 +1,26 @@
+-- `take_end` meets its contract: what stands is fed, and nothing where nothing stands. Assumes nothing.
+use Rattle.taking.proofs.Laws.{none-ends, some-ends}
+use borrow.Author.Needs.{needs}
+use Rattle.taking.proofs.take_end.Statement.{statement}
+use Rattle.taking.proofs.take_end.Tie as tie
+use Rattle.taking.proofs.take_end.Reads as reads
+use Rattle.taking.proofs.take_end.Lts as lts
+use Rattle.taking.proofs.answer.Reads as answer-reads
+
+returns : tie.Need-returns
+returns c = none-ends (c .before .before .pre .0) (c .if1 .taken)
+
+answer-requires : tie.Need-answer-requires
+answer-requires c κs = search needs
+
+same-length : tie.Need-same-length
+same-length c = search needs
+
+returns-2 : tie.Need-returns-2
+returns-2 c =
+    let f = c .before .before .before in
+    let t = f .before .before .before .before in
+    some-ends (t .if1 .left) (f .answer .ensures)
+
+pub take-end-spec : {M : Type 1} → statement M
+take-end-spec = tie.close (tie.spec returns answer-requires same-length returns-2)

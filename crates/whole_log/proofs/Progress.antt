@@ -1,0 +1,183 @@
+-- What a call counts stays within what was lent; with room for a line and bytes to take, some are used; and a call stops only
+-- where the lump is used up or the page is full. Assumes nothing.
+use Prim.Native.Nat.{ℕ, zero, suc, _+_, _-_, _*_, _≤_, _<_}
+use mathlib.Core.Path.{_≡_, refl, ap, sym, _∙_}
+use mathlib.Core.Bool.{Bool, true, false}
+use mathlib.Core.List.{List, [], _∷_, _++_, map}
+use mathlib.Core.Logic.{_⊎_, inl, inr}
+use native.Mathlib.Omega.{arith}
+use native.Mathlib.Nat.{zero-add, add-zero}
+use borrow.Author.Tests.{leb-true, le-leb, leb-false}
+use lib.Dec.{T, leb, eqb}
+use lib.ListN.{length, take, drop, length-append, length-drop, length-map}
+use Rattle.machine.specs.Lists.{if_then_else_}
+use Rattle.machine.specs.State.{State as StateM}
+use Rattle.machine.specs.Log.{feed}
+use Rattle.machine.proofs.Tests.{if-elim, by-test, test-true, test-false}
+use Rattle.memory.specs.Splice.{splice}
+use Rattle.memory.proofs.Splice.{length-splice}
+use Rattle.channel.specs.Channel.{channelOf}
+use Rattle.store.specs.declared.State.{State}
+use Rattle.store.specs.Store.{structOf, stateIn, Held}
+use Rattle.lines.specs.ChannelLines.{channelLines}
+use Rattle.lines.proofs.ChannelLines.{length-channelLines}
+use Rattle.frames.specs.Frames.{LINE, ended, used}
+use Rattle.frames.proofs.Lumps.{used-within}
+use Rattle.feeding.proofs.Laws.{feed-few}
+use Rattle.taking.specs.declared.Taken.{Taken}
+use Rattle.taking.specs.Desk.{shownOf, fed, Desk, deskOf, gathered, answered, taken, needed, fits, takes, filled, closed, finished, Leaves}
+use Rattle.taking.proofs.Kept.{Fine, held-fine, feed-fine, answered-fine, leaves-held}
+use Rattle.taking.proofs.Laws.{kept-few, taken-used, used-some}
+use Rattle.paging.specs.Paging.{Fills, Finishes}
+use Rattle.paging.proofs.Laws.{takes-more}
+
+-- ---- a line's output has the room that is asked for it
+
+fed-few : (show : Bool) (s : StateM) (l : List ℕ) → Fine s → length (fed show s l .output) ≤ needed show
+unfolding fed shownOf
+fed-few true s l h =
+    let a = feed-few s l (h .sane) in
+    let c = length-channelLines 0 (map channelOf (feed s l .next .channels)) in
+    let e = length-map (feed s l .next .channels) channelOf in
+    let f = feed-fine s l h .four in
+    rw length-append (omega arith)
+fed-few false s l h = let a = feed-few s l (h .sane) in rw length-append (omega arith)
+
+-- ---- desks within what was lent
+
+pub record Good (d : Desk) : Type 0 where
+  pub fine : Fine (d .state)
+  pub within : d .n ≤ LINE
+  pub inside : d .at ≤ length (d .page)
+
+-- what a call made of the desk d is x, with m bytes to take
+pub record Went (d : Desk) (m : ℕ) (x : Desk) : Type 0 where
+  pub good : Good x
+  pub size : length (x .page) ≡ length (d .page)
+  pub least : d .used ≤ x .used
+  pub most : x .used ≤ d .used + m
+
+went-nowhere : (d : Desk) (m : ℕ) → Good d → Went d m d
+went-nowhere d m g = record { good = g; size = refl; least = omega arith; most = omega arith }
+
+module _ (show : Bool) (d : Desk) (g : Good d) (f : fits show d ≡ true) where
+  room : length (fed show (d .state) (take (d .n) (d .line)) .output) + d .at ≤ length (d .page)
+  room = let a = leb-true (d .at + needed show) (length (d .page)) f in let b = fed-few show (d .state) (take (d .n) (d .line)) (g .fine) in omega arith
+
+  answered-went : Went d 0 (answered show d)
+  answered-went =
+      let o = fed show (d .state) (take (d .n) (d .line)) .output in
+      let r = room in
+      let e = length-splice (d .page) (d .at) o (omega arith) in
+      record {
+        good = record { fine = answered-fine show d (g .fine); within = omega arith; inside = omega arith };
+        size = e;
+        least = omega arith;
+        most = omega arith;
+      }
+
+gathered-good : (d : Desk) (bs : List ℕ) → Good d → Good (gathered d bs)
+gathered-good d bs g = record { fine = g .fine; within = kept-few (d .n) bs (g .within); inside = g .inside }
+
+pub taken-went : (show : Bool) (d : Desk) (bs : List ℕ) → Good d → fits show d ≡ true → Went d (length bs) (taken show d bs)
+unfolding taken
+taken-went show d bs g f =
+    let u = used-within bs in
+    if-elim (Went d (length bs)) (ended bs)
+    (λ _. let a = answered-went show (gathered d bs) (gathered-good d bs g) f in record { good = a .good; size = a .size; least = omega arith; most = omega arith })
+    (λ _. record { good = gathered-good d bs g; size = refl; least = omega arith; most = omega arith })
+
+takes-went : (show : Bool) (k : ℕ) (d : Desk) (bs : List ℕ) → Good d → Went d (length bs) (takes show k d bs)
+unfolding takes
+takes-went show zero d bs g = went-nowhere d (length bs) g
+takes-went show (suc k) d [] g = went-nowhere d 0 g
+takes-went show (suc k) d (b ∷ bs) g =
+    let cs = b ∷ bs in
+    if-elim (Went d (length cs)) (fits show d)
+    (λ y. let f = test-true (fits show d) y in
+    let a = taken-went show d cs g f in
+    let c = takes-went show k (taken show d cs) (drop (used cs) cs) (a .good) in
+    let m = length-drop (used cs) cs in
+    let u = used-within cs in
+    let v = taken-used show d cs in
+    let p = c .least in
+    let q = c .most in
+    record { good = c .good; size = c .size ∙ a .size; least = omega arith; most = omega arith })
+    (λ _. went-nowhere d (length cs) g)
+
+pub filled-went : (show : Bool) (d : Desk) (bs : List ℕ) → Good d → Went d (length bs) (filled show d bs)
+unfolding filled
+filled-went show d bs g = takes-went show (length bs) d bs g
+
+-- some bytes are used where there are any, and room for a line
+pub filled-on : (show : Bool) (d : Desk) (bs : List ℕ) → Good d → fits show d ≡ true → 0 < length bs → d .used < filled show d bs .used
+unfolding filled
+filled-on show d [] g f h = absurd (omega arith)
+filled-on show d (b ∷ bs) g f h =
+    let cs = b ∷ bs in
+    let a = taken-went show d cs g f in
+    let c = takes-went show (length bs) (taken show d cs) (drop (used cs) cs) (a .good) .least in
+    let v = taken-used show d cs in
+    let u = used-some cs (omega arith) in
+    rw (takes-more show (length bs) d cs h f) (omega arith)
+
+-- a call stops where all is used, or where the page has no room for another line
+takes-stops : (show : Bool) (k : ℕ) (d : Desk) (bs : List ℕ) → length bs ≤ k → (takes show k d bs .used ≡ d .used + length bs) ⊎ (fits show (takes show k d bs) ≡ false)
+unfolding takes
+takes-stops show zero d [] h = inl (sym (add-zero (d .used)))
+takes-stops show zero d (b ∷ bs) h = absurd (omega arith)
+takes-stops show (suc k) d [] h = inl (sym (add-zero (d .used)))
+takes-stops show (suc k) d (b ∷ bs) h =
+    let cs = b ∷ bs in
+    if-elim (λ (x : Desk). (x .used ≡ d .used + length cs) ⊎ (fits show x ≡ false)) (fits show d)
+    (λ _. let m = length-drop (used cs) cs in
+    let u = used-some cs (omega arith) in
+    let w = used-within cs in
+    let v = taken-used show d cs in
+    elim (takes-stops show k (taken show d cs) (drop (used cs) cs) (omega arith)) [
+      | inl e ↦ inl (omega arith)
+      | inr e ↦ inr e
+    ])
+    (λ y. inr (test-false (fits show d) y))
+
+pub filled-stops : (show : Bool) (d : Desk) (bs : List ℕ) → (filled show d bs .used ≡ d .used + length bs) ⊎ (fits show (filled show d bs) ≡ false)
+unfolding filled
+filled-stops show d bs = takes-stops show (length bs) d bs (omega arith)
+
+closed-went : (show : Bool) (d : Desk) → Good d → fits show d ≡ true → Went d 0 (closed show d)
+unfolding closed
+closed-went show d g f = if-elim (Went d 0) (eqb (d .n) 0) (λ _. went-nowhere d 0 g) (λ _. answered-went show d g f)
+
+pub finished-went : (show : Bool) (d : Desk) → Good d → Went d 0 (finished show d)
+unfolding finished
+finished-went show d g = if-elim (Went d 0) (fits show d) (λ y. closed-went show d g (test-true (fits show d) y)) (λ _. went-nowhere d 0 g)
+
+-- ---- so of what a call leaves
+
+module _ {t : Taken} {l tb page : List ℕ} {d x : Desk} {m : ℕ} (v : Went d m x) (w : Leaves t l tb page x) where
+  pub left-held : Held (t .state) tb
+  left-held = leaves-held (v .good .fine) w
+
+  pub left-within : t .line ≤ LINE
+  left-within = rw (w .started) (v .good .within)
+
+  pub left-inside : t .at ≤ length page
+  left-inside = rw (w .at, w .page) (v .good .inside)
+
+  pub left-size : length page ≡ length (d .page)
+  left-size = rw (w .page) (v .size)
+
+  pub left-used : t .used ≤ d .used + m
+  left-used = rw (w .used) (v .most)
+
+pub desk-good : {s : State} {tb : List ℕ} {n : ℕ} {page : List ℕ} {at : ℕ} (l : List ℕ) → Held s tb → n ≤ LINE → at ≤ length page → Good (deskOf s tb l n page at)
+desk-good l h k r = record { fine = held-fine h; within = k; inside = r }
+
+pub fills-went : {show : Bool} {s : State} {tb l : List ℕ} {n : ℕ} {bs page : List ℕ} {at : ℕ} {t : Taken} {l′ tb′ page′ : List ℕ} → Fills show s tb l n bs page at t l′ tb′ page′
+    → Held s tb → n ≤ LINE → at ≤ length page → Went (deskOf s tb l n page at) (length bs) (filled show (deskOf s tb l n page at) bs)
+fills-went {show} {s} {tb} {l} {n} {bs} {page} {at} w h k r = filled-went show (deskOf s tb l n page at) bs (desk-good l h k r)
+
+pub fills-on : {show : Bool} {s : State} {tb l : List ℕ} {n : ℕ} {bs page : List ℕ} {at : ℕ} {t : Taken} {l′ tb′ page′ : List ℕ} → Fills show s tb l n bs page at t l′ tb′ page′
+    → Held s tb → n ≤ LINE → at + needed show ≤ length page → 0 < length bs → 0 < t .used
+fills-on {show} {s} {tb} {l} {n} {bs} {page} {at} w h k r z =
+    rw (w .leaves .used) (filled-on show (deskOf s tb l n page at) bs (desk-good l h k (omega arith)) (le-leb (at + needed show) (length page) r) z)

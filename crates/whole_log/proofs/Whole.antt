@@ -1,0 +1,240 @@
+-- Whatever the lumps, whatever the room on the page and whenever it is written: what the calls hand back, put together, is the
+-- output that the machine's definition of the log gives. Each call keeps it true that what stands on the page, then the output
+-- of what is still to come, is the whole. Assumes nothing.
+use Prim.Native.Nat.{ℕ, zero, suc, _+_, _≤_}
+use mathlib.Core.Path.{_≡_, refl, ap, ap₂, sym, subst, _∙_}
+use mathlib.Core.Bool.{Bool, true, false}
+use mathlib.Core.List.{List, [], _∷_, _++_, append-assoc, append-nil}
+use native.Mathlib.Omega.{arith}
+use borrow.Author.Tests.{eqb-true, eqb-false}
+use lib.Dec.{eqb}
+use lib.ListN.{length, take, drop, drop-of-length-le, length-append}
+use lib.Seq.{take-at, drop-drop, length-take-le}
+use Rattle.machine.specs.Lists.{if_then_else_}
+use Rattle.machine.specs.State.{State as StateM, fresh}
+use Rattle.machine.specs.Log.{Fed as FedM, lines, feed, run, log}
+use Rattle.machine.proofs.Tests.{if-elim, by-test, test-true, test-false}
+use Rattle.machine.proofs.Sound.{parts, fresh-sound}
+use Rattle.memory.specs.Splice.{splice}
+use Rattle.store.specs.declared.State.{State}
+use Rattle.store.specs.Store.{structOf, tableOf, stateIn, Held}
+use Rattle.store.proofs.Store.{held-of, stateIn-of}
+use Rattle.frames.specs.Frames.{LINE, front, ended, used, kept, gatheredOf, Gathers}
+use Rattle.frames.proofs.Lumps.{Stands, stands-none, stands-more, stands-feed, stands-within, front-open, used-open, lines-none, lines-last, lines-step, lines-on}
+use Rattle.taking.specs.declared.Taken.{Taken}
+use Rattle.taking.specs.Desk.{shownOf, fed, runShown, logShown, Desk, deskOf, gathered, answered, taken, fits, takes, filled, closed, finished, Leaves}
+use Rattle.taking.proofs.Kept.{leaves-state}
+use Rattle.taking.proofs.Laws.{fed-hidden, taken-open, taken-ended, taken-used, closed-none, closed-some}
+use Rattle.paging.specs.Paging.{Fills, Finishes}
+use Rattle.whole_log.specs.Whole.{joined, Ran, fills, used-up, finishes, writes, over}
+use Rattle.whole_log.proofs.Progress.{Good, Went, desk-good, taken-went, filled-went, finished-went, left-held, left-inside}
+
+-- ---- runShown
+
+run-cons : (show : Bool) (s : StateM) (l : List ℕ) (ls : List (List ℕ)) → runShown show s (l ∷ ls) ≡ fed show s l .output ++ runShown show (fed show s l .next) ls
+unfolding runShown
+run-cons show s l ls = refl
+
+run-none : (show : Bool) (s : StateM) → runShown show s [] ≡ []
+unfolding runShown
+run-none show s = refl
+
+none-ended : ended [] ≡ false
+unfolding ended
+none-ended = refl
+
+empty : {l p : List ℕ} → Stands l 0 p → p ≡ []
+empty {p = []} t = refl
+empty {p = b ∷ p} t = absurd (let c = t .count in omega arith)
+
+not-empty : {l p : List ℕ} {n : ℕ} → Stands l n p → (n ≡ 0 → ⊥) → p ≡ [] → ⊥
+not-empty t h e = h (t .count ∙ ap (λ (x : List ℕ). length (take LINE x)) e)
+
+-- ---- what is to come
+
+-- what stands on the page, then the output of the line that has begun with p and of what is left
+abbrev pub comes : Bool → Desk → List ℕ → List ℕ → List ℕ
+comes show d p rest = take (d .at) (d .page) ++ runShown show (d .state) (lines (p ++ rest))
+
+-- a line that is cut is fed as it is whole
+fed-stands : (show : Bool) (s : StateM) {l : List ℕ} {n : ℕ} {p : List ℕ} → Stands l n p → fed show s (take n l) ≡ fed show s p
+unfolding fed
+fed-stands show s t = rw (stands-feed t s)
+
+-- an answer on the page
+answered-comes : (show : Bool) (d : Desk) (p : List ℕ) (ls : List (List ℕ)) → Good d → Stands (d .line) (d .n) p
+    → take (answered show d .at) (answered show d .page) ++ runShown show (answered show d .state) ls ≡ take (d .at) (d .page) ++ runShown show (d .state) (p ∷ ls)
+unfolding splice
+answered-comes show d p ls g t =
+    let f = fed-stands show (d .state) t in
+    let o = fed show (d .state) (take (d .n) (d .line)) .output in
+    let h = take (d .at) (d .page) in
+    let e = length-take-le (d .at) (d .page) (g .inside) in
+    let m : length (h ++ o) ≡ d .at + length o = length-append h o ∙ ap (λ (x : ℕ). x + length o) e in
+    let a : take (answered show d .at) (answered show d .page) ≡ h ++ o =
+    ap (take (d .at + length o)) (sym (append-assoc h o _)) ∙ take-at (h ++ o) _ (d .at + length o) m in
+    ap (λ (x : List ℕ). x ++ runShown show (answered show d .state) ls) a ∙ append-assoc h o _
+    ∙ ap (λ (x : List ℕ). h ++ x) (ap (λ (x : FedM). x .output ++ runShown show (x .next) ls) f ∙ sym (run-cons show (d .state) p ls))
+
+-- ---- a lump
+
+-- from the desk d, with p standing, the call went to x: what is to come is the same
+record Goes (show : Bool) (whole : List ℕ) (d : Desk) (p : List ℕ) (x : Desk) : Type 0 where
+  pub begun : List ℕ
+  pub stands : Stands (x .line) (x .n) begun
+  pub unended : ended begun ≡ false
+  pub same : (rest : List ℕ) → comes show x begun (drop (x .used) whole ++ rest) ≡ comes show d p (drop (d .used) whole ++ rest)
+
+goes-nowhere : (show : Bool) (whole : List ℕ) (d : Desk) (p : List ℕ) → Stands (d .line) (d .n) p → ended p ≡ false → Goes show whole d p d
+goes-nowhere show whole d p t o = record { begun = p; stands = t; unended = o; same = λ rest. refl }
+
+goes-on : {show : Bool} {whole : List ℕ} {d x y : Desk} {p : List ℕ} (g : Goes show whole d p x) → Goes show whole x (g .begun) y → Goes show whole d p y
+goes-on g h = record { begun = h .begun; stands = h .stands; unended = h .unended; same = λ rest. h .same rest ∙ g .same rest }
+
+module _ (show : Bool) (whole : List ℕ) (d : Desk) (p bs : List ℕ) (g : Good d) (t : Stands (d .line) (d .n) p) (o : ended p ≡ false) (e : drop (d .used) whole ≡ bs) where
+  more : Stands (gathered d bs .line) (gathered d bs .n) (p ++ front bs)
+  more = let w : Gathers (d .line) (d .n) bs (gatheredOf (d .n) bs) (gathered d bs .line) = record { answer = refl; filled = refl } in stands-more t w
+
+  left-over : drop (d .used + used bs) whole ≡ drop (used bs) bs
+  left-over = sym (drop-drop (used bs) (d .used) whole) ∙ ap (drop (used bs)) e
+
+  open-goes : ended bs ≡ false → Goes show whole d p (gathered d bs)
+  open-goes b =
+      let u = used-open bs b in
+      let k : length bs ≤ used bs = omega arith in
+      let z : drop (used bs) bs ≡ [] = drop-of-length-le bs k in
+      record {
+        begun = p ++ bs;
+        stands = subst (λ (x : List ℕ). Stands (gathered d bs .line) (gathered d bs .n) (p ++ x)) (front-open bs b) more;
+        unended = lines-on p bs [] o b .0;
+        same = λ rest. ap (λ (x : List ℕ). take (d .at) (d .page) ++ runShown show (d .state) (lines ((p ++ bs) ++ (x ++ rest)))) (left-over ∙ z)
+            ∙ ap (λ (x : List (List ℕ)). take (d .at) (d .page) ++ runShown show (d .state) x) (sym (lines-on p bs rest o b .1))
+            ∙ ap (λ (x : List ℕ). comes show d p (x ++ rest)) (sym e);
+      }
+
+  ended-goes : ended bs ≡ true → Goes show whole d p (answered show (gathered d bs))
+  ended-goes b =
+      record {
+        begun = [];
+        stands = stands-none _;
+        unended = none-ended;
+        same = λ rest. ap (λ (x : List ℕ). comes show (answered show (gathered d bs)) [] (x ++ rest)) left-over
+            ∙ answered-comes show (gathered d bs) (p ++ front bs) (lines (drop (used bs) bs ++ rest)) (record { fine = g .fine; within = stands-within more; inside = g .inside }) more
+            ∙ ap (λ (x : List (List ℕ)). take (d .at) (d .page) ++ runShown show (d .state) x) (sym (lines-step p bs rest o b))
+            ∙ ap (λ (x : List ℕ). comes show d p (x ++ rest)) (sym e);
+      }
+
+  taken-goes : Goes show whole d p (taken show d bs)
+  taken-goes =
+      by-test (ended bs)
+      (λ y. let b = test-true (ended bs) y in rw (taken-ended show d bs b) (ended-goes b))
+      (λ y. let b = test-false (ended bs) y in rw (taken-open show d bs b) (open-goes b))
+
+takes-goes : (show : Bool) (whole : List ℕ) (k : ℕ) (d : Desk) (p bs : List ℕ) → Good d → Stands (d .line) (d .n) p → ended p ≡ false → drop (d .used) whole ≡ bs
+    → Goes show whole d p (takes show k d bs)
+unfolding takes
+takes-goes show whole zero d p bs g t o e = goes-nowhere show whole d p t o
+takes-goes show whole (suc k) d p [] g t o e = goes-nowhere show whole d p t o
+takes-goes show whole (suc k) d p (b ∷ bs) g t o e =
+    let cs = b ∷ bs in
+    if-elim (Goes show whole d p) (fits show d)
+    (λ y. let f = test-true (fits show d) y in
+    let a = taken-goes show whole d p cs g t o e in
+    let u : drop (taken show d cs .used) whole ≡ drop (used cs) cs = ap (λ (x : ℕ). drop x whole) (taken-used show d cs) ∙ left-over show whole d p cs g t o e in
+    goes-on a (takes-goes show whole k (taken show d cs) (a .begun) (drop (used cs) cs) (taken-went show d cs g f .good) (a .stands) (a .unended) u))
+    (λ _. goes-nowhere show whole d p t o)
+
+filled-goes : (show : Bool) (d : Desk) (p bs : List ℕ) → d .used ≡ 0 → Good d → Stands (d .line) (d .n) p → ended p ≡ false → Goes show bs d p (filled show d bs)
+unfolding filled
+filled-goes show d p bs z g t o = takes-goes show bs (length bs) d p bs g t o (ap (λ (x : ℕ). drop x bs) z)
+
+-- ---- the end
+
+-- from the desk d, with p standing, and nothing to come, the call went to x
+record Closes (show : Bool) (d : Desk) (p : List ℕ) (x : Desk) : Type 0 where
+  pub begun : List ℕ
+  pub stands : Stands (x .line) (x .n) begun
+  pub unended : ended begun ≡ false
+  pub same : comes show x begun [] ≡ comes show d p []
+
+module _ (show : Bool) (d : Desk) (p : List ℕ) (g : Good d) (t : Stands (d .line) (d .n) p) (o : ended p ≡ false) where
+  closes-nowhere : Closes show d p d
+  closes-nowhere = record { begun = p; stands = t; unended = o; same = refl }
+
+  closed-closes : Closes show d p (closed show d)
+  closed-closes =
+      by-test (eqb (d .n) 0)
+      (λ y. rw (closed-none show d (eqb-true (d .n) 0 (test-true (eqb (d .n) 0) y))) closes-nowhere)
+      (λ y. let h = eqb-false (d .n) 0 (test-false (eqb (d .n) 0) y) in
+      rw (closed-some show d h)
+      (record {
+        begun = [];
+        stands = stands-none _;
+        unended = none-ended;
+        same = ap (λ (x : List (List ℕ)). take (answered show d .at) (answered show d .page) ++ runShown show (answered show d .state) x) lines-none
+            ∙ answered-comes show d p [] g t
+            ∙ ap (λ (x : List (List ℕ)). take (d .at) (d .page) ++ runShown show (d .state) x) (sym (ap lines (append-nil p) ∙ lines-last p o (not-empty t h)));
+      }))
+
+  finished-closes : Closes show d p (finished show d)
+  unfolding finished
+  finished-closes = if-elim (Closes show d p) (fits show d) (λ _. closed-closes) (λ _. closes-nowhere)
+
+-- ---- a run
+
+-- what a call leaves is to come as the desk says
+left-comes : (show : Bool) {t : Taken} {l tb page : List ℕ} {d x : Desk} {m : ℕ} → Went d m x → Leaves t l tb page x → (p rest : List ℕ)
+    → take (t .at) page ++ runShown show (stateIn (t .state) tb) (lines (p ++ rest)) ≡ comes show x p rest
+left-comes show v w p rest = rw (w .at, w .page, leaves-state (v .good .fine) w)
+
+left-stands : {t : Taken} {l tb page : List ℕ} {x : Desk} {p : List ℕ} → Leaves t l tb page x → Stands (x .line) (x .n) p → Stands l (t .line) p
+left-stands w s = rw (w .line, w .started) s
+
+pub ran-run : {show : Bool} {s : State} {tb l : List ℕ} {n : ℕ} {page : List ℕ} {at : ℕ} {bss : List (List ℕ)} {out : List ℕ} (p : List ℕ) → Held s tb → at ≤ length page
+    → Stands l n p → ended p ≡ false → Ran show s tb l n page at bss out → out ≡ take at page ++ runShown show (stateIn s tb) (lines (p ++ joined bss))
+ran-run p h r t o (fills {show} {s} {tb} {l} {n} {page} {at} {bs} {bss} {t = u} w k) =
+    let d = deskOf s tb l n page at in
+    let g = desk-good l h (stands-within t) r in
+    let v = filled-went show d bs g in
+    let c = filled-goes show d p bs refl g t o in
+    ran-run (c .begun) (left-held v (w .leaves)) (left-inside v (w .leaves)) (left-stands (w .leaves) (c .stands)) (c .unended) k
+    ∙ left-comes show v (w .leaves) (c .begun) (drop (u .used) bs ++ joined bss)
+    ∙ ap (λ (x : ℕ). comes show (filled show d bs) (c .begun) (drop x bs ++ joined bss)) (w .leaves .used)
+    ∙ c .same (joined bss)
+ran-run p h r t o (used-up k) = ran-run p h r t o k
+ran-run p h r t o (finishes {show} {s} {tb} {l} {n} {page} {at} w k) =
+    let d = deskOf s tb l n page at in
+    let g = desk-good l h (stands-within t) r in
+    let v = finished-went show d g in
+    let c = finished-closes show d p g t o in
+    ran-run (c .begun) (left-held v (w .leaves)) (left-inside v (w .leaves)) (left-stands (w .leaves) (c .stands)) (c .unended) k
+    ∙ left-comes show v (w .leaves) (c .begun) []
+    ∙ c .same
+ran-run p h r t o (writes {page = page} {at = at} k) = ap (λ (x : List ℕ). take at page ++ x) (ran-run p h (omega arith) t o k)
+ran-run p h r t o (over {show} {s} {tb} {l} e) =
+    let q = empty (rw e at t) in
+    sym (ap (λ (x : List ℕ). runShown show (stateIn s tb) (lines (x ++ []))) q ∙ ap (runShown show (stateIn s tb)) lines-none ∙ run-none show (stateIn s tb))
+
+-- ---- from the fresh device
+
+pub fresh-held : Held (structOf fresh) (tableOf fresh)
+fresh-held = held-of fresh (parts fresh fresh-sound) refl
+
+pub whole-log-shown : {show : Bool} {l page : List ℕ} {bss : List (List ℕ)} {out : List ℕ} → Ran show (structOf fresh) (tableOf fresh) l 0 page 0 bss out
+    → out ≡ logShown show (joined bss)
+unfolding logShown
+whole-log-shown {show} {l} {page} {bss} r =
+    ran-run [] fresh-held (omega arith) (stands-none l) none-ended r ∙ ap (λ x. runShown show x (lines (joined bss))) (stateIn-of fresh (parts fresh fresh-sound))
+
+run-hidden : (s : StateM) (ls : List (List ℕ)) → runShown false s ls ≡ run s ls .output
+unfolding runShown run
+run-hidden s [] = refl
+run-hidden s (l ∷ ls) = ap (λ (f : FedM). f .output ++ runShown false (f .next) ls) (fed-hidden s l) ∙ ap (λ (x : List ℕ). feed s l .output ++ x) (run-hidden (feed s l .next) ls)
+
+pub log-hidden : (bs : List ℕ) → logShown false bs ≡ log bs
+unfolding logShown log
+log-hidden bs = run-hidden fresh (lines bs)
+
+-- the log's output, whatever the lumps: the last LF absent or not, no bytes, empty lines, garbage, lines of any length
+pub whole-log : {l page : List ℕ} {bss : List (List ℕ)} {out : List ℕ} → Ran false (structOf fresh) (tableOf fresh) l 0 page 0 bss out → out ≡ log (joined bss)
+whole-log {bss = bss} r = whole-log-shown r ∙ log-hidden (joined bss)
