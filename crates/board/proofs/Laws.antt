@@ -76,6 +76,9 @@ module _ (s : StateM) (p : Parts s) where
   pub own-eight : length (widen (8 - length (s .channels)) s .channels) ≡ 8
   own-eight = length-wider (8 - length (s .channels)) (s .channels) ∙ within
 
+  pub struct-eight : length (structOf s .state .channels) ≡ 8
+  struct-eight = length-map (widen (8 - length (s .channels)) s .channels) channelOf ∙ own-eight
+
   -- the board and the table of a sound state hold that state
   pub stateIn-of : stateIn (structOf s) (tableOf s) ≡ s
   stateIn-of =
@@ -128,6 +131,9 @@ module _ {b : Board} {tb : List ℕ} (h : Held b tb) where
   held-channels =
       let u = stateIn b tb in
       ap (λ (x : Board). take (x .width) (x .state .channels)) (h .struct) ∙ take-front (u .channels) (frees (8 - length (u .channels)))
+
+  pub held-eight : length (b .state .channels) ≡ 8
+  held-eight = held-wide .0 .eight
 
   pub held-length : length tb ≡ 1472
   held-length = ap length (h .table) ∙ length-tableOf (stateIn b tb) (parts-long (stateIn b tb) (held-parts h))
