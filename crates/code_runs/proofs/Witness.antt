@@ -1,6 +1,6 @@
--- Demand 3 on the code is about something: two runs of calls that keep the promise, from one struct and one table, meet every
+-- Demand 3 on the code is about something: two runs of calls that keep the promise, from one board and one table, meet every
 -- premise. In the busy one the others open with a list and steal channel 2, take channel 3, wait for channel 0 and close; in
--- the quiet one they do nothing. K sees the same bytes, and the two leave unlike structs and tables.
+-- the quiet one they do nothing. K sees the same bytes, and the two leave unlike boards and tables.
 -- Assumes nothing.
 use Prim.Native.Nat.{ℕ}
 use mathlib.Core.Path.{_≡_, refl, sym, _∙_}
@@ -10,11 +10,12 @@ use lib.Dec.{eqb}
 use Rattle.machine.specs.State.{Call, Op, OPEN, CLOSE, EVENT, COMMAND, State as StateM, free}
 use Rattle.machine.specs.Machine.{machine}
 use Rattle.memory.specs.Splice.{splice}
-use Rattle.store.specs.Store.{structOf, tableOf, stateIn}
+use Rattle.store.specs.Store.{tableOf}
+use Rattle.board.specs.Board.{structOf, stateIn}
 use Rattle.two_runs.specs.TwoRuns.{Party, Start, Step, our, own, their, claim}
 use Rattle.two_runs.proofs.Premises.{premises, runs-all, starts-all}
 use Rattle.code_runs.specs.CodeRuns.{Run, ownCalls, allRecords, stateAfter, Alike, codeClaim}
-use Rattle.code_runs.proofs.Made.{Board, board-held, board-state, moves, ownCalls-moves, machine-runs-are-code-runs}
+use Rattle.code_runs.proofs.Made.{OnBoard, board-held, board-state, moves, ownCalls-moves, machine-runs-are-code-runs}
 use Rattle.code_runs.proofs.Parts.{answers-replies-channels}
 
 -- K is 1 and P is 10, which stands as 138
@@ -56,8 +57,8 @@ busy =
     ∷ our (ask (COMMAND 6) 5 3 0 1 [])
     ∷ []
 
-board : Board start
-board = record { sane = unfold machine in tt; four = refl }
+board : OnBoard start
+board = record { sane = unfold machine in tt; size = tt }
 
 start-ready : Start party (stateIn (structOf start) (tableOf start))
 start-ready = rw (board-state board) (starts-all party start (unfold machine claim premises in tt))
@@ -84,10 +85,10 @@ unfolding machine codeClaim splice
 bytes-seen = refl
 
 -- and the runs end unlike: the open count and the last key
-pub quiet-end : (stateAfter (structOf start) (moves start quiet) .opens ≡ 1) × (stateAfter (structOf start) (moves start quiet) .last ≡ 7)
+pub quiet-end : (stateAfter (structOf start) (moves start quiet) .state .opens ≡ 1) × (stateAfter (structOf start) (moves start quiet) .state .last ≡ 7)
 unfolding machine codeClaim
 quiet-end = (refl, refl)
 
-pub busy-end : (stateAfter (structOf start) (moves start busy) .opens ≡ 1) × (stateAfter (structOf start) (moves start busy) .last ≡ 9)
+pub busy-end : (stateAfter (structOf start) (moves start busy) .state .opens ≡ 1) × (stateAfter (structOf start) (moves start busy) .state .last ≡ 9)
 unfolding machine codeClaim
 busy-end = (refl, refl)

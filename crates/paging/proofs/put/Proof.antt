@@ -7,7 +7,8 @@ use borrow.Author.Tests.{not-true, not-false}
 use lib.ListN.{length}
 use lib.Seq.{length-take-le}
 use Rattle.taking.specs.Desk.{needed}
-use Rattle.paging.proofs.Laws.{needed-some, board-length, put-none, put-hidden, put-shown}
+use Rattle.lines.proofs.ChannelLines.{board-few}
+use Rattle.paging.proofs.Laws.{needed-some, put-none, put-hidden, put-shown}
 use borrow.Author.Needs.{needs}
 use Rattle.paging.proofs.put.Statement.{statement}
 use Rattle.paging.proofs.put.Tie as tie
