@@ -72,7 +72,7 @@ static int same_outcome(size_t n, const struct Answer *a)
 static void compare(void)
 {
     library_fresh();
-    arbiter_fresh(&arbiter);
+    arbiter_fresh(&arbiter, 4);
     for (size_t i = 0; i < frames; i++) {
         size_t n = library_call(&frame[i]);
         struct Answer a = arbiter_call(&arbiter, &frame[i], &list);
@@ -111,7 +111,7 @@ static double play_second(void)
 {
     double began = now();
 
-    arbiter_fresh(&arbiter);
+    arbiter_fresh(&arbiter, 4);
     for (size_t i = 0; i < frames; i++)
         arbiter_call(&arbiter, &frame[i], &list);
     return now() - began;
