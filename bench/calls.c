@@ -49,7 +49,7 @@ static size_t library_call(const struct Frame *f)
 
 static void library_fresh(void)
 {
-    if (qamhudeer_fresh(state, sizeof state, table, sizeof table) != 0)
+    if (qamhudeer_fresh(4, state, sizeof state, table, sizeof table) != 0)
         exit(2);
 }
 
