@@ -145,7 +145,7 @@ static void count_reply(const struct Reply *reply, int cause)
 /* The channel that had this write, in the state before the call. */
 static unsigned channel_of(const struct Arbiter *before, unsigned id)
 {
-    for (unsigned c = 0; c < CHANNELS; c++)
+    for (unsigned c = 0; c < MOST_CHANNELS; c++)
         for (unsigned at = 0; at < before->channel[c].writes.count; at++)
             if (before->channel[c].writes.id[at] == id)
                 return c;
@@ -264,7 +264,7 @@ static void play(FILE *log)
     struct Frame frame;
     enum Line line;
 
-    arbiter_fresh(&state);
+    arbiter_fresh(&state, 4);
     while ((line = log_read(log, &frame)) != LINE_NONE) {
         struct Answer answer = log_malformed();
 

@@ -58,7 +58,7 @@ static int same_reply(size_t at, unsigned id, unsigned command, int error, unsig
 /* "Channel 0 key 5 precedence 10; 1 free; 2 and 3 key 6 precedence 3, 3 locked." */
 static void marked_state(struct Arbiter *a)
 {
-    arbiter_fresh(a);
+    arbiter_fresh(a, 4);
     a->open_count = 1;
     a->channel[0].key = 5;
     a->channel[0].precedence = 10;
@@ -128,7 +128,7 @@ static void test_most_candidates(void)
 {
     struct Arbiter a;
 
-    arbiter_fresh(&a);
+    arbiter_fresh(&a, 4);
     a.open_count = 1;
     a.last_key = 65500;
     for (unsigned c = 0; c < 4; c++)
@@ -149,7 +149,7 @@ static void test_most_replies(void)
 {
     struct Arbiter a;
 
-    arbiter_fresh(&a);
+    arbiter_fresh(&a, 4);
     a.open_count = 1;
     call(&a, ADCMD_ALLOCATE, 0, IOF_QUICK, 0, 1, 8, "\3");
     for (unsigned id = 0; id < REQUESTS; id++)
