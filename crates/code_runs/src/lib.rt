@@ -20,7 +20,8 @@ pub fn take_turn(
     table: &mut [u8],
     replies: &mut [u8],
 ) -> Outcome
-    ensures { λ d. ⌜ Took b (now (table .entry)) (record { op = op; request = r; combos = now (combos .entry); lent = now (replies .entry); outcome = d; table = now (table .exit); list = now (replies .exit) }) ⌝ }
+    ensures { λ d. ⌜ Took b (now (table .entry))
+        (record { op = op; request = r; combos = now (combos .entry); lent = now (replies .entry); outcome = d; table = now (table .exit); list = now (replies .exit) }) ⌝ }
 {
     ranges(r.prec, r.key);
     arbiter::call(op, r, b, combos, table, replies)

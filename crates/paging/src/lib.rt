@@ -72,7 +72,8 @@ fn turn(
     at: usize,
 ) -> Taken
     requires { ⌜ Held s (now table) × (n ≤ LINE) × (at + needed show ≤ length (now page)) ⌝ }
-    ensures { λ t. ⌜ Turns show s (now (table .entry)) (now (line .entry)) n (now (input .entry)) (now (page .entry)) at t (now (line .exit)) (now (table .exit)) (now (page .exit)) ⌝ }
+    ensures { λ t. ⌜ Turns show s (now (table .entry)) (now (line .entry)) n (now (input .entry)) (now (page .entry)) at
+        t (now (line .exit)) (now (table .exit)) (now (page .exit)) ⌝ }
 {
     let mut out = [0u8; 973];
     let t = taking::take(s, line, n, input, table, &mut out);
@@ -91,7 +92,8 @@ pub fn fill(
     stands: usize,
 ) -> Taken
     requires { ⌜ Held state (now table) × (started ≤ LINE) ⌝ }
-    ensures { λ t. ⌜ Fills show state (now (table .entry)) (now (line .entry)) started (now (input .entry)) (now (page .entry)) stands t (now (line .exit)) (now (table .exit)) (now (page .exit)) ⌝ }
+    ensures { λ t. ⌜ Fills show state (now (table .entry)) (now (line .entry)) started (now (input .entry)) (now (page .entry)) stands
+        t (now (line .exit)) (now (table .exit)) (now (page .exit)) ⌝ }
 {
     let mut s = state;
     let mut n = started;
