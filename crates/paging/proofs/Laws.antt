@@ -23,6 +23,7 @@ use Rattle.store.specs.Store.{tableOf}
 use Rattle.board.specs.Board.{structOf, stateIn, Held}
 use Rattle.board.proofs.Laws.{held-eight}
 use Rattle.lines.specs.ChannelLines.{boardLines, Shows}
+use Rattle.lines.proofs.ChannelLines.{board-few}
 use Rattle.lines.proofs.Laws.{length-told}
 use Rattle.frames.specs.Frames.{LINE, ended, used, kept}
 use Rattle.frames.proofs.Lumps.{used-within}
@@ -56,6 +57,16 @@ room-behind need at len h =
 pub shown-front : {s : Board} {lent b : List ℕ} {j : ℕ} → Shows s lent j b → take j b ≡ boardLines s
 unfolding splice
 shown-front {s} q = rw (q .bytes, q .count) (take-at (boardLines s) _ (length (boardLines s)) refl)
+
+-- and is not more than the memory
+pub shown-few : {s : Board} {lent b : List ℕ} {j : ℕ} → length (s .state .channels) ≡ 8 → Shows s lent j b → j ≤ 120
+shown-few {s} h q = let f = board-few s h in let c = q .count in omega arith
+
+pub shown-long : {s : Board} {lent b : List ℕ} {j : ℕ} → length (s .state .channels) ≡ 8 → length lent ≡ 120 → Shows s lent j b → length b ≡ 120
+shown-long {s} {lent} h e q = let f = board-few s h in ap length (q .bytes) ∙ (length-splice lent 0 (boardLines s) (omega arith) ∙ e)
+
+pub few-within : {j n : ℕ} → j ≤ 120 → n ≡ 120 → j ≤ n
+few-within h e = omega arith
 
 -- ---- what is put on the page
 
