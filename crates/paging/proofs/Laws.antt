@@ -31,7 +31,7 @@ use Rattle.feeding.proofs.Laws.{feed-few}
 use Rattle.taking.specs.declared.Taken.{Taken}
 use Rattle.taking.specs.Desk.{shownOf, fed, Desk, deskOf, gathered, answered, taken, needed, fits, takes, filled, closed, finished, Leaves, Takes, Ends}
 use Rattle.taking.proofs.Kept.{Fine, held-fine, fed-next, taken-fine, closed-fine, leaves-held, leaves-state}
-use Rattle.taking.proofs.Laws.{fed-hidden, taken-within, taken-used, used-some, taken-open, taken-ended, closed-none, closed-some}
+use Rattle.taking.proofs.Laws.{fed-hidden, taken-within, taken-used, used-some, taken-open, taken-ended, Same, one-leaving, closed-none, closed-some}
 use Rattle.paging.specs.Paging.{textOf, Puts, Turns, Fills, Finishes}
 
 -- ---- a line's output
@@ -362,3 +362,13 @@ module _ {show : Bool} {d : Desk} {input : List ℕ} {s : Board} {tb l : List �
             whole = q ∙ takes-more show k (deskAt s tb l n page at from) (drop from input) (omega arith) f
                 ∙ ap₂ (takes show k) next (ap (λ (x : ℕ). drop x (drop from input)) (sym turn-used) ∙ drop-drop (t .used) from input);
           }
+
+-- ---- no second outcome fits
+
+pub one-filling : {show : Bool} {s : State} {tb l : List ℕ} {n : ℕ} {bs page : List ℕ} {at : ℕ} {t t₂ : Taken} {l₁ l₂ tb₁ tb₂ page₁ page₂ : List ℕ}
+    → Fills show s tb l n bs page at t l₁ tb₁ page₁ → Fills show s tb l n bs page at t₂ l₂ tb₂ page₂ → Same t t₂ l₁ l₂ tb₁ tb₂ page₁ page₂
+one-filling a b = one-leaving (a .leaves) (b .leaves)
+
+pub one-finishing : {show : Bool} {s : State} {tb l : List ℕ} {n : ℕ} {page : List ℕ} {at : ℕ} {t t₂ : Taken} {tb₁ tb₂ page₁ page₂ : List ℕ}
+    → Finishes show s tb l n page at t tb₁ page₁ → Finishes show s tb l n page at t₂ tb₂ page₂ → Same t t₂ l l tb₁ tb₂ page₁ page₂
+one-finishing a b = one-leaving (a .leaves) (b .leaves)

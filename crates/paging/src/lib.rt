@@ -103,7 +103,7 @@ pub fn fill(
                 state: s,
                 line: n,
                 used: from,
-                at,
+                at: at,
             };
         }
         let t = turn(show, s, line, n, &input[from..], table, page, at);
@@ -144,6 +144,6 @@ pub fn finish(
         };
     }
     let mut out = [0u8; 973];
-    let t = taking::take_end(s, line, n, table, &mut out);
-    put(show, t, &out, page, at)
+    let last = taking::take_end(s, line, n, table, &mut out);
+    put(show, last, &out, page, at)
 }

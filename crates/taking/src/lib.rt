@@ -40,11 +40,12 @@ pub fn take(
 {
     let g = frames::gather(line, n, fragment);
     let k = g.n;
+    let used = g.used;
     if !g.ended {
         return Taken {
             state: s,
             line: k,
-            used: g.used,
+            used,
             at: 0,
         };
     }
@@ -53,7 +54,7 @@ pub fn take(
     Taken {
         state: t,
         line: 0,
-        used: g.used,
+        used,
         at: f.n,
     }
 }
@@ -77,12 +78,12 @@ pub fn take_end(
             at: 0,
         };
     }
-    let f = answer(s, line, n, table, out);
-    let t = f.state;
+    let last = answer(s, line, n, table, out);
+    let t = last.state;
     Taken {
         state: t,
         line: 0,
         used: 0,
-        at: f.n,
+        at: last.n,
     }
 }
