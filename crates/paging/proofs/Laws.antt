@@ -365,10 +365,10 @@ module _ {show : Bool} {d : Desk} {input : List ℕ} {s : Board} {tb l : List �
 
 -- ---- no second outcome fits
 
-pub one-filling : {show : Bool} {s : State} {tb l : List ℕ} {n : ℕ} {bs page : List ℕ} {at : ℕ} {t t₂ : Taken} {l₁ l₂ tb₁ tb₂ page₁ page₂ : List ℕ}
+pub one-filling : {show : Bool} {s : Board} {tb l : List ℕ} {n : ℕ} {bs page : List ℕ} {at : ℕ} {t t₂ : Taken} {l₁ l₂ tb₁ tb₂ page₁ page₂ : List ℕ}
     → Fills show s tb l n bs page at t l₁ tb₁ page₁ → Fills show s tb l n bs page at t₂ l₂ tb₂ page₂ → Same t t₂ l₁ l₂ tb₁ tb₂ page₁ page₂
 one-filling a b = one-leaving (a .leaves) (b .leaves)
 
-pub one-finishing : {show : Bool} {s : State} {tb l : List ℕ} {n : ℕ} {page : List ℕ} {at : ℕ} {t t₂ : Taken} {tb₁ tb₂ page₁ page₂ : List ℕ}
+pub one-finishing : {show : Bool} {s : Board} {tb l : List ℕ} {n : ℕ} {page : List ℕ} {at : ℕ} {t t₂ : Taken} {tb₁ tb₂ page₁ page₂ : List ℕ}
     → Finishes show s tb l n page at t tb₁ page₁ → Finishes show s tb l n page at t₂ tb₂ page₂ → Same t t₂ l l tb₁ tb₂ page₁ page₂
 one-finishing a b = one-leaving (a .leaves) (b .leaves)
