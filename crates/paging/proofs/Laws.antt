@@ -23,6 +23,7 @@ use Rattle.store.specs.Store.{tableOf}
 use Rattle.board.specs.Board.{structOf, stateIn, Held}
 use Rattle.board.proofs.Laws.{held-eight}
 use Rattle.lines.specs.ChannelLines.{boardLines, Shows}
+use Rattle.lines.proofs.ChannelLines.{board-few}
 use Rattle.lines.proofs.Laws.{length-told}
 use Rattle.frames.specs.Frames.{LINE, ended, used, kept}
 use Rattle.frames.proofs.Lumps.{used-within}
@@ -56,6 +57,16 @@ room-behind need at len h =
 pub shown-front : {s : Board} {lent b : List ℕ} {j : ℕ} → Shows s lent j b → take j b ≡ boardLines s
 unfolding splice
 shown-front {s} q = rw (q .bytes, q .count) (take-at (boardLines s) _ (length (boardLines s)) refl)
+
+-- and is not more than the memory
+pub shown-few : {s : Board} {lent b : List ℕ} {j : ℕ} → length (s .state .channels) ≡ 8 → Shows s lent j b → j ≤ 120
+shown-few {s} h q = let f = board-few s h in let c = q .count in omega arith
+
+pub shown-long : {s : Board} {lent b : List ℕ} {j : ℕ} → length (s .state .channels) ≡ 8 → length lent ≡ 120 → Shows s lent j b → length b ≡ 120
+shown-long {s} {lent} h e q = let f = board-few s h in ap length (q .bytes) ∙ (length-splice lent 0 (boardLines s) (omega arith) ∙ e)
+
+pub few-within : {j n : ℕ} → j ≤ 120 → n ≡ 120 → j ≤ n
+few-within h e = omega arith
 
 -- ---- what is put on the page
 
@@ -354,10 +365,10 @@ module _ {show : Bool} {d : Desk} {input : List ℕ} {s : Board} {tb l : List �
 
 -- ---- no second outcome fits
 
-pub one-filling : {show : Bool} {s : State} {tb l : List ℕ} {n : ℕ} {bs page : List ℕ} {at : ℕ} {t t₂ : Taken} {l₁ l₂ tb₁ tb₂ page₁ page₂ : List ℕ}
+pub one-filling : {show : Bool} {s : Board} {tb l : List ℕ} {n : ℕ} {bs page : List ℕ} {at : ℕ} {t t₂ : Taken} {l₁ l₂ tb₁ tb₂ page₁ page₂ : List ℕ}
     → Fills show s tb l n bs page at t l₁ tb₁ page₁ → Fills show s tb l n bs page at t₂ l₂ tb₂ page₂ → Same t t₂ l₁ l₂ tb₁ tb₂ page₁ page₂
 one-filling a b = one-leaving (a .leaves) (b .leaves)
 
-pub one-finishing : {show : Bool} {s : State} {tb l : List ℕ} {n : ℕ} {page : List ℕ} {at : ℕ} {t t₂ : Taken} {tb₁ tb₂ page₁ page₂ : List ℕ}
+pub one-finishing : {show : Bool} {s : Board} {tb l : List ℕ} {n : ℕ} {page : List ℕ} {at : ℕ} {t t₂ : Taken} {tb₁ tb₂ page₁ page₂ : List ℕ}
     → Finishes show s tb l n page at t tb₁ page₁ → Finishes show s tb l n page at t₂ tb₂ page₂ → Same t t₂ l l tb₁ tb₂ page₁ page₂
 one-finishing a b = one-leaving (a .leaves) (b .leaves)
