@@ -1,7 +1,7 @@
 // A log taken a fragment at a time, of any length: what stands of a line is kept in lent bytes, and a call answers one line at
 // most. The state is known to be sound. Assumes nothing.
-use feeding::Fed;
 use board::Board;
+use feeding::Fed;
 ghost use Prim.Native.Nat.{_≤_};
 ghost use lib.ListN.{length, take};
 ghost use Rattle.board.specs.Board.{Held};
