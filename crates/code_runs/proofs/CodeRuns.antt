@@ -23,7 +23,10 @@ use Rattle.board.specs.declared.Board.{Board}
 use Rattle.answers.specs.Answers.{answerOf, answerIn}
 use Rattle.board.specs.Board.{stateIn, Held, Told}
 use Rattle.board.proofs.Laws.{held-channels}
-use Rattle.arbiter.proofs.Outcome.{held-after}
+use Rattle.board.specs.declared.Outcome.{Outcome}
+use Rattle.answers.specs.declared.Request.{Request}
+use Rattle.refusals.specs.declared.Op.{Op}
+use Rattle.arbiter.proofs.Outcome.{Same, held-after, one-outcome}
 use Rattle.two_runs.specs.TwoRuns.{Party, Start, Step, our, their, Keeps as KeepsM, Run as RunM, balance, reached, calls, lends, own, said, mask, view, ownReplies, Seen, answered, received, owning, seen}
 use Rattle.two_runs.proofs.Part.{project}
 use Rattle.two_runs.proofs.TwoRuns.{K-sees-its-part, others-leave-K-alone}
@@ -220,3 +223,12 @@ others-leave-K-alone-of-the-code p st tb ms t h a r =
           ∙ ap (map channelOf) (q .1)
           ∙ sym (view-of p (b .held)),
     )
+
+-- ---- one turn
+
+-- no second outcome fits a turn: it is the call's
+pub one-turn : {b : Board} {tb : List ℕ} {op : Op} {r : Request} {ms l : List ℕ} {d d₂ : Outcome} {tb₁ tb₂ l₁ l₂ : List ℕ}
+    → Took b tb (record { op = op; request = r; combos = ms; lent = l; outcome = d; table = tb₁; list = l₁ })
+    → Took b tb (record { op = op; request = r; combos = ms; lent = l; outcome = d₂; table = tb₂; list = l₂ })
+    → Same d d₂ tb₁ tb₂ l₁ l₂
+one-turn t u = one-outcome (t .called) (u .called)
