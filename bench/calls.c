@@ -49,7 +49,7 @@ static size_t library_call(const struct Frame *f)
 
 static void library_fresh(void)
 {
-    if (qamhudeer_fresh(state, sizeof state, table, sizeof table) != 0)
+    if (qamhudeer_fresh(4, state, sizeof state, table, sizeof table) != 0)
         exit(2);
 }
 
@@ -72,7 +72,7 @@ static int same_outcome(size_t n, const struct Answer *a)
 static void compare(void)
 {
     library_fresh();
-    arbiter_fresh(&arbiter);
+    arbiter_fresh(&arbiter, 4);
     for (size_t i = 0; i < frames; i++) {
         size_t n = library_call(&frame[i]);
         struct Answer a = arbiter_call(&arbiter, &frame[i], &list);
@@ -111,7 +111,7 @@ static double play_second(void)
 {
     double began = now();
 
-    arbiter_fresh(&arbiter);
+    arbiter_fresh(&arbiter, 4);
     for (size_t i = 0; i < frames; i++)
         arbiter_call(&arbiter, &frame[i], &list);
     return now() - began;

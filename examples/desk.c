@@ -40,7 +40,7 @@ static void call(const char *what, uint8_t op, uint8_t id, uint8_t flags, uint8_
 int main(void)
 {
     unsigned mine, theirs;
-    if (qamhudeer_fresh(state, sizeof state, table, sizeof table) != 0)
+    if (qamhudeer_fresh(4, state, sizeof state, table, sizeof table) != 0)
         return 1;
 
     /* No combinations and key 0: the device is opened, and the desk gets a key. */

@@ -40,7 +40,7 @@ int main(void)
         return 1;
     printf("for two left and two right it is %saccepted\n", qamhudeer_stereo_accepts(2, 2, maps, count) ? "" : "not ");
 
-    if (qamhudeer_fresh(state, sizeof state, table, sizeof table) != 0)
+    if (qamhudeer_fresh(4, state, sizeof state, table, sizeof table) != 0)
         return 1;
     qamhudeer_call(QAMHUDEER_OPEN, 0, 0, 0, 0, 0, maps, 0, state, sizeof state, table, sizeof table, replies, sizeof replies, answer,
                    sizeof answer);

@@ -22,7 +22,7 @@ extern "C" {
 
 /* ---- sizes in bytes */
 
-#define QAMHUDEER_STATE_SIZE 414
+#define QAMHUDEER_STATE_SIZE 695 /* of either board */
 #define QAMHUDEER_TABLE_SIZE 1472
 #define QAMHUDEER_REPLIES_SIZE 384
 #define QAMHUDEER_ANSWER_SIZE 6
@@ -31,18 +31,19 @@ extern "C" {
 
 /* ---- what a caller may read of a state. Numbers of two bytes have the high one first. */
 
-/* Channel c, of 0 to 3, begins at c * QAMHUDEER_CHANNEL_SIZE: its key (two bytes; 0: the channel is free), its precedence
- * plus 128, its lock mark, its stop mark (each 0 or 1), then its queue of writes. */
+/* How many channels the board has, 4 or 8, stands in a byte of its own. Channel c, of 0 to 7, begins at c * QAMHUDEER_CHANNEL_SIZE: its key (two bytes; 0: the channel is free), its precedence
+ * plus 128, its lock mark, its stop mark (each 0 or 1), then its queue of writes. A board of four keeps channels 4 to 7 free. */
 #define QAMHUDEER_CHANNEL_KEY 0
 #define QAMHUDEER_CHANNEL_PRECEDENCE 2
 #define QAMHUDEER_CHANNEL_LOCKED 3
 #define QAMHUDEER_CHANNEL_STOPPED 4
 #define QAMHUDEER_CHANNEL_WRITES 5
 /* A queue is its count, then 64 request ids, front first, with zeros behind them. */
-#define QAMHUDEER_OFFSET_OF_LOCKS 280
-#define QAMHUDEER_OFFSET_OF_WAITING 345
-#define QAMHUDEER_OFFSET_OF_OPENS 410
-#define QAMHUDEER_OFFSET_OF_LAST 412
+#define QAMHUDEER_OFFSET_OF_LOCKS 560
+#define QAMHUDEER_OFFSET_OF_WAITING 625
+#define QAMHUDEER_OFFSET_OF_OPENS 690
+#define QAMHUDEER_OFFSET_OF_LAST 692
+#define QAMHUDEER_OFFSET_OF_CHANNELS 694
 
 /* ---- an answer */
 
@@ -133,9 +134,10 @@ extern "C" {
 
 /* ---- functions */
 
-/* A fresh device. Where state_len is QAMHUDEER_STATE_SIZE and table_len is QAMHUDEER_TABLE_SIZE: returns 0, the state is
- * that of a fresh device, and each byte of the table is 0. Otherwise: returns 1, and no byte has changed. */
-uint8_t qamhudeer_fresh(uint8_t *state, size_t state_len, uint8_t *table, size_t table_len);
+/* A fresh device on a board of 4 or 8 channels. Where channels is one of these, state_len is QAMHUDEER_STATE_SIZE and table_len
+ * is QAMHUDEER_TABLE_SIZE: returns 0, the state is that of a fresh device, and each byte of the table is 0. Otherwise: returns
+ * 1, and no byte has changed. */
+uint8_t qamhudeer_fresh(uint8_t channels, uint8_t *state, size_t state_len, uint8_t *table, size_t table_len);
 
 /* One call. The precedence is in two's complement, so that -128 to 127 are handed over as they are.
  *
@@ -176,6 +178,7 @@ size_t qamhudeer_offset_of_locks(void);
 size_t qamhudeer_offset_of_waiting(void);
 size_t qamhudeer_offset_of_opens(void);
 size_t qamhudeer_offset_of_last(void);
+size_t qamhudeer_offset_of_channels(void);
 
 #ifdef __cplusplus
 }

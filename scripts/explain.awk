@@ -1,5 +1,5 @@
-# Reads a log, and beside it the file 'output', what the program wrote for it with the argument 'channels'; writes the
-# same in words. ./explain runs it. POSIX awk.
+# Reads a log, and beside it the file 'output', what the program wrote for it with '--show', on a board of so many channels;
+# writes the same in words. ./explain runs it. POSIX awk.
 
 BEGIN {
     width = 98          # columns of a line, where words can be broken so
@@ -29,7 +29,8 @@ BEGIN {
     reason[-1] = "it is open 65,535 times"
     reason[-3] = "there is no such command"
     reason[-4] = "more than 16 combinations"
-    reason[-5] = "a map or a combination is above 15"
+    highest = board == 8 ? 255 : 15
+    reason[-5] = "a map or a combination is above " highest
     reason[-10] = "a channel is free or has another key"
     reason[-11] = "no combination can be had now"
     reason[1] = "the state is not sound"
@@ -87,9 +88,9 @@ function call_name(number) {
 }
 
 function channels(map,    c, text) {
-    if (map > 15)
-        return map " (above 15)"
-    for (c = 0; c < 4; c++) {
+    if (map > highest)
+        return map " (above " highest ")"
+    for (c = 0; c < board; c++) {
         if (map % 2 == 1)
             text = text (text == "" ? "" : "+") c
         map = int(map / 2)
@@ -97,10 +98,17 @@ function channels(map,    c, text) {
     return text == "" ? "none" : text
 }
 
+# A map that names one channel.
+function single(map,    bit) {
+    for (bit = 1; bit < map; bit *= 2)
+        ;
+    return bit == map
+}
+
 function on_channels(map) {
     if (map == 0)
         return "no channel"
-    return (map == 1 || map == 2 || map == 4 || map == 8 ? "channel " : map > 15 ? "map " : "channels ") channels(map)
+    return (map > highest ? "map " : single(map) ? "channel " : "channels ") channels(map)
 }
 
 function key_words(key) {
@@ -217,10 +225,10 @@ function channel_words(text,    key, marks, writes) {
 # Channels of which the same is to be said stand together.
 function say_channels(said,    c, d, phrase) {
     words = ""
-    for (c = 0; c < 4; c++)
+    for (c = 0; c < board; c++)
         if (said[c] != "") {
             phrase = c
-            for (d = c + 1; d < 4; d++)
+            for (d = c + 1; d < board; d++)
                 if (said[d] == said[c]) {
                     phrase = phrase " " d
                     said[d] = ""
@@ -239,14 +247,14 @@ function say_channels(said,    c, d, phrase) {
     else
         say_malformed($0, why)
     seen = 0
-    while (seen < 4 && (getline text < output) > 0)
+    while (seen < board && (getline text < output) > 0)
         if (text ~ /^C0/)
             say_reply(text)
         else if (text ~ /^A/)
             say_answer(text, why == "" ? byte($0, 0) : -1)
         else if (text ~ /^B0/)
             said[seen++] = channel_words(text)
-    if (seen < 4) {
+    if (seen < board) {
         print "explain: the program's output ends at line " NR " of the log" | "cat 1>&2"
         exit 1
     }

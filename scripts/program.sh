@@ -3,6 +3,8 @@
 #   proved_program NAME  the program of this crate, proved and built where it is missing or older than what it is made from
 #   ready       the same of the log program. Where nothing has changed both are quick
 #   watched FILE WORDS  runs rt with these words; all that it says goes to FILE, and how far it is to standard error
+#   log_options WORDS  the log program's options, checked; in log_words as the program takes them
+#   help        what a script's own head says of its use
 #   play WORDS  runs the program with these arguments, through the kit's emulator where the machine is not x86-64
 #   how         words before the program's: exec, or timeout 60
 #
@@ -12,6 +14,31 @@ emulator=
 
 complain() {
     printf '%s: %s\n' "${0##*/}" "$*" >&2
+}
+
+help() {
+    sed -n '2,/^[^#]/s/^#\( \|$\)//p' "$0"
+}
+
+# The program's first word is the number of channels; a second one shows them.
+log_options() {
+    log_words=4 log_show=
+    while [ $# -gt 0 ]; do
+        case $1 in
+        --channels)
+            case ${2:-} in
+            4 | 8) log_words=$2 ;;
+            *) complain "--channels takes 4 or 8; --help tells more"; return 2 ;;
+            esac
+            shift
+            ;;
+        --show) log_show=show ;;
+        --help) help; exit 0 ;;
+        *) complain "there is no option '$1'; --help tells more"; return 2 ;;
+        esac
+        shift
+    done
+    log_words="$log_words $log_show"
 }
 
 has_kit() {

@@ -3,7 +3,7 @@
 # it is. POSIX awk.
 
 # Behind the names of what was proved, the prover's own counts tell a reader nothing here.
-/^(library|logic|crate|linked|fn) / || /^logic=proved/ { next }
+/^(library|logic|linked|axioms) / || /^crate [^ ]*: modules/ || /^(fn|struct|enum) .*: proved$/ || /^logic=proved/ { next }
 
 /^rt: [a-z0-9_]+ proved/ {
     tell(sprintf("crate %d of %s: %s", ++proved, crates ? crates : "?", $2), $0)

@@ -41,9 +41,15 @@ static int names(unsigned map, unsigned channel)
     return (map >> channel & 1u) != 0;
 }
 
-static int beyond_board(unsigned map)
+/* The map of all channels: 15 on four. "Maps above 255 can't occur", so on eight none is beyond it. */
+static unsigned all_channels(const struct Arbiter *a)
 {
-    return map > ALL_CHANNELS;
+    return (1u << a->channels) - 1u;
+}
+
+static int beyond_board(const struct Arbiter *a, unsigned map)
+{
+    return map > all_channels(a);
 }
 
 static unsigned lowest_channel(unsigned map)
@@ -60,7 +66,7 @@ static unsigned matching(const struct Arbiter *a, unsigned map, uint16_t key)
 {
     unsigned own = 0;
 
-    for (unsigned c = 0; c < CHANNELS; c++)
+    for (unsigned c = 0; c < a->channels; c++)
         if (names(map, c) && key != 0 && a->channel[c].key == key)
             own |= 1u << c;
     return own;
@@ -113,7 +119,7 @@ static void free_channels(struct Arbiter *a, unsigned map, struct Replies *r)
 {
     unsigned at = 0;
 
-    for (unsigned c = 0; c < CHANNELS; c++)
+    for (unsigned c = 0; c < a->channels; c++)
         if (names(map, c)) {
             reset(a, c, r);
             memset(&a->channel[c], 0, sizeof a->channel[c]);
@@ -134,7 +140,7 @@ static void free_channels(struct Arbiter *a, unsigned map, struct Replies *r)
 /* "A key is in use if a channel or a waiting allocation has it." */
 static int key_in_use(const struct Arbiter *a, unsigned key)
 {
-    for (unsigned c = 0; c < CHANNELS; c++)
+    for (unsigned c = 0; c < a->channels; c++)
         if (a->channel[c].key == key)
             return 1;
     for (unsigned at = 0; at < a->waiting.count; at++)
@@ -145,7 +151,7 @@ static int key_in_use(const struct Arbiter *a, unsigned key)
 
 /* "Count up from the number after the last key issued, 65,535 being followed by 1, to
    the first not in use." Four channels and 64 requests use at most 68 keys, so the
-   69th candidate is free at the latest. */
+   69th candidate is free at the latest; on eight channels the 73rd. */
 uint16_t arbiter_new_key(const struct Arbiter *a)
 {
     unsigned key = a->last_key;
@@ -160,7 +166,7 @@ uint16_t arbiter_new_key(const struct Arbiter *a)
    the request is held." */
 static enum Look held_or_granted(const struct Arbiter *a, unsigned chosen)
 {
-    for (unsigned c = 0; c < CHANNELS; c++)
+    for (unsigned c = 0; c < a->channels; c++)
         if (names(chosen, c) && a->channel[c].locked)
             return LOOK_HELD;
     return LOOK_GRANTED;
@@ -178,7 +184,7 @@ enum Look arbiter_look(const struct Arbiter *a, int precedence,
     for (unsigned i = 0; i < length; i++) {
         int cost = nothing;                         /* so far it names only free channels */
 
-        for (unsigned c = 0; c < CHANNELS; c++)
+        for (unsigned c = 0; c < a->channels; c++)
             if (names(combination[i], c) && a->channel[c].key != 0
                 && a->channel[c].precedence > cost)
                 cost = a->channel[c].precedence;
@@ -203,7 +209,7 @@ static uint16_t grant(struct Arbiter *a, uint16_t key, int precedence, unsigned 
         key = arbiter_new_key(a);
         a->last_key = key;
     }
-    for (unsigned c = 0; c < CHANNELS; c++)
+    for (unsigned c = 0; c < a->channels; c++)
         if (names(map, c)) {
             reset(a, c, r);
             a->channel[c].key = key;
@@ -358,7 +364,7 @@ static struct Answer lock(struct Arbiter *a, const struct Frame *f, struct Repli
         return finish(a, f, r, ADIOERR_NOALLOCATION, 0, f->key);
     if (f->map == 0)
         return finish(a, f, r, DONE, 0, f->key);
-    for (unsigned c = 0; c < CHANNELS; c++)
+    for (unsigned c = 0; c < a->channels; c++)
         if (names(f->map, c))
             a->channel[c].locked = 1;
     begin_request(a, f)->map = f->map;
@@ -403,7 +409,7 @@ static struct Answer for_each_channel(struct Arbiter *a, const struct Frame *f,
     if (f->operation == ADCMD_FREE)
         free_channels(a, own, r);
     else
-        for (unsigned c = 0; c < CHANNELS; c++)
+        for (unsigned c = 0; c < a->channels; c++)
             if (names(own, c))
                 switch (f->operation) {
                 case CMD_RESET: reset(a, c, r); break;
@@ -425,23 +431,23 @@ static int known_command(unsigned command)
 }
 
 /* Seventeen entries, one of them 10, are -4: the length is checked first (M11). */
-static int list_error(const struct Frame *f)
+static int list_error(const struct Arbiter *a, const struct Frame *f)
 {
     if (f->length > COMBINATIONS)
         return IOERR_BADLENGTH;
     for (unsigned i = 0; i < f->length; i++)
-        if (beyond_board(f->combination[i]))
+        if (beyond_board(a, f->combination[i]))
             return IOERR_BADADDRESS;
     return DONE;
 }
 
-static int command_error(const struct Frame *f)
+static int command_error(const struct Arbiter *a, const struct Frame *f)
 {
     if (!known_command(f->operation))
         return IOERR_NOCMD;
     if (f->operation == ADCMD_ALLOCATE)
-        return list_error(f);
-    return beyond_board(f->map) ? IOERR_BADADDRESS : DONE;
+        return list_error(a, f);
+    return beyond_board(a, f->map) ? IOERR_BADADDRESS : DONE;
 }
 
 /* ---- The calls ---- */
@@ -457,7 +463,7 @@ static struct Answer command(struct Arbiter *a, const struct Frame *f, struct Re
         return refuse(f, REFUSED_OUTSTANDING);
     if (a->open_count == 0)
         return refuse(f, REFUSED_CLOSED);
-    error = command_error(f);
+    error = command_error(a, f);
     if (error != DONE) {
         own_reply(f, r, error, 0, f->key);
         return refuse(f, error);
@@ -478,7 +484,7 @@ static struct Answer open_device(struct Arbiter *a, const struct Frame *f,
 {
     uint16_t key;
     uint8_t chosen;
-    int error = list_error(f);
+    int error = list_error(a, f);
 
     if (error != DONE)
         return refuse(f, error);
@@ -499,7 +505,7 @@ static struct Answer close_device(struct Arbiter *a, const struct Frame *f,
     if (a->open_count == 0)
         return refuse(f, REFUSED_CLOSED);
     a->open_count--;
-    free_channels(a, matching(a, ALL_CHANNELS, f->key), r);
+    free_channels(a, matching(a, all_channels(a), f->key), r);
     settle(a, r);
     return answer(DONE, 0, f->key);
 }
@@ -517,7 +523,7 @@ static struct Answer abort_request(struct Arbiter *a, const struct Frame *f,
     if (a->request[f->id].command == ADCMD_ALLOCATE)
         place = &a->waiting;
     if (a->request[f->id].command == CMD_WRITE)
-        for (unsigned c = 0; c < CHANNELS; c++)
+        for (unsigned c = 0; c < a->channels; c++)
             if (find_id(&a->channel[c].writes, f->id) < a->channel[c].writes.count)
                 place = &a->channel[c].writes;
     made.last = place != NULL;
@@ -533,7 +539,7 @@ static struct Answer write_end(struct Arbiter *a, const struct Frame *f, struct 
 {
     unsigned ended = 0;
 
-    if (beyond_board(f->map))
+    if (beyond_board(a, f->map))
         return refuse(f, IOERR_BADADDRESS);
     if (f->map != 0) {
         unsigned c = lowest_channel(f->map);
@@ -565,10 +571,11 @@ struct Answer arbiter_call(struct Arbiter *a, const struct Frame *f, struct Repl
 }
 
 /* "A fresh device has four free channels, nothing outstanding, open count 0, last
-   key 0." */
-void arbiter_fresh(struct Arbiter *a)
+   key 0." "The new board has eight channels." */
+void arbiter_fresh(struct Arbiter *a, unsigned channels)
 {
     memset(a, 0, sizeof *a);
+    a->channels = (uint8_t)channels;
 }
 
 /* ---- Sound ---- */
@@ -625,21 +632,21 @@ static int sound_channel(const struct Arbiter *a, const struct Channel *channel)
    the key of its channels." */
 static int sound_lock(const struct Arbiter *a, const struct Request *q)
 {
-    if (q->map == 0 || beyond_board(q->map) || !no_allocation_fields(q))
+    if (q->map == 0 || beyond_board(a, q->map) || !no_allocation_fields(q))
         return 0;
-    for (unsigned c = 0; c < CHANNELS; c++)
+    for (unsigned c = 0; c < a->channels; c++)
         if (names(q->map, c) && (!a->channel[c].locked || a->channel[c].key != q->key))
             return 0;
     return 1;
 }
 
-/* "Waiting requests with 1 to 16 combinations, each at most 15." */
-static int sound_waiting(const struct Request *q)
+/* "Waiting requests with 1 to 16 combinations, each at most 15"; on eight channels, any. */
+static int sound_waiting(const struct Arbiter *a, const struct Request *q)
 {
     if (q->length < 1 || q->length > COMBINATIONS || q->nowait > 1 || q->map != 0)
         return 0;
     for (unsigned i = 0; i < q->length; i++)
-        if (beyond_board(q->combination[i]))
+        if (beyond_board(a, q->combination[i]))
             return 0;
     return all_zero(&q->combination[q->length], COMBINATIONS - q->length);
 }
@@ -654,9 +661,12 @@ int arbiter_sound(const struct Arbiter *a)
 {
     uint8_t met[REQUESTS] = {0};
 
-    for (unsigned c = 0; c < CHANNELS; c++)
+    if (a->channels != 4 && a->channels != 8)
+        return 0;
+    for (unsigned c = 0; c < MOST_CHANNELS; c++)
         if (!sound_place(a, &a->channel[c].writes, CMD_WRITE, met)
-            || !sound_channel(a, &a->channel[c]))
+            || !sound_channel(a, &a->channel[c])
+            || (c >= a->channels && a->channel[c].key != 0))
             return 0;
     if (!sound_place(a, &a->locks, ADCMD_LOCK, met)
         || !sound_place(a, &a->waiting, ADCMD_ALLOCATE, met))
@@ -667,7 +677,7 @@ int arbiter_sound(const struct Arbiter *a)
     for (unsigned at = 0; at < a->waiting.count; at++) {
         const struct Request *q = &a->request[a->waiting.id[at]];
 
-        if (!sound_waiting(q))
+        if (!sound_waiting(a, q))
             return 0;
         if (at > 0 && a->request[a->waiting.id[at - 1]].precedence < q->precedence)
             return 0;

@@ -6,10 +6,7 @@
 #include <stddef.h>
 #include <stdint.h>
 
-#ifndef CHANNELS
-#define CHANNELS 4                          /* at most 8: a map is one byte */
-#endif
-#define ALL_CHANNELS ((1u << CHANNELS) - 1u)
+#define MOST_CHANNELS 8u                    /* a map is one byte */
 #define REQUESTS 64u
 #define COMBINATIONS 16u
 #define LAST_OF_KEYS 65535u
@@ -62,7 +59,8 @@ struct Request {
 };
 
 struct Arbiter {
-    struct Channel channel[CHANNELS];
+    uint8_t channels;                       /* the board has 4 or 8 */
+    struct Channel channel[MOST_CHANNELS];  /* those behind the board's own are free */
     struct Request request[REQUESTS];
     struct Ids locks;                       /* oldest first */
     struct Ids waiting;                     /* highest precedence first, then arrival */
@@ -99,8 +97,8 @@ struct Answer {
     uint8_t last;                           /* READ's id, ABORT's 1 or 0, else 255 */
 };
 
-/* A fresh device: everything free, idle and 0. */
-void arbiter_fresh(struct Arbiter *a);
+/* A fresh device on a board of so many channels: everything free, idle and 0. */
+void arbiter_fresh(struct Arbiter *a, unsigned channels);
 
 /* 1 if the state is sound, 0 if not. Reads any bytes safely. */
 int arbiter_sound(const struct Arbiter *a);

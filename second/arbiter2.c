@@ -1,20 +1,50 @@
 /* The second program: plays a log from standard input on a fresh device and writes
-   each call's replies and answer to standard output. */
+   each call's replies and answer to standard output.
+
+     arbiter2 [--channels 4|8] [--show]
+
+   --show: then also a line B0 for each channel of the board. A wrong option gets a
+   message and status 2. */
 #include "log.h"
 
 #include <stdio.h>
+#include <string.h>
 
-int main(void)
+struct Options {
+    unsigned channels;
+    int show;
+};
+
+/* 1 if the words are options that there are; 0 if not. */
+static int read_options(int count, char **argument, struct Options *o)
+{
+    for (int i = 1; i < count; i++)
+        if (strcmp(argument[i], "--show") == 0)
+            o->show = 1;
+        else if (strcmp(argument[i], "--channels") == 0 && i + 1 < count
+                 && (strcmp(argument[i + 1], "4") == 0 || strcmp(argument[i + 1], "8") == 0))
+            o->channels = (unsigned)(argument[++i][0] - '0');
+        else
+            return 0;
+    return 1;
+}
+
+int main(int count, char **argument)
 {
     static struct Arbiter state;
     static struct Reply record[REQUESTS];
     static char buffer[1 << 16];
+    struct Options options = {4, 0};
     struct Replies replies = {record, REQUESTS, 0};
     struct Frame frame;
     enum Line line;
 
+    if (!read_options(count, argument, &options)) {
+        fputs("usage: arbiter2 [--channels 4|8] [--show] <LOG\n", stderr);
+        return 2;
+    }
     setvbuf(stdout, buffer, _IOFBF, sizeof buffer);
-    arbiter_fresh(&state);
+    arbiter_fresh(&state, options.channels);
     while ((line = log_read(stdin, &frame)) != LINE_NONE) {
         struct Answer answer = log_malformed();
 
@@ -24,6 +54,8 @@ int main(void)
         for (size_t i = 0; i < replies.count; i++)
             log_write_reply(stdout, &replies.record[i]);
         log_write_answer(stdout, &answer);
+        if (options.show)
+            log_write_channels(stdout, &state);
     }
     if (ferror(stdin) || fflush(stdout) != 0 || ferror(stdout)) {
         fputs("arbiter2: input or output failed\n", stderr);

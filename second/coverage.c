@@ -145,7 +145,7 @@ static void count_reply(const struct Reply *reply, int cause)
 /* The channel that had this write, in the state before the call. */
 static unsigned channel_of(const struct Arbiter *before, unsigned id)
 {
-    for (unsigned c = 0; c < CHANNELS; c++)
+    for (unsigned c = 0; c < MOST_CHANNELS; c++)
         for (unsigned at = 0; at < before->channel[c].writes.count; at++)
             if (before->channel[c].writes.id[at] == id)
                 return c;
@@ -256,7 +256,7 @@ static int print_row(const char *name, unsigned long count, int only_long)
     return count == 0 && !only_long;
 }
 
-static void play(FILE *log)
+static void play(FILE *log, unsigned channels)
 {
     static struct Arbiter state, before;
     static struct Reply record[REQUESTS];
@@ -264,7 +264,7 @@ static void play(FILE *log)
     struct Frame frame;
     enum Line line;
 
-    arbiter_fresh(&state);
+    arbiter_fresh(&state, channels);
     while ((line = log_read(log, &frame)) != LINE_NONE) {
         struct Answer answer = log_malformed();
 
@@ -280,9 +280,16 @@ static void play(FILE *log)
     }
 }
 
+/* "Maps above 255 can't occur, so -5 isn't given there." */
+static int never(int error, int is_eight)
+{
+    return is_eight && error == IOERR_BADADDRESS;
+}
+
 int main(int count, char **argument)
 {
     int is_long = count > 1 && strcmp(argument[1], "LONG") == 0, missing = 0;
+    int is_eight = count > 1 && strcmp(argument[1], "EIGHT") == 0;
 
     for (int i = 2; i < count; i++) {
         FILE *log = fopen(argument[i], "rb");
@@ -291,20 +298,20 @@ int main(int count, char **argument)
             fprintf(stderr, "coverage-count: cannot read %s\n", argument[i]);
             return 2;
         }
-        play(log);
+        play(log, is_eight ? 8 : 4);
         fclose(log);
     }
     if (lines == 0) {
-        fputs("usage: coverage-count SHORT|LONG LOG...\n", stderr);
+        fputs("usage: coverage-count SHORT|LONG|EIGHT LOG...\n", stderr);
         return 2;
     }
     printf("| %-42s | %8s | %8s |\n", "", "count", "per 1000");
     printf("|--------------------------------------------|----------|----------|\n");
     for (size_t i = 0; i < COUNT_OF(answer_rows); i++)
         missing += print_row(answer_rows[i].name, answer_rows[i].count,
-                             answer_rows[i].only_long && !is_long);
+                             (answer_rows[i].only_long && !is_long) || never(answer_rows[i].error, is_eight));
     for (size_t i = 0; i < COUNT_OF(reply_rows); i++)
-        missing += print_row(reply_rows[i].name, reply_rows[i].count, 0);
+        missing += print_row(reply_rows[i].name, reply_rows[i].count, never(reply_rows[i].error, is_eight));
     for (size_t i = 0; i < COUNT_OF(call_rows); i++)
         missing += print_row(call_rows[i].name, call_rows[i].count,
                              call_rows[i].only_long && !is_long);

@@ -1,5 +1,5 @@
 #!/bin/sh
-# Counts what the generated logs reach: seeds 1 to 20 at 1000 lines, then the long styles.
+# Counts what the generated logs reach: seeds 1 to 20 at 1000 lines on each board, then the long styles.
 cd "$(dirname "$0")" || exit 1
 work=$(mktemp -d) || exit 1
 trap 'rm -rf "$work"' EXIT
@@ -9,6 +9,13 @@ for seed in 1 2 3 4 5 6 7 8 9 10 11 12 13 14 15 16 17 18 19 20; do
 done
 echo "Seeds 1 to 20, 1000 lines each"
 ./coverage-count SHORT "$work"/short.* || exit 1
+
+for seed in 1 2 3 4 5 6 7 8 9 10 11 12 13 14 15 16 17 18 19 20; do
+    ./generate $seed 1000 0 8 >"$work/eight.$seed"
+done
+echo
+echo "The same on eight channels"
+./coverage-count EIGHT "$work"/eight.* || exit 1
 
 for seed in 1 2 3 4 5 6; do
     ./generate $seed 70000 11 >"$work/long.opens.$seed"

@@ -1,4 +1,5 @@
-/* Writes a hard random log to standard output: generate SEED LINES [STYLE].
+/* Writes a hard random log to standard output: generate SEED LINES [STYLE [CHANNELS]].
+   CHANNELS is 4, where it is left out, or 8.
    It plays its own log on an arbiter, so that it knows live keys, idle ids and waiting
    requests. Same arguments, same bytes, on every machine. */
 #include "chance.h"
@@ -65,6 +66,11 @@ static const struct Style styles[STYLES] = {
 
 static struct Arbiter state;
 
+static unsigned all_channels(void)
+{
+    return (1u << state.channels) - 1;
+}
+
 static int outstanding(unsigned id)
 {
     return state.request[id].command != 0;
@@ -92,20 +98,20 @@ static unsigned pick_id(int wanted)
 /* A channel that is allocated, from a random place on; any channel if there is none. */
 static unsigned pick_channel(void)
 {
-    unsigned c = below(CHANNELS);
+    unsigned c = below(state.channels);
 
-    for (unsigned tries = 0; tries < CHANNELS && state.channel[c].key == 0; tries++)
-        c = (c + 1) % CHANNELS;
+    for (unsigned tries = 0; tries < state.channels && state.channel[c].key == 0; tries++)
+        c = (c + 1) % state.channels;
     return c;
 }
 
 /* A channel that has a write, from a random place on; any channel if there is none. */
 static unsigned pick_playing(void)
 {
-    unsigned c = below(CHANNELS);
+    unsigned c = below(state.channels);
 
-    for (unsigned tries = 0; tries < CHANNELS && state.channel[c].writes.count == 0; tries++)
-        c = (c + 1) % CHANNELS;
+    for (unsigned tries = 0; tries < state.channels && state.channel[c].writes.count == 0; tries++)
+        c = (c + 1) % state.channels;
     return c;
 }
 
@@ -148,9 +154,9 @@ static unsigned pick_key(void)
 /* Mostly the channels of this key, all of them, some, or some more. */
 static unsigned pick_map(unsigned key)
 {
-    unsigned odds = below(100), random = below(ALL_CHANNELS + 1), own = 0;
+    unsigned odds = below(100), random = below(all_channels() + 1), own = 0;
 
-    for (unsigned c = 0; c < CHANNELS; c++)
+    for (unsigned c = 0; c < state.channels; c++)
         if (key != 0 && state.channel[c].key == key)
             own |= 1u << c;
     if (odds < 45)
@@ -182,8 +188,8 @@ static unsigned pick_combination(void)
     if (odds < 1)
         return 0;
     if (odds < 35)
-        return 1u << below(CHANNELS);
-    return 1 + below(ALL_CHANNELS);
+        return 1u << below(state.channels);
+    return 1 + below(all_channels());
 }
 
 static void pick_list(struct Frame *f, const struct Style *s)
@@ -519,23 +525,25 @@ static void follow_line(void)
 int main(int count, char **argument)
 {
     unsigned long lines, left = 0;
-    unsigned chosen = MIX, style = MIX;
+    unsigned chosen = MIX, style = MIX, channels = 4;
 
-    if (count < 3 || count > 4) {
-        fputs("usage: generate SEED LINES [STYLE]\n", stderr);
+    if (count < 3 || count > 5) {
+        fputs("usage: generate SEED LINES [STYLE [CHANNELS]]\n", stderr);
         for (unsigned i = 0; i < STYLES; i++)
             fprintf(stderr, "  style %2u: %s\n", i, styles[i].name);
         return 2;
     }
     chance_seed(strtoull(argument[1], NULL, 10));
     lines = strtoul(argument[2], NULL, 10);
-    if (count == 4)
+    if (count > 3)
         chosen = (unsigned)strtoul(argument[3], NULL, 10);
-    if (chosen >= STYLES) {
-        fputs("generate: no such style\n", stderr);
+    if (count > 4)
+        channels = (unsigned)strtoul(argument[4], NULL, 10);
+    if (chosen >= STYLES || (channels != 4 && channels != 8)) {
+        fputs("generate: no such style or board\n", stderr);
         return 2;
     }
-    arbiter_fresh(&state);
+    arbiter_fresh(&state, channels);
     style = chosen;
     if (chosen == MIX && lines >= LONG_LOG) {
         style = percent(50) ? OPENS : KEYS;

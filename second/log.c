@@ -102,3 +102,19 @@ void log_write_answer(FILE *out, const struct Answer *answer)
     byte[5] = answer->last;
     write_line(out, byte, sizeof byte);
 }
+
+void log_write_channels(FILE *out, const struct Arbiter *a)
+{
+    for (unsigned c = 0; c < a->channels; c++) {
+        const struct Channel *channel = &a->channel[c];
+        uint8_t byte[7] = {0xB0, 0, 0, 0, 0, 0, 0};
+
+        byte[1] = (uint8_t)c;
+        byte[2] = (uint8_t)(channel->key >> 8);
+        byte[3] = (uint8_t)(channel->key & 255);
+        byte[4] = (uint8_t)channel->precedence;
+        byte[5] = (uint8_t)(channel->locked + 2 * channel->stopped);
+        byte[6] = channel->writes.count;
+        write_line(out, byte, sizeof byte);
+    }
+}

@@ -23,4 +23,7 @@ struct Answer log_malformed(void);
 void log_write_reply(FILE *out, const struct Reply *reply);
 void log_write_answer(FILE *out, const struct Answer *answer);
 
+/* A line B0 for each channel of the board: its number, key, precedence, marks (1 locked, 2 stopped) and number of writes. */
+void log_write_channels(FILE *out, const struct Arbiter *a);
+
 #endif

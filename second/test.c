@@ -58,7 +58,7 @@ static int same_reply(size_t at, unsigned id, unsigned command, int error, unsig
 /* "Channel 0 key 5 precedence 10; 1 free; 2 and 3 key 6 precedence 3, 3 locked." */
 static void marked_state(struct Arbiter *a)
 {
-    arbiter_fresh(a);
+    arbiter_fresh(a, 4);
     a->open_count = 1;
     a->channel[0].key = 5;
     a->channel[0].precedence = 10;
@@ -128,7 +128,7 @@ static void test_most_candidates(void)
 {
     struct Arbiter a;
 
-    arbiter_fresh(&a);
+    arbiter_fresh(&a, 4);
     a.open_count = 1;
     a.last_key = 65500;
     for (unsigned c = 0; c < 4; c++)
@@ -149,7 +149,7 @@ static void test_most_replies(void)
 {
     struct Arbiter a;
 
-    arbiter_fresh(&a);
+    arbiter_fresh(&a, 4);
     a.open_count = 1;
     call(&a, ADCMD_ALLOCATE, 0, IOF_QUICK, 0, 1, 8, "\3");
     for (unsigned id = 0; id < REQUESTS; id++)
@@ -397,9 +397,43 @@ static void test_stereo(void)
     check(!accepts(3, 0, "", 0), "no list at all is accepted for 3");
 }
 
+/* #111: maps 0 to 255, no -5, the lowest of eight bits, 73 candidates, and which boards there are. */
+static void test_eight(void)
+{
+    struct Arbiter a, b;
+
+    arbiter_fresh(&a, 8);
+    a.open_count = 1;
+    check(same_answer(call(&a, ADCMD_ALLOCATE, 0, IOF_QUICK, 0, 1, 5, "\360"), 0, 0, 0xF0, 5, 255), "map F0 on eight");
+    check(same_answer(call(&a, CMD_WRITE, 1, 0, 0xC0, 0, 5, ""), 1, 0, 0, 5, 255) && a.channel[6].writes.count == 1,
+          "the lowest of eight bits");
+    check(same_answer(call(&a, CALL_EVENT, 0, 0, 0x80, 0, 0, ""), 0, 0, 0, 0, 255), "an event on another channel");
+    check(same_answer(call(&a, ADCMD_LOCK, 2, 0, 0xF0, 0, 5, ""), 1, 0, 0, 5, 255), "a lock over the upper four");
+    check(arbiter_sound(&a), "eight channels are sound");
+    b = a;
+    b.channels = 4;
+    check(!arbiter_sound(&b), "a channel behind the board that is not free");
+    b.channels = 5;
+    check(!arbiter_sound(&b), "five channels");
+    check(same_answer(call(&a, CALL_CLOSE, 0, 0, 0, 0, 5, ""), 0, 0, 0, 5, 255) && a.channel[7].key == 0,
+          "CLOSE frees the eighth channel");
+    arbiter_fresh(&a, 8);
+    a.open_count = 1;
+    for (unsigned c = 0; c < 8; c++)
+        call(&a, ADCMD_ALLOCATE, 0, IOF_QUICK, 0, 1, 1 + c, "\1\2\4\10\20\40\100\200");
+    for (unsigned id = 0; id < REQUESTS; id++)
+        call(&a, ADCMD_ALLOCATE, id, 0, 0, 0, 9 + id, "\377");
+    check(a.waiting.count == REQUESTS && arbiter_sound(&a), "64 wait on eight channels");
+    check(arbiter_new_key(&a) == 73, "the 73rd candidate");
+    arbiter_fresh(&a, 4);
+    a.open_count = 1;
+    check(same_answer(call(&a, ADCMD_ALLOCATE, 0, IOF_QUICK, 0, 1, 5, "\20"), 0, -5, 0, 5, 255), "map 10 on four");
+}
+
 int main(void)
 {
     test_marked();
+    test_eight();
     test_most_candidates();
     test_most_replies();
     test_refusals();

@@ -9,6 +9,12 @@
 #include <stdlib.h>
 #include <string.h>
 
+/* The board: 4 channels, or 8 where the compiler is told so. */
+#ifndef CHANNELS
+#define CHANNELS 4
+#endif
+#define ALL_CHANNELS ((1u << CHANNELS) - 1u)
+
 /* ---- Sound states by chance ---- */
 
 static uint16_t keys[3];                /* the keys that this state and its call use */
@@ -124,7 +130,7 @@ static void make_state(struct Arbiter *a)
     unsigned locks = below(3), waiting = percent(90) ? 1 + below(4) : 0;
     int8_t order[4];
 
-    arbiter_fresh(a);
+    arbiter_fresh(a, CHANNELS);
     memset(used, 0, sizeof used);
     a->last_key = lasts[below(6)];
     keys[0] = (uint16_t)(1 + a->last_key % 65535u);         /* the next to be issued */
@@ -615,7 +621,7 @@ static void put_log(const char *name)
     size_t length = 0;
     int c;
 
-    arbiter_fresh(&after);
+    arbiter_fresh(&after, CHANNELS);
     printf("\nabbrev pub %s-lines : Talk\n%s-lines =\n    ", name, name);
     do {
         c = getchar();

@@ -78,6 +78,7 @@ elif linker_ready; then
     tried "the header's numbers are the library's" /dev/null tests/header.c /dev/null
     tried "document 01's log through the library" tests/log.out tests/log.c tests/log.in
     tried "the example desk" examples/desk.out examples/desk.c /dev/null
+    tried "the example desk on eight channels" examples/eight.out examples/eight.c /dev/null
     tried "the example desk that wants stereo" examples/stereo.out examples/stereo.c /dev/null
     quoted c >"$work/page.c"
     quoted text >"$work/page.out"

@@ -1,4 +1,4 @@
-/* Any bytes through the library, held against the second program: fuzz SEED TRIES <LOG.
+/* Any bytes through the library, held against the second program: fuzz SEED TRIES CHANNELS <LOG. CHANNELS is 4 or 8, the board's.
  *
  * The log's frames lead through good states. Each frame is called on the good state, and TRIES times more on a copy whose state,
  * table, numbers or lengths are damaged. What must come back is worked out from the second program: the bytes are translated into
@@ -51,6 +51,7 @@ static unsigned long count[COUNTS];
 static unsigned long answered[2][256], replied[256];        /* by error; answers: done, outstanding */
 
 static unsigned long seed, line, try;
+static unsigned board;                      /* how many channels the good states have */
 
 /* ---- Memory to lend */
 
@@ -181,7 +182,7 @@ static void put_entry(uint8_t *b, const struct Request *q)
 static void read_all(struct Arbiter *a, const uint8_t *state, const uint8_t *table)
 {
     memset(a, 0, sizeof *a);
-    for (unsigned c = 0; c < CHANNELS; c++) {
+    for (unsigned c = 0; c < MOST_CHANNELS; c++) {
         const uint8_t *b = state + c * QAMHUDEER_CHANNEL_SIZE;
 
         a->channel[c].key = key_at(b + QAMHUDEER_CHANNEL_KEY);
@@ -192,6 +193,7 @@ static void read_all(struct Arbiter *a, const uint8_t *state, const uint8_t *tab
     }
     read_queue(&a->locks, state + QAMHUDEER_OFFSET_OF_LOCKS);
     read_queue(&a->waiting, state + QAMHUDEER_OFFSET_OF_WAITING);
+    a->channels = state[QAMHUDEER_OFFSET_OF_CHANNELS];
     a->open_count = key_at(state + QAMHUDEER_OFFSET_OF_OPENS);
     a->last_key = key_at(state + QAMHUDEER_OFFSET_OF_LAST);
     for (unsigned id = 0; id < REQUESTS; id++)
@@ -200,7 +202,7 @@ static void read_all(struct Arbiter *a, const uint8_t *state, const uint8_t *tab
 
 static void put_all(uint8_t *state, uint8_t *table, const struct Arbiter *a)
 {
-    for (unsigned c = 0; c < CHANNELS; c++) {
+    for (unsigned c = 0; c < MOST_CHANNELS; c++) {
         uint8_t *b = state + c * QAMHUDEER_CHANNEL_SIZE;
 
         put_key(b + QAMHUDEER_CHANNEL_KEY, a->channel[c].key);
@@ -211,6 +213,7 @@ static void put_all(uint8_t *state, uint8_t *table, const struct Arbiter *a)
     }
     put_queue(state + QAMHUDEER_OFFSET_OF_LOCKS, &a->locks);
     put_queue(state + QAMHUDEER_OFFSET_OF_WAITING, &a->waiting);
+    state[QAMHUDEER_OFFSET_OF_CHANNELS] = a->channels;
     put_key(state + QAMHUDEER_OFFSET_OF_OPENS, a->open_count);
     put_key(state + QAMHUDEER_OFFSET_OF_LAST, a->last_key);
     for (unsigned id = 0; id < REQUESTS; id++)
@@ -223,7 +226,7 @@ static int decodes(const struct Bytes *state)
 {
     if (state->length != QAMHUDEER_STATE_SIZE)
         return 0;
-    for (unsigned c = 0; c < CHANNELS; c++) {
+    for (unsigned c = 0; c < MOST_CHANNELS; c++) {
         const uint8_t *b = state->byte + c * QAMHUDEER_CHANNEL_SIZE;
 
         if (b[QAMHUDEER_CHANNEL_LOCKED] > 1 || b[QAMHUDEER_CHANNEL_STOPPED] > 1)
@@ -398,22 +401,23 @@ static void make_call(struct Call *c, int damaged)
     tell_apart(&before, c, result, damaged);
 }
 
-/* A fresh device in memory of any size. */
-static void make_fresh(const struct Call *c)
+/* A fresh device with any number of channels, in memory of any size. */
+static void make_fresh(const struct Call *c, unsigned channels)
 {
     static struct Call after;
-    int fits = c->piece[STATE].length == QAMHUDEER_STATE_SIZE && c->piece[TABLE].length == QAMHUDEER_TABLE_SIZE;
+    int fits = (channels == 4 || channels == 8) && c->piece[STATE].length == QAMHUDEER_STATE_SIZE
+        && c->piece[TABLE].length == QAMHUDEER_TABLE_SIZE;
     uint8_t result;
     struct Arbiter a;
 
     after = *c;
     if (fits) {
-        arbiter_fresh(&a);
+        arbiter_fresh(&a, channels);
         put_all(after.piece[STATE].byte, after.piece[TABLE].byte, &a);
     }
     lend(&lent[STATE], &c->piece[STATE]);
     lend(&lent[TABLE], &c->piece[TABLE]);
-    result = qamhudeer_fresh(lent[STATE].at, lent[STATE].length, lent[TABLE].at, lent[TABLE].length);
+    result = qamhudeer_fresh((uint8_t)channels, lent[STATE].at, lent[STATE].length, lent[TABLE].at, lent[TABLE].length);
     count[FRESH]++;
     if (result != !fits) {
         printf("DIFFERENT: a fresh device returns %u\n", result);
@@ -494,14 +498,14 @@ static void damage_numbers(struct Call *c)
     }
 }
 
-/* One of the six queues. */
+/* One of the queues of the board. */
 static uint8_t *any_queue(uint8_t *state)
 {
-    unsigned q = below(6);
+    unsigned q = below(board + 2);
 
-    if (q < CHANNELS)
+    if (q < board)
         return state + q * QAMHUDEER_CHANNEL_SIZE + QAMHUDEER_CHANNEL_WRITES;
-    return state + (q == 4 ? QAMHUDEER_OFFSET_OF_LOCKS : QAMHUDEER_OFFSET_OF_WAITING);
+    return state + (q == board ? QAMHUDEER_OFFSET_OF_LOCKS : QAMHUDEER_OFFSET_OF_WAITING);
 }
 
 /* The entry of a request that is outstanding, from a random one on; any if there is none. */
@@ -521,9 +525,9 @@ static uint8_t *telling_byte(uint8_t *state, uint8_t *table)
     uint8_t *queue;
 
     if (odds < 3)
-        return state + at % CHANNELS * QAMHUDEER_CHANNEL_SIZE + at / CHANNELS % QAMHUDEER_CHANNEL_WRITES;
+        return state + at % MOST_CHANNELS * QAMHUDEER_CHANNEL_SIZE + at / MOST_CHANNELS % QAMHUDEER_CHANNEL_WRITES;
     if (odds < 4)
-        return state + QAMHUDEER_OFFSET_OF_OPENS + at % 4;
+        return state + QAMHUDEER_OFFSET_OF_OPENS + at % 5;  /* the last of them is how many channels there are */
     if (odds < 6) {
         queue = any_queue(state);
         return queue + at % ((queue[0] < REQUESTS ? queue[0] : REQUESTS - 1) + 2u);
@@ -552,7 +556,7 @@ static void damage_byte(uint8_t *b)
 /* Numbers that a good state may have at any time, in places no log puts them: sound, but not settled. */
 static void unsettle(uint8_t *state, uint8_t *table)
 {
-    unsigned c = below(CHANNELS), value = below(256), odds = below(8);
+    unsigned c = below(board), value = below(256), odds = below(8);
     uint8_t *channel = state + c * QAMHUDEER_CHANNEL_SIZE, *entry = any_entry(table);
     int taken = key_at(channel) != 0;
 
@@ -564,19 +568,21 @@ static void unsettle(uint8_t *state, uint8_t *table)
         channel[QAMHUDEER_CHANNEL_LOCKED] ^= 1;
     else if (odds == 5)
         put_key(state + QAMHUDEER_OFFSET_OF_OPENS, (uint16_t)(value < 80 ? 0 : value < 180 ? 65535 : 1));
+    else if (odds == 6 && value % 8 == 0)
+        state[QAMHUDEER_OFFSET_OF_CHANNELS] ^= 12;          /* 4 becomes 8, and 8 becomes 4 */
     else if (odds == 6)
         put_key(state + QAMHUDEER_OFFSET_OF_LAST, (uint16_t)(value < 128 ? 65535 - value % 4 : value % 8));
     else if (entry[0] == ADCMD_ALLOCATE && value < 128)
         entry[5] ^= 1;
     else if (entry[0] == ADCMD_ALLOCATE && entry[6] > 0)
-        entry[7 + value % (entry[6] <= COMBINATIONS ? entry[6] : COMBINATIONS)] = (uint8_t)below(16);
+        entry[7 + value % (entry[6] <= COMBINATIONS ? entry[6] : COMBINATIONS)] = (uint8_t)below(1u << board);
 }
 
 /* Two ids of a queue change places, a channel stands where another stood, or an entry in another's. */
 static void mix_up(uint8_t *state, uint8_t *table)
 {
     unsigned odds = below(3), one = below(REQUESTS), two = below(REQUESTS);
-    uint8_t *to = state + one % CHANNELS * QAMHUDEER_CHANNEL_SIZE, *from = state + two % CHANNELS * QAMHUDEER_CHANNEL_SIZE;
+    uint8_t *to = state + one % MOST_CHANNELS * QAMHUDEER_CHANNEL_SIZE, *from = state + two % MOST_CHANNELS * QAMHUDEER_CHANNEL_SIZE;
     uint8_t *queue = any_queue(state), kept;
 
     if (odds == 0 && queue[0] >= 2 && queue[0] <= REQUESTS) {
@@ -602,7 +608,7 @@ static void damage_all(struct Call *c)
     if (odds != 1)
         fill(&c->piece[TABLE], QAMHUDEER_TABLE_SIZE);
     if (odds != 0 && percent(50))
-        for (unsigned k = 0; k < CHANNELS; k++) {
+        for (unsigned k = 0; k < MOST_CHANNELS; k++) {
             c->piece[STATE].byte[k * QAMHUDEER_CHANNEL_SIZE + QAMHUDEER_CHANNEL_LOCKED] &= 1;
             c->piece[STATE].byte[k * QAMHUDEER_CHANNEL_SIZE + QAMHUDEER_CHANNEL_STOPPED] &= 1;
         }
@@ -673,7 +679,7 @@ static void try_damaged(const struct Frame *f)
     take_frame(&c, f);
     damage(&c);
     if (percent(2))
-        make_fresh(&c);
+        make_fresh(&c, percent(60) ? board : below(percent(50) ? 12 : 256));
     make_call(&c, !same_bytes(&c.piece[STATE], &whole.piece[STATE]) || !same_bytes(&c.piece[TABLE], &whole.piece[TABLE]));
     if (c.piece[ANSWER].length == QAMHUDEER_ANSWER_SIZE && is_sound(&c, &a))
         stray = c;
@@ -696,8 +702,10 @@ int main(int words, char **word)
     enum Line kind;
     unsigned long tries;
 
-    if (words != 3) {
-        fputs("usage: fuzz SEED TRIES <LOG\n", stderr);
+    if (words == 4)
+        board = (unsigned)strtoul(word[3], NULL, 10);
+    if (board != 4 && board != 8) {
+        fputs("usage: fuzz SEED TRIES 4|8 <LOG\n", stderr);
         return 2;
     }
     seed = strtoul(word[1], NULL, 10);
@@ -709,7 +717,7 @@ int main(int words, char **word)
     signal(SIGILL, touched);
     fill(&good.piece[STATE], QAMHUDEER_STATE_SIZE);
     fill(&good.piece[TABLE], QAMHUDEER_TABLE_SIZE);
-    make_fresh(&good);
+    make_fresh(&good, board);
     memcpy(good.piece[STATE].byte, lent[STATE].at, QAMHUDEER_STATE_SIZE);
     memcpy(good.piece[TABLE].byte, lent[TABLE].at, QAMHUDEER_TABLE_SIZE);
     stray = good;

@@ -5,7 +5,7 @@
 #   tests/fuzz.sh gate             the fixed set of the gate, then the wrong programs. Its last line is 'N passed, M failed'
 #   tests/fuzz.sh wrong            only the wrong programs
 #
-# The logs are made by second/generate, in each of its styles, and lead through good states. Each of their calls is also
+# The logs are made by second/generate, in each of its styles, for both boards in turn, and lead through good states. Each of their calls is also
 # made on eight damaged copies. The same words give the same calls on every machine. At a difference it says how to make it
 # again, and shows the call.
 #
@@ -68,7 +68,8 @@ log() {
     number=$1
     set -- $styles
     shift $((number % $#))
-    made="$((seed * 100000 + number)) $lines $1"
+    board=$((4 + number % 2 * 4))
+    made="$((seed * 100000 + number)) $lines $1 $board"
     second/generate $made >"$work/log" || die "second/generate $made fails"
 }
 
@@ -78,12 +79,12 @@ play_logs() {
     limit 300
     while [ $at -lt "$count" ]; do
         log $at
-        if run_c "$work/fuzz" ${made%% *} $tries <"$work/log" >"$work/said" 2>&1; then
+        if run_c "$work/fuzz" ${made%% *} $tries $board <"$work/log" >"$work/said" 2>&1; then
             passed=$((passed + 1))
             cat "$work/said" >>"$work/counts"
         else
             failed=$((failed + 1))
-            echo "DIFFERENT: log $at of seed $seed: second/generate $made | fuzz ${made%% *} $tries"
+            echo "DIFFERENT: log $at of seed $seed: second/generate $made | fuzz ${made%% *} $tries $board"
             [ $failed -gt 3 ] || grep -v '^count' "$work/said"
         fi
         at=$((at + 1))
@@ -144,7 +145,7 @@ must_differ() {
     fi
     at=0
     log 0
-    while [ $at -lt 15 ] && run_c "$work/wrong" ${made%% *} $tries <"$work/log" >"$work/said" 2>&1; do
+    while [ $at -lt 15 ] && run_c "$work/wrong" ${made%% *} $tries $board <"$work/log" >"$work/said" 2>&1; do
         at=$((at + 1))
         log $at
     done
@@ -201,6 +202,9 @@ play_wrong() {
     wrong "65,535 is followed by 2" $arbiter 'LAST_OF_KEYS ? 1' 'LAST_OF_KEYS ? 2'
     wrong "63 records are enough" $arbiter 'r->capacity < REQUESTS' 'r->capacity < REQUESTS - 1'
     wrong "sixteen combinations are too many" $arbiter 'f->length > COMBINATIONS' 'f->length >= COMBINATIONS'
+    wrong "a map of 16 is beyond eight channels" $arbiter 'return (1u << a->channels) - 1u;' 'return 15u;'
+    wrong "five channels are a board" $arbiter 'a->channels != 4 && a->channels != 8' 'a->channels < 4 || a->channels > 8'
+    wrong "a channel behind the board need not be free" $arbiter '(c >= a->channels && a->channel[c].key != 0)' '(c > 8 && a->channel[c].key != 0)'
     wrong "any bytes behind a queue are sound" $arbiter 'return all_zero(&list->id[list->count], REQUESTS - list->count);' 'return 1;'
     wrong "an id in two places is sound" $arbiter 'id >= REQUESTS || met[id] ||' 'id >= REQUESTS ||'
     wrong "any order of the waiting is sound" $arbiter 'precedence < q->precedence' 'precedence < -128'

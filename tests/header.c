@@ -22,7 +22,7 @@ static void places(void)
     const uint8_t *c = state + 2 * QAMHUDEER_CHANNEL_SIZE;
 #define CALL(op, id, map, prec, key, combos, n)                                                                                  \
     qamhudeer_call(op, id, 0, map, prec, key, combos, n, state, sizeof state, table, sizeof table, replies, sizeof replies, answer, sizeof answer)
-    same("fresh", 0, qamhudeer_fresh(state, sizeof state, table, sizeof table));
+    same("fresh", 0, qamhudeer_fresh(4, state, sizeof state, table, sizeof table));
     CALL(QAMHUDEER_OPEN, 0, 0, 0, 258, combos, 0);
     CALL(ADCMD_ALLOCATE, 1, 0, 5, 258, combos, 1);
     CALL(CMD_STOP, 2, 4, 0, 258, combos, 0);
@@ -41,7 +41,31 @@ static void places(void)
     same("waiting", 1, state[QAMHUDEER_OFFSET_OF_WAITING]);
     same("first waiting", 11, state[QAMHUDEER_OFFSET_OF_WAITING + 1]);
     same("open count", 2, 256u * state[QAMHUDEER_OFFSET_OF_OPENS] + state[QAMHUDEER_OFFSET_OF_OPENS + 1]);
+    same("channels", 4, state[QAMHUDEER_OFFSET_OF_CHANNELS]);
     same("last key", 1, 256u * state[QAMHUDEER_OFFSET_OF_LAST] + state[QAMHUDEER_OFFSET_OF_LAST + 1]);
+}
+
+/* A map of 16 is beyond four channels, and on eight it is channel 4. */
+static void boards(void)
+{
+    static uint8_t state[QAMHUDEER_STATE_SIZE], table[QAMHUDEER_TABLE_SIZE], replies[QAMHUDEER_REPLIES_SIZE], answer[QAMHUDEER_ANSWER_SIZE];
+    static const uint8_t combos[1] = {16};
+    static const int error[2] = {IOERR_BADADDRESS, 0};
+    unsigned board;
+
+    for (board = 0; board < 2; board++) {
+        same("fresh", 0, qamhudeer_fresh((uint8_t)(4 + 4 * board), state, sizeof state, table, sizeof table));
+        same("channels", 4 + 4 * board, state[QAMHUDEER_OFFSET_OF_CHANNELS]);
+        CALL(QAMHUDEER_OPEN, 0, 0, 5, 258, combos, 1);
+        same("map 16", (size_t)(256 + error[board]), (size_t)(256 + QAMHUDEER_ERROR(answer[QAMHUDEER_ANSWER_ERROR])));
+        same("channel 4", 258 * board, 256u * state[4 * QAMHUDEER_CHANNEL_SIZE] + state[4 * QAMHUDEER_CHANNEL_SIZE + 1]);
+    }
+    state[QAMHUDEER_OFFSET_OF_CHANNELS] = 4; /* channel 4 is not free */
+    CALL(QAMHUDEER_CLOSE, 0, 0, 0, 258, combos, 0);
+    same("behind the board", QAMHUDEER_UNSOUND, answer[QAMHUDEER_ANSWER_ERROR]);
+    state[QAMHUDEER_OFFSET_OF_CHANNELS] = 5;
+    CALL(QAMHUDEER_CLOSE, 0, 0, 0, 258, combos, 0);
+    same("five channels", QAMHUDEER_UNSOUND, answer[QAMHUDEER_ANSWER_ERROR]);
 }
 
 /* What is refused changes nothing but the answer. */
@@ -54,11 +78,12 @@ static void refusals(void)
 #define KEEP() (memcpy(state0, state, sizeof state), memcpy(table0, table, sizeof table), memcpy(replies0, replies, sizeof replies))
 #define KEPT(name)                                                                                                               \
     same(name, 0, (size_t)(memcmp(state0, state, sizeof state) || memcmp(table0, table, sizeof table) || memcmp(replies0, replies, sizeof replies)))
-    same("fresh", 0, qamhudeer_fresh(state, sizeof state, table, sizeof table));
+    same("fresh", 0, qamhudeer_fresh(4, state, sizeof state, table, sizeof table));
     memset(replies, 77, sizeof replies);
     KEEP();
-    same("fresh, state too short", 1, qamhudeer_fresh(state, sizeof state - 1, table, sizeof table));
-    same("fresh, table too short", 1, qamhudeer_fresh(state, sizeof state, table, sizeof table - 1));
+    same("fresh, of five channels", 1, qamhudeer_fresh(5, state, sizeof state, table, sizeof table));
+    same("fresh, state too short", 1, qamhudeer_fresh(4, state, sizeof state - 1, table, sizeof table));
+    same("fresh, table too short", 1, qamhudeer_fresh(4, state, sizeof state, table, sizeof table - 1));
     same("no room", QAMHUDEER_UNANSWERED, qamhudeer_call(QAMHUDEER_OPEN, 0, 0, 0, 0, 0, answer, 0, state, sizeof state, table, sizeof table, replies, sizeof replies, answer, 5));
     same("too much room", QAMHUDEER_UNANSWERED, qamhudeer_call(QAMHUDEER_OPEN, 0, 0, 0, 0, 0, answer, 0, state, sizeof state, table, sizeof table, replies, sizeof replies, answer, 7));
     same("no answer", 0, (size_t)memcmp(answer, zeros, sizeof answer));
@@ -98,8 +123,10 @@ int main(void)
     same("waiting", QAMHUDEER_OFFSET_OF_WAITING, qamhudeer_offset_of_waiting());
     same("opens", QAMHUDEER_OFFSET_OF_OPENS, qamhudeer_offset_of_opens());
     same("last", QAMHUDEER_OFFSET_OF_LAST, qamhudeer_offset_of_last());
+    same("channels", QAMHUDEER_OFFSET_OF_CHANNELS, qamhudeer_offset_of_channels());
     same("a reply list of 64", QAMHUDEER_REPLIES_SIZE, 64 * QAMHUDEER_REPLY_SIZE);
     places();
+    boards();
     refusals();
     return wrong;
 }

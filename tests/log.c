@@ -65,7 +65,7 @@ int main(void)
     static char line[4096];
     size_t n = 0;
     int c, any = 0;
-    if (qamhudeer_fresh(state, sizeof state, table, sizeof table) != 0)
+    if (qamhudeer_fresh(4, state, sizeof state, table, sizeof table) != 0)
         return 1;
     while ((c = getchar()) != EOF) {
         any = c != '\n';

@@ -2,10 +2,10 @@
 //
 // A line has words, a space apart, each a sign and the bytes that it spells, and then the trial's name. Bytes left out are 0. A letter
 // changes what the call is given:
-//   N                     a fresh device
+//   N n                   a fresh device of n channels; 0, or left out, is four
 //   B id k b              byte k of the id's entry in the table; id 64 stands behind the 64 that are lent
 //   C i key prec l s      the numbers of channel i: key (two bytes), precedence, lock mark, stop mark
-//   W i n k id            the writes of channel i (the locks at 4, the waiting requests at 5): their count, and the id at place k
+//   W i n k id            the writes of channel i (the locks at 8, the waiting requests at 9): their count, and the id at place k
 //   O n                   the open count (two bytes)
 //   T n, R n              how many bytes of the table and of the reply list are lent (three bytes)
 //   Z n                   so many combinations 0, in the place of the frame's (three bytes)
@@ -79,7 +79,7 @@ fn step(p: Stage, text: &[u8]) -> Stage {
 }
 
 fn play_all(text: &[u8]) {
-    let s = Scene::new();
+    let s = Scene::new(0);
     let mut p = Stage {
         kept: s,
         now: s,

@@ -1,5 +1,5 @@
-// Whether two states, or two runs of bytes, are the same. Assumes nothing.
-use store::State;
+// Whether two boards, or two runs of bytes, are the same. Assumes nothing.
+use board::Board;
 
 // From `from` on, two slices have the same bytes.
 pub fn bytes(a: &[u8], b: &[u8], from: usize) -> bool {
@@ -16,10 +16,10 @@ pub fn bytes(a: &[u8], b: &[u8], from: usize) -> bool {
     true
 }
 
-// Two states are the same where their bytes are.
-pub fn states(s: State, t: State) -> bool {
-    let mut a = [0u8; 414];
-    let mut b = [0u8; 414];
+// Two boards are the same where their bytes are.
+pub fn states(s: Board, t: Board) -> bool {
+    let mut a = [0u8; 695];
+    let mut b = [0u8; 695];
     saving::save(s, &mut a);
     saving::save(t, &mut b);
     bytes(&a, &b, 0)

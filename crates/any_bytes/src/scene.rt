@@ -2,17 +2,18 @@
 use crate::same;
 use crate::words;
 use crate::words::at;
-use answers::Outcome;
 use answers::Request;
+use board::Board;
+use board::Outcome;
 use channel::Channel;
 use queue::Queue;
 use store::State;
 ghost use Prim.Native.Nat.{_≤_};
 
-// A state, the bytes of which the first `lent` are lent as the table, how many bytes of reply list are lent, and how many zeros
+// A board, the bytes of which the first `lent` are lent as the table, how many bytes of reply list are lent, and how many zeros
 // stand in the place of the frame's combinations, if any do.
 pub struct Scene {
-    pub state: State,
+    pub board: Board,
     pub table: [u8; 1500],
     pub lent: usize,
     pub room: usize,
@@ -54,7 +55,7 @@ fn pattern() -> [u8; 400] {
 
 // The call, on the first bytes of the table and of the reply list.
 fn cut(
-    s: State,
+    s: Board,
     w: &[u8],
     n: usize,
     table: &mut [u8],
@@ -78,7 +79,7 @@ fn cut(
 
 // The same with arrays, whose lengths need no proof.
 fn make(
-    s: State,
+    s: Board,
     w: &[u8],
     n: usize,
     table: &mut [u8; 1500],
@@ -91,7 +92,7 @@ fn make(
 
 fn tell(
     d: Outcome,
-    s: State,
+    s: Board,
     before: &[u8; 1500],
     table: &[u8; 1500],
     clean: &[u8; 400],
@@ -129,10 +130,12 @@ fn edited(q: Queue, w: &[u8]) -> Queue {
 }
 
 impl Scene {
-    pub fn new() -> Self {
-        let state = State::fresh();
+    // Any number of channels may be said, and 0 is four.
+    pub fn new(channels: u8) -> Self {
+        let width = if channels == 0 { Board::FOUR } else { channels };
+        let board = Board::fresh(width);
         Scene {
-            state,
+            board,
             table: [0u8; 1500],
             lent: 1472,
             room: 390,
@@ -151,7 +154,7 @@ impl Scene {
 
     // Makes the call of a frame and the combinations behind it, n bytes, says what came of it, and hands on what it left.
     pub fn call(self, w: &[u8], n: usize) -> Self {
-        let s = self.state;
+        let s = self.board;
         let before = self.table;
         let mut table = self.table;
         let clean = pattern();
@@ -160,7 +163,7 @@ impl Scene {
         tell(d, s, &before, &table, &clean, &list);
         let t = d.state;
         Scene {
-            state: t,
+            board: t,
             table,
             lent: self.lent,
             room: self.room,
@@ -179,21 +182,31 @@ impl Scene {
         self
     }
 
+    fn state(self) -> State {
+        let b = self.board;
+        b.state
+    }
+
     fn with_state(mut self, s: State) -> Self {
-        self.state = s;
+        let b = self.board;
+        let c = Board {
+            width: b.width,
+            state: s,
+        };
+        self.board = c;
         self
     }
 
     fn with_opens(self, opens: u16) -> Self {
-        let mut s = self.state;
+        let mut s = self.state();
         s.opens = opens;
         self.with_state(s)
     }
 
     fn with_channel(self, i: usize, c: Channel) -> Self {
-        let mut s = self.state;
+        let mut s = self.state();
         let mut cs = s.channels;
-        if i < 4 {
+        if i < 8 {
             cs[i] = c;
         }
         s.channels = cs;
@@ -201,31 +214,31 @@ impl Scene {
     }
 
     fn channel(self, i: usize) -> Channel {
-        let s = self.state;
+        let s = self.state();
         let cs = s.channels;
-        if i < 4 { cs[i] } else { Channel::unused() }
+        if i < 8 { cs[i] } else { Channel::unused() }
     }
 
-    // The writes of a channel, the locks at place 4, the waiting requests at any other.
+    // The writes of a channel, the locks at place 8, the waiting requests at any other.
     fn queue(self, place: usize) -> Queue {
-        let s = self.state;
+        let s = self.state();
         let c = self.channel(place);
         let writes = c.writes;
         let locks = s.locks;
         let waiting = s.waiting;
-        if place < 4 {
+        if place < 8 {
             return writes;
         }
-        if place == 4 { locks } else { waiting }
+        if place == 8 { locks } else { waiting }
     }
 
     fn with_queue(self, place: usize, q: Queue) -> Self {
-        if place < 4 {
+        if place < 8 {
             let c = self.channel(place);
             return self.with_channel(place, c.with_writes(q));
         }
-        let mut s = self.state;
-        if place == 4 {
+        let mut s = self.state();
+        if place == 8 {
             s.locks = q;
         } else {
             s.waiting = q;
@@ -269,7 +282,7 @@ impl Scene {
     pub fn changed(self, kind: u8, w: &[u8]) -> Self {
         let first = at(w, 0);
         match kind {
-            b'N' => Scene::new(),
+            b'N' => Scene::new(first),
             b'B' => self.with_byte(place(first, at(w, 1)), at(w, 2)),
             b'C' => self.with_numbers(words::large(first), w),
             b'W' => self.with_edit(words::large(first), w),

@@ -1,5 +1,5 @@
--- Why refusal, operation and settling make the machine's call: what is refused with a number, what is not, and what the state
--- before settling gives. Assumes nothing.
+-- Why refusal, operation and settling make the machine's call on eight channels: what is refused with a number, what is not, and
+-- what the state before settling gives. Assumes nothing.
 use Prim.Native.Nat.{ℕ, zero, suc, _+_, _≤_, _<_}
 use mathlib.Core.Path.{_≡_, refl, ap, ap₂, sym, _∙_}
 use mathlib.Core.Bool.{Bool, true, false, not, _&&_}
@@ -32,8 +32,7 @@ use Rattle.reply.proofs.Laws.{sent-append, length-sent}
 use Rattle.store.specs.declared.State.{State}
 use Rattle.store.specs.Store.{stateIn, Held}
 use Rattle.store.specs.Work.{Ready, Did}
-use Rattle.store.proofs.Store.{held-parts, held-four, held-next}
-use Rattle.sound.specs.Sound.{Decides}
+use Rattle.store.proofs.Store.{held-parts, held-eight, held-next}
 use Rattle.answers.specs.declared.Request.{Request}
 use Rattle.answers.specs.declared.Answer.{Answer}
 use Rattle.answers.specs.declared.Outcome.{Outcome}
@@ -41,11 +40,10 @@ use Rattle.answers.specs.Answers.{Told}
 use Rattle.answers.proofs.Laws.{told-as}
 use Rattle.refusals.specs.declared.Op.{Op}
 use Rattle.refusals.specs.declared.Op.the-variants.{Open, Close, Abort, Event, Command}
-use Rattle.refusals.specs.Refusals.{opIn, askedOf, Refuses}
+use Rattle.refusals.specs.Refusals.{opIn, askedOf}
 use Rattle.steps.specs.Steps.{numberOf}
 use Rattle.operations.specs.Operations.{act, Allowed}
-use Rattle.refusing.proofs.Laws.{false-true}
-use Rattle.arbiter.specs.Arbiter.{restsAt, Unmoved, Called}
+use Rattle.arbiter.specs.Arbiter.{restsAt, decisionOf, Decided}
 use Rattle.refusing.specs.Refusing.{dueReplies, Refused}
 
 -- ---- the number of a refusal
@@ -83,7 +81,7 @@ zero-accepted (COMMAND n) c s q = first-nonzero _ (unfold all in tt) q
 second-past : (a b : Bool) (ts : List (Bool × ℕ)) (e : ℕ) → first ((a, 1) ∷ (b, 5) ∷ ts) ≡ refused e → 5 < e → T (not b)
 second-past a b ts e q h = first-past (b, 5) ts e (first-past (a, 1) ((b, 5) ∷ ts) e q (λ z. omega arith) .1) (λ z. omega arith) .0
 
-late-room : (o : OpM) (c : Call) (s : StateM) (e : ℕ) → refusal o c s ≡ refused e → 5 < e → 64 ≤ c .room
+pub late-room : (o : OpM) (c : Call) (s : StateM) (e : ℕ) → refusal o c s ≡ refused e → 5 < e → 64 ≤ c .room
 unfolding refusal
 late-room o c s e q h = nltb→le (c .room) 64 (go o q)
   where
@@ -107,10 +105,6 @@ accepted-room o c s q = nltb→le (c .room) 64 (go o q)
 
 -- ---- a call that is refused
 
-refused-call : (s : StateM) (c : Call) (e : ℕ) → refusal (c .op) c s ≡ refused e → call s c ≡ refuse (c .op) e c s
-unfolding call answering
-refused-call s c e q = rw q
-
 refuse-due : (o : Op) (e : ℕ) (r : Request) (ms : List ℕ) (len : ℕ) (s : StateM) → refuse (opIn o (r .command)) e (askedOf o r ms len) s
     ≡ record { answer = done e 0 (r .key) 255; replies = dueReplies o e r; next = s }
 unfolding refuse silent finished
@@ -121,27 +115,33 @@ refuse-due Event e r ms len s = refl
 refuse-due Command e r ms len s =
     by-test (leb e 5) (λ t. rw (test-true (leb e 5) t, le-ltb 5 e (leb→le e 5 t))) (λ t. rw (test-false (leb e 5) t, lt-ltb 5 e (nleb→lt e 5 t)))
 
-module _ {o : Op} {r : Request} {s : State} {ms tb : List ℕ} {len e : ℕ} (w : Refuses o r s ms tb len e) (n : e ≡ 0 → ⊥) where
-  is-refused : refusal (opIn o (r .command)) (askedOf o r ms len) (stateIn s tb) ≡ refused e
-  is-refused = number-refused _ e (w .number) n
+refused-decided : (e : ℕ) → (e ≡ 0 → ⊥) → decisionOf e ≡ refused e
+refused-decided zero n = absurd (n refl)
+refused-decided (suc e) n = refl
 
-  pub refused-room : 5 < e → 6 ≤ len
-  refused-room g = let z = late-room (opIn o (r .command)) (askedOf o r ms len) (stateIn s tb) e is-refused g in omega arith
-
-pub refused-told : {o : Op} {r : Request} {s : State} {ms tb l : List ℕ} {e : ℕ} → Held s tb → Refuses o r s ms tb (length l) e → (e ≡ 0 → ⊥)
-    → {d : Outcome} {l′ : List ℕ} → Refused o e r s l d l′ → Told (call (stateIn s tb) (askedOf o r ms (length l))) l d tb l′
-refused-told {o} {r} {s} {ms} {tb} {l} {e} h w n f =
-    told-as (refused-call (stateIn s tb) (askedOf o r ms (length l)) e (is-refused w n) ∙ refuse-due o e r ms (length l) (stateIn s tb))
+pub refused-told : {o : Op} {r : Request} {s : State} {ms tb l : List ℕ} {e : ℕ} → Decided o e r s ms tb l → (e ≡ 0 → ⊥)
+    → {d : Outcome} {l′ : List ℕ} → Refused o e r s l d l′ → Told (answering (decisionOf e) (askedOf o r ms (length l)) (stateIn s tb)) l d tb l′
+unfolding answering
+refused-told {o} {r} {s} {ms} {tb} {l} {e} h n f =
+    told-as (ap (λ (x : Refusal). answering x (askedOf o r ms (length l)) (stateIn s tb)) (refused-decided e n) ∙ refuse-due o e r ms (length l) (stateIn s tb))
     record {
       answer = f .answer;
-      did = record { struct = f .state ∙ h .struct; table = h .table; list = f .list; count = f .count ∙ sym (zero-add (length (dueReplies o e r))) };
+      did =
+          record {
+            struct = f .state ∙ h .held .struct;
+            table = h .held .table;
+            list = f .list;
+            count = f .count ∙ sym (zero-add (length (dueReplies o e r)));
+          };
     }
 
 -- ---- a call that is not refused
 
-module _ {o : Op} {r : Request} {s : State} {ms tb : List ℕ} (l : List ℕ) (h : Held s tb) where
-  pub zero-allowed : {e : ℕ} → Refuses o r s ms tb (length l) e → e ≡ 0 → Allowed o r s ms tb l
-  zero-allowed w z = record { held = h; allows = zero-accepted (opIn o (r .command)) (askedOf o r ms (length l)) (stateIn s tb) (sym z ∙ w .number) }
+pub zero-allowed : {o : Op} {r : Request} {s : State} {ms tb l : List ℕ} {e : ℕ} → Decided o e r s ms tb l → e ≡ 0 → Allowed o r s ms tb l
+zero-allowed h z = record { held = h .held; allows = h .allows z }
+
+zero-decided : (e : ℕ) → e ≡ 0 → decisionOf e ≡ accepted
+zero-decided e z = ap decisionOf z
 
 act-sound : (o : OpM) (c : Call) (s : StateM) → Parts s → T (inRange c) → refusal o c s ≡ accepted → Parts (act o c s .next)
 unfolding refusal doOpen
@@ -193,8 +193,13 @@ module _ {o : Op} {r : Request} {s : State} {ms tb l : List ℕ} (a : Allowed o 
   called : call s₀ c₀ ≡ (if restsAt o (d .answer .error) then o₁ else settling o₁)
   called = accepted-call s₀ c₀ (a .allows) ∙ accepts o (r .command) c₀ s₀ ∙ ap (λ (x : ℕ). if restsAt o x then o₁ else settling o₁) (sym error-told)
 
-  pub resting-told : restsAt o (d .answer .error) ≡ true → Told (call s₀ c₀) l d tb₁ l₁
-  resting-told q = told-as (called ∙ ap (λ (b : Bool). if b then o₁ else settling o₁) q) t
+  -- what is decided by 0 is the call on eight channels
+  zero-call : (e : ℕ) → e ≡ 0 → answering (decisionOf e) c₀ s₀ ≡ call s₀ c₀
+  unfolding answering
+  zero-call e z = ap (λ (x : Refusal). answering x c₀ s₀) (zero-decided e z) ∙ sym (accepted-call s₀ c₀ (a .allows))
+
+  pub resting-told : {e : ℕ} → e ≡ 0 → restsAt o (d .answer .error) ≡ true → Told (answering (decisionOf e) c₀ s₀) l d tb₁ l₁
+  resting-told {e} z q = told-as (zero-call e z ∙ (called ∙ ap (λ (b : Bool). if b then o₁ else settling o₁) q)) t
 
   module _ (q : restsAt o (d .answer .error) ≡ false) where
     settles : call s₀ c₀ ≡ settling o₁
@@ -215,7 +220,7 @@ module _ {o : Op} {r : Request} {s : State} {ms tb l : List ℕ} (a : Allowed o 
       next-held : Held (d .state) tb₁ × (stateIn (d .state) tb₁ ≡ o₁ .next)
       next-held =
           held-next (o₁ .next) (d .state) tb₁ (act-sound (opIn o (r .command)) c₀ s₀ (held-parts (a .held)) in-range (a .allows))
-          (act-wide (opIn o (r .command)) c₀ s₀ ∙ held-four (a .held))
+          (act-wide (opIn o (r .command)) c₀ s₀ ∙ held-eight (a .held))
           (t .did .struct) (t .did .table)
 
       room : 384 ≤ length l
@@ -234,13 +239,13 @@ module _ {o : Op} {r : Request} {s : State} {ms tb l : List ℕ} (a : Allowed o 
 
       pub settled-told : {st : State} {tb′ l′ : List ℕ} {n : ℕ}
           → Did (settle (stateIn (d .state) tb₁) .state) (settle (stateIn (d .state) tb₁) .replies) l₁ (d .n) st tb′ l′ n
-          → Told (call s₀ c₀) l (record { answer = d .answer; state = st; n = n }) tb′ l′
+          → {e : ℕ} → e ≡ 0 → Told (answering (decisionOf e) c₀ s₀) l (record { answer = d .answer; state = st; n = n }) tb′ l′
       unfolding settling
-      settled-told {st} {tb′} {l′} {n} w =
+      settled-told {st} {tb′} {l′} {n} w {e} z =
           let f = few in
           let m = room in
           let v : Did (settle (o₁ .next) .state) (settle (o₁ .next) .replies) l₁ (d .n) st tb′ l′ n = rw (next-held .1) at w in
-          told-as settles
+          told-as (zero-call e z ∙ settles)
           record {
             answer = t .answer;
             did = record {
@@ -250,12 +255,3 @@ module _ {o : Op} {r : Request} {s : State} {ms tb l : List ℕ} (a : Allowed o 
               count = v .count ∙ ap (λ (k : ℕ). k + length (settle (o₁ .next) .replies)) (t .did .count ∙ zero-add (length (o₁ .replies))) ∙ sym (zero-add _) ∙ ap (λ (k : ℕ). 0 + k) (sym (length-append (o₁ .replies) (settle (o₁ .next) .replies)));
             };
           }
-
--- ---- the promise
-
-module _ {o : Op} {r : Request} {s : State} {ms tb l : List ℕ} {d : Outcome} {tb′ l′ : List ℕ} where
-  pub unsound-called : {b : Bool} → Decides b (Held s tb) → b ≡ false → Unmoved r s tb l d tb′ l′ → Called o r s ms tb l d tb′ l′
-  unsound-called x q u = record { sound = λ h. absurd (false-true (sym q ∙ x .always h)); unsound = λ _. u }
-
-  pub sound-called : Held s tb → Told (call (stateIn s tb) (askedOf o r ms (length l))) l d tb′ l′ → Called o r s ms tb l d tb′ l′
-  sound-called h t = record { sound = λ _. t; unsound = λ n. absurd (n h) }

@@ -5,11 +5,14 @@ use mathlib.Core.Bool.{Bool, true, false}
 use mathlib.Core.List.{List}
 use native.Mathlib.Nat.{zero-add}
 use native.Mathlib.Omega.{arith}
+use lib.Dec.{T}
 use lib.ListN.{length, take, drop, replicate, length-drop}
 use lib.Seq.{take-all}
-use Rattle.machine.specs.State.{fresh}
-use Rattle.store.specs.declared.State.{State}
-use Rattle.store.specs.Store.{structOf, tableOf, entries, lookup, items, writeItems, Held}
+use Rattle.machine.specs.State.{frees, freshOn}
+use Rattle.board.specs.declared.Board.{Board}
+use Rattle.store.specs.Store.{tableOf, entries, lookup, items, writeItems}
+use Rattle.board.specs.Board.{sized, freshBoard, Held}
+use Rattle.board.proofs.Laws.{table-wide, fresh-of}
 use Rattle.taking.specs.declared.Taken.{Taken}
 use Rattle.taking.specs.Desk.{deskOf, needed, filled}
 use Rattle.paging.specs.Paging.{Fills, Finishes}
@@ -19,7 +22,7 @@ use Rattle.arbiter_log.specs.declared.Desk.{Desk}
 use Rattle.arbiter_log.specs.Desk.{Ready}
 
 -- the room that a page of the program has is enough, the channels shown or not
-enough : (show : Bool) {k : ℕ} → 1033 ≤ k → 0 + needed show ≤ k
+enough : (show : Bool) {k : ℕ} → 1093 ≤ k → 0 + needed show ≤ k
 enough true h = omega arith
 enough false h = omega arith
 
@@ -60,10 +63,15 @@ finish-inside {show} {d} {tb} {l} {page} r w =
 
 -- where the program begins: the fresh device, and a table of zeros
 
-fresh-table : tableOf fresh ≡ replicate 1472 0
-unfolding tableOf entries lookup items writeItems
-fresh-table = refl
+none-table : tableOf (freshOn 0) ≡ replicate 1472 0
+unfolding tableOf entries lookup items writeItems frees
+none-table = refl
 
-pub fresh-ready : {s : State} {ok : Bool} {page : List ℕ} → s ≡ structOf fresh → 65536 ≡ length page
+fresh-table : (w : ℕ) → tableOf (freshOn w) ≡ replicate 1472 0
+unfolding frees
+fresh-table w = table-wide w (freshOn 0) ∙ none-table
+
+pub fresh-ready : (w : ℕ) → T (sized w) → {s : Board} {ok : Bool} {page : List ℕ} → s ≡ freshBoard w → 65536 ≡ length page
     → Ready (record { state = s; line = 0; ok = ok }) (replicate 1472 0) page
-fresh-ready {s} {page = page} e n = record { held = rw (e, ← fresh-table) fresh-held; within = omega arith; room = omega arith }
+fresh-ready w t {s} {page = page} e n =
+    record { held = subst (Held s) (fresh-table w) (subst (λ (x : Board). Held x (tableOf (freshOn w))) (sym (e ∙ fresh-of w t)) (fresh-held w t)); within = omega arith; room = omega arith }

@@ -1,15 +1,18 @@
-// The log program: a log on standard input, its output on standard output, in constant memory. With an argument it also tells the
-// four channels after each line. It reads, calls `paging` and writes: what is read and written is the C library's to say, and
-// that each page is passed to `write` as it was handed back stands in `lump` and `main` to be read.
-use store::State;
+// The log program: a log on standard input, its output on standard output, in constant memory. Its first argument is the number of
+// channels, 4 or 8, and 4 where it is anything else or left out; with a second it also tells the board's channels after each
+// line. It reads, calls `paging` and writes: what is read and written is the C library's to say, and that each page is passed to
+// `write` as it was handed back stands in `lump` and `last` to be read.
+use board::Board;
+ghost use lib.Dec.{T};
 ghost use Prim.Native.Nat.{_≤_};
 ghost use lib.ListN.{length};
+ghost use Rattle.board.specs.Board.{sized};
 ghost use Rattle.arbiter_log.specs.Desk.{Ready};
 
 // What is kept from lump to lump of input. `line` is how much of a line stands that has not ended; `ok` is whether all was read
 // and written so far.
 struct Desk {
-    state: State,
+    state: Board,
     line: usize,
     ok: bool,
 }
@@ -143,9 +146,25 @@ fn last(show: bool, d: Desk, line: &[u8; 527], table: &mut [u8], page: &mut [u8]
     write(page, t.at);
 }
 
+// How many channels the board has.
+fn width() -> u8
+    ensures { λ r. ⌜ T (sized r) ⌝ }
+{
+    let mut word = [0u8; 2];
+    let n = os::arg(1, &mut word);
+    if n != 1 {
+        return Board::FOUR;
+    }
+    if word[0] == b'8' {
+        return Board::EIGHT;
+    }
+    Board::FOUR
+}
+
 fn main() {
-    let show = os::arg_count() > 1;
-    let s = State::fresh();
+    let show = os::arg_count() > 2;
+    let w = width();
+    let s = Board::fresh(w);
     let d = Desk {
         state: s,
         line: 0,

@@ -5,23 +5,26 @@ use mathlib.Core.Path.{_≡_, refl, ap, sym, subst, _∙_}
 use mathlib.Core.Bool.{Bool, true, false}
 use mathlib.Core.List.{List, [], _++_}
 use native.Mathlib.Omega.{arith}
-use lib.Dec.{T, eqb}
+use lib.Dec.{T, T-not, eqb}
 use lib.ListN.{length, getD, replicate, replicate-append-replicate}
 use borrow.Author.Tests.{eqb-true, eqb-false}
 use Rattle.machine.specs.Lists.{if_then_else_, among}
-use Rattle.machine.specs.State.{State as StateM, Op as OpM, OPEN, CLOSE, ABORT, EVENT, COMMAND, fresh}
+use Rattle.machine.specs.State.{State as StateM, Op as OpM, OPEN, CLOSE, ABORT, EVENT, COMMAND, frees, freshOn}
 use Rattle.machine.specs.Log.{opOf}
 use Rattle.machine.specs.Call.{call}
-use Rattle.machine_laws.proofs.Sound.{parts, fresh-sound}
+use Rattle.machine_laws.proofs.Sound.{parts}
+use Rattle.machine.proofs.Tests.{by-test}
 use Rattle.machine_laws.proofs.Refusals.{refusals}
 use Rattle.machine_laws.proofs.Replies.{call-replies}
-use Rattle.store.specs.declared.State.{State}
-use Rattle.store.specs.Store.{structOf, items, writeItems, lookup, entries, tableOf, stateIn, Held}
-use Rattle.store.proofs.Store.{held-next}
+use Rattle.store.specs.Store.{items, writeItems, lookup, entries, tableOf}
+use Rattle.board.specs.declared.Board.{Board}
+use Rattle.board.specs.declared.Outcome.{Outcome}
+use Rattle.board.specs.Board.{sized, structOf, stateIn, Held}
+use Rattle.board.proofs.Laws.{held-next, fresh-sane, table-wide}
+use Rattle.widening.proofs.Maps.{length-frees}
 use Rattle.image.specs.Image.{STATE, imageOf, stateOf, isWhole, Whole}
 use Rattle.image.proofs.Round.{imageOf-stateOf, stateOf-imageOf}
 use Rattle.answers.specs.declared.Request.{Request}
-use Rattle.answers.specs.declared.Outcome.{Outcome}
 use Rattle.refusals.specs.declared.Op.{Op}
 use Rattle.refusals.specs.Refusals.{opIn, askedOf}
 use Rattle.arbiter.proofs.Outcome.{one-outcome, held-or-not, refused-unmoved, held-after}
@@ -97,18 +100,20 @@ module _ {st tb l : List ℕ} {n n₂ : ℕ} {st₁ st₂ tb₁ tb₂ l₁ l₂ 
       (λ h. unanswered-same (c .unanswered h) (e .unanswered h))
 
 -- a second start does not fit either
-pub one-start : {st tb : List ℕ} {r r₂ : ℕ} {st₁ st₂ tb₁ tb₂ : List ℕ} → Started st tb r st₁ tb₁ → Started st tb r₂ st₂ tb₂
+pub one-start : {w : ℕ} {st tb : List ℕ} {r r₂ : ℕ} {st₁ st₂ tb₁ tb₂ : List ℕ} → Started w st tb r st₁ tb₁ → Started w st tb r₂ st₂ tb₂
     → (r ≡ r₂) × (st₁ ≡ st₂) × (tb₁ ≡ tb₂)
-one-start {st} {tb} {r} {r₂} {st₁} {st₂} {tb₁} {tb₂} c e =
-    same-or-not (length st) STATE (λ h. same-or-not (length tb) TABLE (both h) (λ g. none (λ p. g (p .1)))) (λ h. none (λ p. h (p .0)))
+one-start {w} {st} {tb} {r} {r₂} {st₁} {st₂} {tb₁} {tb₂} c e =
+    by-test (sized w)
+    (λ t. same-or-not (length st) STATE (λ h. same-or-not (length tb) TABLE (both t h) (λ g. none (λ p. g (p .2)))) (λ h. none (λ p. h (p .1))))
+    (λ n. none (λ p. T-not (sized w) n (p .0)))
   where
-    both : length st ≡ STATE → length tb ≡ TABLE → (r ≡ r₂) × (st₁ ≡ st₂) × (tb₁ ≡ tb₂)
-    both h g =
-        let x = c .begun h g in
-        let y = e .begun h g in
+    both : T (sized w) → length st ≡ STATE → length tb ≡ TABLE → (r ≡ r₂) × (st₁ ≡ st₂) × (tb₁ ≡ tb₂)
+    both t h g =
+        let x = c .begun t h g in
+        let y = e .begun t h g in
         (x .result ∙ sym (y .result), x .state .bytes ∙ sym (y .state .bytes), x .table ∙ sym (y .table))
 
-    none : ((length st ≡ STATE) × (length tb ≡ TABLE) → ⊥) → (r ≡ r₂) × (st₁ ≡ st₂) × (tb₁ ≡ tb₂)
+    none : (T (sized w) × (length st ≡ STATE) × (length tb ≡ TABLE) → ⊥) → (r ≡ r₂) × (st₁ ≡ st₂) × (tb₁ ≡ tb₂)
     none h =
         let x = c .otherwise h in
         let y = e .otherwise h in
@@ -161,7 +166,7 @@ module _ {op : ℕ} {r : Request} {ms st tb l an : List ℕ} {n : ℕ} {st′ tb
         let d = k .outcome in
         let a = held-after o₀ r ms l s g (k .called .sound s) in
         let e : d .state ≡ stateOf st′ = sym (ap stateOf (k .state .bytes) ∙ stateOf-imageOf (d .state) (k .state .sized)) in
-        (k .state .whole, subst (λ (x : State). Held x tb′) e (a .0), subst (λ (x : State). stateIn x tb′ ≡ next) e (a .1))
+        (k .state .whole, subst (λ (x : Board). Held x tb′) e (a .0), subst (λ (x : Board). stateIn x tb′ ≡ next) e (a .1))
 
 -- ---- a fresh device is sound
 
@@ -172,17 +177,21 @@ entries-none (suc n) i =
     let e : suc n * 23 ≡ 23 + n * 23 = omega arith in
     ap (λ (x : List ℕ). replicate 23 0 ++ x) (entries-none n (suc i)) ∙ replicate-append-replicate {A = ℕ} 23 (n * 23) 0 ∙ ap (λ (k : ℕ). replicate k 0) (sym e)
 
-fresh-table : tableOf fresh ≡ replicate TABLE 0
-unfolding tableOf items writeItems
-fresh-table = entries-none 64 0
+none-fresh : tableOf (freshOn 0) ≡ replicate TABLE 0
+unfolding tableOf items writeItems frees
+none-fresh = entries-none 64 0
 
-pub fresh-after : {st tb : List ℕ} {r : ℕ} {st′ tb′ : List ℕ} → Started st tb r st′ tb′ → length st ≡ STATE → length tb ≡ TABLE
-    → Whole st′ × Held (stateOf st′) tb′ × (stateIn (stateOf st′) tb′ ≡ fresh)
-fresh-after {tb = tb} {st′ = st′} {tb′ = tb′} c h g =
-    let b = c .begun h g in
-    let e : structOf fresh ≡ stateOf st′ = sym (ap stateOf (b .state .bytes) ∙ stateOf-imageOf (structOf fresh) (b .state .sized)) in
-    let t : tb′ ≡ tableOf fresh = b .table ∙ ap (λ (k : ℕ). replicate k 0) g ∙ sym fresh-table in
-    let a = held-next fresh (stateOf st′) tb′ (parts _ fresh-sound) refl (sym e) t in
+fresh-table : (w : ℕ) → tableOf (freshOn w) ≡ replicate TABLE 0
+unfolding frees
+fresh-table w = table-wide w (freshOn 0) ∙ none-fresh
+
+pub fresh-after : (w : ℕ) {st tb : List ℕ} {r : ℕ} {st′ tb′ : List ℕ} → Started w st tb r st′ tb′ → T (sized w) → length st ≡ STATE → length tb ≡ TABLE
+    → Whole st′ × Held (stateOf st′) tb′ × (stateIn (stateOf st′) tb′ ≡ freshOn w)
+fresh-after w {tb = tb} {st′ = st′} {tb′ = tb′} c k h g =
+    let b = c .begun k h g in
+    let e : structOf (freshOn w) ≡ stateOf st′ = sym (ap stateOf (b .state .bytes) ∙ stateOf-imageOf (structOf (freshOn w)) (b .state .sized)) in
+    let t : tb′ ≡ tableOf (freshOn w) = b .table ∙ ap (λ (k : ℕ). replicate k 0) g ∙ sym (fresh-table w) in
+    let a = held-next (freshOn w) (stateOf st′) tb′ (parts _ (fresh-sane w k)) (subst (λ (n : ℕ). T (sized n)) (sym (length-frees w)) k) (sym e) t in
     (b .state .whole, a .0, a .1)
 
 -- ---- the operation that the machine is asked for is that of the number

@@ -15,8 +15,8 @@ use Rattle.machine.specs.Commands.{done}
 use Rattle.machine.specs.Log.{opOf}
 use Rattle.image.specs.Image.{stateOf, Whole, Saved}
 use Rattle.answers.specs.declared.Request.{Request}
-use Rattle.answers.specs.declared.Outcome.{Outcome}
 use Rattle.answers.specs.Answers.{answerOf}
+use Rattle.board.specs.declared.Outcome.{Outcome}
 use Rattle.refusals.specs.declared.Op.{Op}
 use Rattle.arbiter.specs.Arbiter.{Called}
 use Rattle.sizes.specs.Sizes.{ANSWER}

@@ -33,4 +33,4 @@ pub record Accepted (r : Request) (s : State) (tb l : List ℕ) : Type 0 where
   pub room : 384 ≤ length l
   pub valid : r .id < 64
   pub idle : T (not (among (r .id) (ids (stateIn s tb))))
-  pub map : r .map < 16
+  pub map : r .map < 256

@@ -1,5 +1,5 @@
--- Demand 3 on the code: a run of the code from a struct and a table that hold a sound state is the machine's run from that state.
--- Each call's answer is the machine's, its records are the bytes of the machine's replies, and its struct and table hold the
+-- Demand 3 on the code: a run of the code from a board and a table that hold a sound state is the machine's run from that state.
+-- Each call's answer is the machine's, its records are the bytes of the machine's replies, and its board and table hold the
 -- machine's next state. So what the K party sees of it is what it sees of the machine's run, spelt in structs and bytes, and
 -- the machine's theorem carries over.
 -- Assumes nothing.
@@ -19,10 +19,14 @@ use Rattle.memory.specs.Splice.{splice}
 use Rattle.channel.specs.declared.Channel.{Channel}
 use Rattle.channel.specs.Channel.{channelOf}
 use Rattle.reply.specs.Replies.{encode, encodes, sent}
-use Rattle.store.specs.declared.State.{State}
-use Rattle.store.specs.Store.{stateIn, Held}
-use Rattle.answers.specs.Answers.{answerOf, answerIn, Told}
-use Rattle.arbiter.proofs.Outcome.{held-after}
+use Rattle.board.specs.declared.Board.{Board}
+use Rattle.answers.specs.Answers.{answerOf, answerIn}
+use Rattle.board.specs.Board.{stateIn, Held, Told}
+use Rattle.board.proofs.Laws.{held-channels}
+use Rattle.board.specs.declared.Outcome.{Outcome}
+use Rattle.answers.specs.declared.Request.{Request}
+use Rattle.refusals.specs.declared.Op.{Op}
+use Rattle.arbiter.proofs.Outcome.{Same, held-after, one-outcome}
 use Rattle.two_runs.specs.TwoRuns.{Party, Start, Step, our, their, Keeps as KeepsM, Run as RunM, balance, reached, calls, lends, own, said, mask, view, ownReplies, Seen, answered, received, owning, seen}
 use Rattle.two_runs.proofs.Part.{project}
 use Rattle.two_runs.proofs.TwoRuns.{K-sees-its-part, others-leave-K-alone}
@@ -45,7 +49,7 @@ ownCalls-steps (others t ∷ ms) = ownCalls-steps ms
 
 -- ---- one call: the machine's outcome, and what is next is held
 
-module _ {st : State} {tb : List ℕ} {t : Turn} (h : Held st tb) (k : Took st tb t) where
+module _ {st : Board} {tb : List ℕ} {t : Turn} (h : Held st tb) (k : Took st tb t) where
   pub took-told : Told (call (stateIn st tb) (asked t)) (t .lent) (t .outcome) (t .table) (t .list)
   took-told = k .called .sound h
 
@@ -76,7 +80,7 @@ recordsTo-sent : (p : Party) (rs : List Reply) (l : List ℕ) → recordsTo p (l
 unfolding splice
 recordsTo-sent p rs l = recordsTo-encodes p rs (drop (0 + length (encodes rs)) l)
 
-pub took-records : {st : State} {tb : List ℕ} {t : Turn} (p : Party) → Held st tb → Took st tb t
+pub took-records : {st : Board} {tb : List ℕ} {t : Turn} (p : Party) → Held st tb → Took st tb t
     → ownRecords p t ≡ map encode (ownReplies p (call (stateIn st tb) (asked t) .replies))
 unfolding ownRecords
 took-records {st} {tb} {t} p h k =
@@ -84,7 +88,7 @@ took-records {st} {tb} {t} p h k =
     let rs = call (stateIn st tb) (asked t) .replies in
     ap₂ (recordsTo p) (d .count ∙ zero-add (length rs)) (d .list) ∙ recordsTo-sent p rs (t .lent)
 
--- ---- the channels of a struct are those of its state
+-- ---- the channels of a board are those of its state
 
 mask-of : (p : Party) (cs : List ChannelM) → map (maskOf p) (map channelOf cs) ≡ map channelOf (map (mask p) cs)
 unfolding maskOf mask
@@ -95,9 +99,9 @@ mask-of p (c ∷ cs) = ap₂ _∷_ (go (eqb (c .key) (p .key))) (mask-of p cs)
     go true = refl
     go false = refl
 
-pub view-of : {st : State} {tb : List ℕ} (p : Party) → Held st tb → viewOf p st ≡ map channelOf (view p (stateIn st tb))
+pub view-of : {st : Board} {tb : List ℕ} (p : Party) → Held st tb → viewOf p st ≡ map channelOf (view p (stateIn st tb))
 unfolding viewOf view
-view-of {st} {tb} p h = ap (λ (x : State). map (maskOf p) (x .channels)) (h .struct) ∙ mask-of p (stateIn st tb .channels)
+view-of {st} {tb} p h = ap (map (maskOf p)) (held-channels h) ∙ mask-of p (stateIn st tb .channels)
 
 -- ---- what the K party sees is what it sees of the machine's run
 
@@ -110,7 +114,7 @@ spelt-received : (rs : List Reply) → map spelt (map received rs) ≡ map got (
 spelt-received [] = refl
 spelt-received (r ∷ rs) = ap (λ (x : List Sight). got (encode r) ∷ x) (spelt-received rs)
 
-pub sights-spelt : (p : Party) (st : State) (tb : List ℕ) (ms : List Move) → Held st tb → Chained st tb ms
+pub sights-spelt : (p : Party) (st : Board) (tb : List ℕ) (ms : List Move) → Held st tb → Chained st tb ms
     → sights p st ms ≡ map spelt (seen p (stateIn st tb) (steps ms))
 unfolding sights seen
 sights-spelt p st tb [] h c = ap (λ (cs : List Channel). has cs ∷ []) (view-of p h)
@@ -137,7 +141,7 @@ sights-spelt p st tb (others t ∷ ms) h c =
 
 -- ---- the premises are those of the machine's run
 
-keeps-steps : (p : Party) (n : ℕ) (st : State) (tb : List ℕ) (ms : List Move) → Held st tb → Chained st tb ms → Keeps p n st tb ms
+keeps-steps : (p : Party) (n : ℕ) (st : Board) (tb : List ℕ) (ms : List Move) → Held st tb → Chained st tb ms → Keeps p n st tb ms
     → KeepsM p n (stateIn st tb) (steps ms)
 keeps-steps p n st tb [] h c k = tt
 keeps-steps p n st tb (ours t ∷ ms) h c k =
@@ -146,12 +150,12 @@ keeps-steps p n st tb (others t ∷ ms) h c k =
     let rest = keeps-steps p (balance (asked t .op) (answerIn (t .outcome .answer)) n) (t .outcome .state) (t .table) ms (took-held h (c .0)) (c .1) (k .1) in
     (k .0, rw (took-told h (c .0) .answer, took-next h (c .0)) at rest)
 
-took-range : {st : State} {tb : List ℕ} {t : Turn} → Took st tb t → T (inRange (asked t))
+took-range : {st : Board} {tb : List ℕ} {t : Turn} → Took st tb t → T (inRange (asked t))
 unfolding inRange
 took-range {t = t} k =
     and-both (leb (t .request .prec) 255) (leb (t .request .key) 65535) (le→leb (t .request .prec) 255 (k .prec)) (le→leb (t .request .key) 65535 (k .key))
 
-fits-steps : (st : State) (tb : List ℕ) (ms : List Move) → Chained st tb ms → T (all inRange (calls (steps ms)))
+fits-steps : (st : Board) (tb : List ℕ) (ms : List Move) → Chained st tb ms → T (all inRange (calls (steps ms)))
 unfolding calls all
 fits-steps st tb [] c = tt
 fits-steps st tb (ours t ∷ ms) c = and-both (inRange (asked t)) (all inRange (calls (steps ms))) (took-range (c .0)) (fits-steps (t .outcome .state) (t .table) ms (c .1))
@@ -168,14 +172,14 @@ full-steps [] f = tt
 full-steps (ours t ∷ ms) f = and-both (lends (asked t)) (all lends (calls (steps ms))) (full-lends t (f .0)) (full-steps ms (f .1))
 full-steps (others t ∷ ms) f = and-both (lends (asked t)) (all lends (calls (steps ms))) (full-lends t (f .0)) (full-steps ms (f .1))
 
-pub run-steps : (p : Party) (st : State) (tb : List ℕ) (ms : List Move) → Held st tb → Run p st tb ms → RunM p (stateIn st tb) (steps ms)
+pub run-steps : (p : Party) (st : Board) (tb : List ℕ) (ms : List Move) → Held st tb → Run p st tb ms → RunM p (stateIn st tb) (steps ms)
 run-steps p st tb ms h r =
     record { keeps = keeps-steps p 0 st tb ms h (r .chained) (r .keeps); full = full-steps ms (r .full); fits = fits-steps st tb ms (r .chained) }
 
 -- ---- the claim
 
--- more than is asked: the runs may begin with two structs and two tables, if K's part of what they hold is the same
-pub K-sees-its-part-of-the-code : (p : Party) (st su : State) (tb tc : List ℕ) (ms ns : List Move) → Held st tb → Held su tc
+-- more than is asked: the runs may begin with two boards and two tables, if K's part of what they hold is the same
+pub K-sees-its-part-of-the-code : (p : Party) (st su : Board) (tb tc : List ℕ) (ms ns : List Move) → Held st tb → Held su tc
     → Start p (stateIn st tb) → Start p (stateIn su tc) → project p (stateIn st tb) ≡ project p (stateIn su tc)
     → Run p st tb ms → Run p su tc ns → ownCalls ms ≡ ownCalls ns → sights p st ms ≡ sights p su ns
 K-sees-its-part-of-the-code p st su tb tc ms ns h g a b q r s e =
@@ -190,13 +194,13 @@ K-sees-the-same-of-the-code p st tb ms ns h a r s e = K-sees-its-part-of-the-cod
 
 -- ---- and the others leave it alone, at every moment
 
--- what stands behind a run: the struct and the table hold the state that the machine has reached, and the last call took them
-record Behind (st : State) (tb : List ℕ) (ms : List Move) (t : Turn) : Type 0 where
+-- what stands behind a run: the board and the table hold the state that the machine has reached, and the last call took them
+record Behind (st : Board) (tb : List ℕ) (ms : List Move) (t : Turn) : Type 0 where
   held : Held (stateAfter st ms) (tableAfter tb ms)
   same : stateIn (stateAfter st ms) (tableAfter tb ms) ≡ reached (stateIn st tb) (steps ms)
   took : Took (stateAfter st ms) (tableAfter tb ms) t
 
-behind : (st : State) (tb : List ℕ) (ms : List Move) (t : Turn) → Held st tb → Chained st tb (ms ++ others t ∷ []) → Behind st tb ms t
+behind : (st : Board) (tb : List ℕ) (ms : List Move) (t : Turn) → Held st tb → Chained st tb (ms ++ others t ∷ []) → Behind st tb ms t
 unfolding stateAfter tableAfter reached
 behind st tb [] t h c = record { held = h; same = refl; took = c .0 }
 behind st tb (ours u ∷ ms) t h c =
@@ -207,7 +211,7 @@ behind st tb (others u ∷ ms) t h c =
     record { held = b .held; same = b .same ∙ ap (λ (s : StateM). reached s (steps ms)) (took-next h (c .0)); took = b .took }
 
 -- a call of the others, behind any run, reports no record to an id of the K party's and leaves its channels as they are
-pub others-leave-K-alone-of-the-code : (p : Party) (st : State) (tb : List ℕ) (ms : List Move) (t : Turn) → Held st tb → Start p (stateIn st tb)
+pub others-leave-K-alone-of-the-code : (p : Party) (st : Board) (tb : List ℕ) (ms : List Move) (t : Turn) → Held st tb → Start p (stateIn st tb)
     → Run p st tb (ms ++ others t ∷ []) → (ownRecords p t ≡ []) × (viewOf p (t .outcome .state) ≡ viewOf p (stateAfter st ms))
 others-leave-K-alone-of-the-code p st tb ms t h a r =
     let b = behind st tb ms t h (r .chained) in
@@ -219,3 +223,12 @@ others-leave-K-alone-of-the-code p st tb ms t h a r =
           ∙ ap (map channelOf) (q .1)
           ∙ sym (view-of p (b .held)),
     )
+
+-- ---- one turn
+
+-- no second outcome fits a turn: it is the call's
+pub one-turn : {b : Board} {tb : List ℕ} {op : Op} {r : Request} {ms l : List ℕ} {d d₂ : Outcome} {tb₁ tb₂ l₁ l₂ : List ℕ}
+    → Took b tb (record { op = op; request = r; combos = ms; lent = l; outcome = d; table = tb₁; list = l₁ })
+    → Took b tb (record { op = op; request = r; combos = ms; lent = l; outcome = d₂; table = tb₂; list = l₂ })
+    → Same d d₂ tb₁ tb₂ l₁ l₂
+one-turn t u = one-outcome (t .called) (u .called)

@@ -2,3 +2,4 @@ pub mod CodeRuns
 pub mod Made
 pub mod Parts
 pub mod Witness
+pub mod Eight

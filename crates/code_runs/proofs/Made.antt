@@ -1,9 +1,9 @@
--- Every run of the machine on a board of four channels is a run of the code: a call of the code that hands in the numbers of a
--- machine's call, and a list of as many records, may become the struct, the table and the bytes of the machine's outcome. So
+-- Every run of the machine on a board of four or eight channels is a run of the code: a call of the code that hands in the numbers of a
+-- machine's call, and a list of as many records, may become the board, the table and the bytes of the machine's outcome. So
 -- the premises of demand 3 on the code can be met wherever those on the machine can.
 -- Assumes nothing.
 use Prim.Native.Nat.{ℕ, _*_, _/_, _≤_}
-use mathlib.Core.Path.{_≡_, refl, ap₂, sym, _∙_}
+use mathlib.Core.Path.{_≡_, refl, ap₂, sym, subst, _∙_}
 use mathlib.Core.List.{List, [], _∷_, map}
 use native.Mathlib.Omega.{arith}
 use native.Mathlib.Nat.{zero-add}
@@ -18,10 +18,11 @@ use Rattle.machine_laws.proofs.Sound.{parts}
 use Rattle.machine_laws.proofs.KeepingCalls.{call-sound}
 use Rattle.machine_laws.proofs.Board.{call-wide}
 use Rattle.reply.specs.Replies.{sent}
-use Rattle.store.specs.Store.{structOf, tableOf, stateIn, Held}
-use Rattle.store.proofs.Store.{held-of, stateIn-of}
-use Rattle.answers.specs.declared.Outcome.{Outcome}
-use Rattle.answers.specs.Answers.{answerOf, Told}
+use Rattle.store.specs.Store.{tableOf}
+use Rattle.board.specs.Board.{sized, structOf, stateIn, Held, Told}
+use Rattle.board.proofs.Laws.{held-of, stateIn-of}
+use Rattle.board.specs.declared.Outcome.{Outcome}
+use Rattle.answers.specs.Answers.{answerOf}
 use Rattle.refusals.specs.declared.Op.{Op}
 use Rattle.refusals.specs.declared.Op.the-variants.{Open, Close, Abort, Event, Command}
 use Rattle.refusals.specs.Refusals.{opIn}
@@ -93,19 +94,19 @@ ownCalls-moves s (their c ∷ xs) = ownCalls-moves (call s c .next) xs
 
 -- ---- it keeps the promise
 
-pub record Board (s : StateM) : Type 0 where
+pub record OnBoard (s : StateM) : Type 0 where
   pub sane : T (sound s)
-  pub four : length (s .channels) ≡ 4
+  pub size : T (sized (length (s .channels)))
 
-board-next : (s : StateM) (c : Call) → T (inRange c) → Board s → Board (call s c .next)
-board-next s c f b = record { sane = call-sound s c f (b .sane); four = call-wide s c ∙ b .four }
+board-next : (s : StateM) (c : Call) → T (inRange c) → OnBoard s → OnBoard (call s c .next)
+board-next s c f b = record { sane = call-sound s c f (b .sane); size = subst (λ (n : ℕ). T (sized n)) (sym (call-wide s c)) (b .size) }
 
-module _ {s : StateM} (b : Board s) where
+module _ {s : StateM} (b : OnBoard s) where
   pub board-state : stateIn (structOf s) (tableOf s) ≡ s
   board-state = stateIn-of s (parts s (b .sane))
 
   pub board-held : Held (structOf s) (tableOf s)
-  board-held = held-of s (parts s (b .sane)) (b .four)
+  board-held = held-of s (parts s (b .sane)) (b .size)
 
   module _ (c : Call) where
     made-told : Told (call s c) (blank (c .room)) (outcomeOf (call s c)) (tableOf (call s c .next)) (sent (blank (c .room)) 0 (call s c .replies))
@@ -122,7 +123,7 @@ module _ {s : StateM} (b : Board s) where
 
 -- ---- so the run is one of the code
 
-chained-moves : (s : StateM) (xs : List Step) → Board s → T (all inRange (calls xs)) → Chained (structOf s) (tableOf s) (moves s xs)
+chained-moves : (s : StateM) (xs : List Step) → OnBoard s → T (all inRange (calls xs)) → Chained (structOf s) (tableOf s) (moves s xs)
 unfolding calls all
 chained-moves s [] b f = tt
 chained-moves s (our c ∷ xs) b f =
@@ -132,7 +133,7 @@ chained-moves s (their c ∷ xs) b f =
     let g = and-left (inRange c) (all inRange (calls xs)) f in
     (made-took b c g, chained-moves (call s c .next) xs (board-next s c g b) (and-right (inRange c) (all inRange (calls xs)) f))
 
-keeps-moves : (p : Party) (n : ℕ) (s : StateM) (xs : List Step) → Board s → T (all inRange (calls xs)) → KeepsM p n s xs
+keeps-moves : (p : Party) (n : ℕ) (s : StateM) (xs : List Step) → OnBoard s → T (all inRange (calls xs)) → KeepsM p n s xs
     → Keeps p n (structOf s) (tableOf s) (moves s xs)
 unfolding calls all
 keeps-moves p n s [] b f k = tt
@@ -157,6 +158,6 @@ full-moves s [] l = tt
 full-moves s (our c ∷ xs) l = (made-full c (and-left (lends c) (all lends (calls xs)) l), full-moves (call s c .next) xs (and-right (lends c) (all lends (calls xs)) l))
 full-moves s (their c ∷ xs) l = (made-full c (and-left (lends c) (all lends (calls xs)) l), full-moves (call s c .next) xs (and-right (lends c) (all lends (calls xs)) l))
 
-pub machine-runs-are-code-runs : (p : Party) (s : StateM) (xs : List Step) → Board s → RunM p s xs → Run p (structOf s) (tableOf s) (moves s xs)
+pub machine-runs-are-code-runs : (p : Party) (s : StateM) (xs : List Step) → OnBoard s → RunM p s xs → Run p (structOf s) (tableOf s) (moves s xs)
 machine-runs-are-code-runs p s xs b r =
     record { chained = chained-moves s xs b (r .fits); keeps = keeps-moves p 0 s xs b (r .fits) (r .keeps); full = full-moves s xs (r .full) }

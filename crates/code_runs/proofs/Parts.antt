@@ -5,8 +5,8 @@ use Prim.Native.Nat.{ℕ}
 use mathlib.Core.Path.{_≡_, refl, ap, sym, _∙_}
 use mathlib.Core.List.{List, [], _∷_, _++_, map}
 use Rattle.channel.specs.declared.Channel.{Channel}
-use Rattle.store.specs.declared.State.{State}
-use Rattle.store.specs.Store.{stateIn, Held}
+use Rattle.board.specs.declared.Board.{Board}
+use Rattle.board.specs.Board.{stateIn, Held}
 use Rattle.answers.specs.declared.Answer.{Answer}
 use Rattle.two_runs.specs.TwoRuns.{Party, Start}
 use Rattle.code_runs.specs.CodeRuns.{Move, ours, others, Run, ownCalls, ownRecords, viewOf, Sight, told, got, has, sights, stateAfter, ownAnswers, allRecords, Alike}
@@ -43,19 +43,19 @@ lastIn-got : (cs : List Channel) (bs : List (List ℕ)) (xs : List Sight) → la
 lastIn-got cs [] xs = refl
 lastIn-got cs (b ∷ bs) xs = lastIn-got cs bs xs
 
-answers-sights : (p : Party) (st : State) (ms : List Move) → ownAnswers ms ≡ answersIn (sights p st ms)
+answers-sights : (p : Party) (st : Board) (ms : List Move) → ownAnswers ms ≡ answersIn (sights p st ms)
 unfolding ownAnswers sights
 answers-sights p st [] = refl
 answers-sights p st (ours t ∷ ms) = rw (answersIn-got (ownRecords p t), answers-sights p (t .outcome .state) ms)
 answers-sights p st (others t ∷ ms) = rw (answersIn-got (ownRecords p t), answers-sights p (t .outcome .state) ms)
 
-records-sights : (p : Party) (st : State) (ms : List Move) → allRecords p ms ≡ recordsIn (sights p st ms)
+records-sights : (p : Party) (st : Board) (ms : List Move) → allRecords p ms ≡ recordsIn (sights p st ms)
 unfolding allRecords sights
 records-sights p st [] = refl
 records-sights p st (ours t ∷ ms) = rw (recordsIn-got (ownRecords p t), records-sights p (t .outcome .state) ms)
 records-sights p st (others t ∷ ms) = rw (recordsIn-got (ownRecords p t), records-sights p (t .outcome .state) ms)
 
-channels-sights : (p : Party) (st : State) (cs : List Channel) (ms : List Move) → viewOf p (stateAfter st ms) ≡ lastIn cs (sights p st ms)
+channels-sights : (p : Party) (st : Board) (cs : List Channel) (ms : List Move) → viewOf p (stateAfter st ms) ≡ lastIn cs (sights p st ms)
 unfolding stateAfter sights
 channels-sights p st cs [] = refl
 channels-sights p st cs (ours t ∷ ms) =
@@ -64,7 +64,7 @@ channels-sights p st cs (ours t ∷ ms) =
 channels-sights p st cs (others t ∷ ms) =
     channels-sights p (t .outcome .state) cs ms ∙ sym (lastIn-got cs (ownRecords p t) (sights p (t .outcome .state) ms))
 
-pub answers-replies-channels : (p : Party) (st : State) (tb : List ℕ) (ms ns : List Move) → Held st tb → Start p (stateIn st tb) → Run p st tb ms → Run p st tb ns
+pub answers-replies-channels : (p : Party) (st : Board) (tb : List ℕ) (ms ns : List Move) → Held st tb → Start p (stateIn st tb) → Run p st tb ms → Run p st tb ns
     → ownCalls ms ≡ ownCalls ns → Alike p st ms ns
 answers-replies-channels p st tb ms ns h a r s e =
     let q = K-sees-the-same-of-the-code p st tb ms ns h a r s e in

@@ -1,6 +1,6 @@
--- Demand 3 on the code is about something: two runs of calls that keep the promise, from one struct and one table, meet every
+-- Demand 3 on the code is about something: two runs of calls that keep the promise, from one board and one table, meet every
 -- premise. In the busy one the others open with a list and steal channel 2, take channel 3, wait for channel 0 and close; in
--- the quiet one they do nothing. K sees the same bytes, and the two leave unlike structs and tables.
+-- the quiet one they do nothing. K sees the same bytes, and the two leave unlike boards and tables.
 -- Assumes nothing.
 use Prim.Native.Nat.{ℕ}
 use mathlib.Core.Path.{_≡_, refl, sym, _∙_}
@@ -10,15 +10,16 @@ use lib.Dec.{eqb}
 use Rattle.machine.specs.State.{Call, Op, OPEN, CLOSE, EVENT, COMMAND, State as StateM, free}
 use Rattle.machine.specs.Machine.{machine}
 use Rattle.memory.specs.Splice.{splice}
-use Rattle.store.specs.Store.{structOf, tableOf, stateIn}
-use Rattle.two_runs.specs.TwoRuns.{Party, Start, Step, our, own, their, claim}
+use Rattle.store.specs.Store.{tableOf}
+use Rattle.board.specs.Board.{structOf}
+use Rattle.two_runs.specs.TwoRuns.{Party, Start, Step, our, own, their, claim, Run as RunM}
 use Rattle.two_runs.proofs.Premises.{premises, runs-all, starts-all}
-use Rattle.code_runs.specs.CodeRuns.{Run, ownCalls, allRecords, stateAfter, Alike, codeClaim}
-use Rattle.code_runs.proofs.Made.{Board, board-held, board-state, moves, ownCalls-moves, machine-runs-are-code-runs}
+use Rattle.code_runs.specs.CodeRuns.{allRecords, stateAfter, Alike, codeClaim}
+use Rattle.code_runs.proofs.Made.{OnBoard, board-held, board-state, moves, ownCalls-moves, machine-runs-are-code-runs}
 use Rattle.code_runs.proofs.Parts.{answers-replies-channels}
 
 -- K is 1 and P is 10, which stands as 138
-abbrev party : Party
+abbrev pub party : Party
 party = record { key = 1; floor = 138; mine = λ i. eqb i 5 || eqb i 9 }
 
 -- K on channels 0 and 1, with a write on 0; 2 another's; 3 free
@@ -38,7 +39,7 @@ start =
     }
 
 -- operation, id, map, precedence, key, combinations
-abbrev ask : Op → ℕ → ℕ → ℕ → ℕ → List ℕ → Call
+abbrev pub ask : Op → ℕ → ℕ → ℕ → ℕ → List ℕ → Call
 ask op i m p k l = record { op = op; id = i; flags = 0; map = m; prec = p; key = k; combos = l; room = 64 }
 
 -- K writes on channel 1, its write on channel 0 ends, it stops both
@@ -56,27 +57,21 @@ busy =
     ∷ our (ask (COMMAND 6) 5 3 0 1 [])
     ∷ []
 
-board : Board start
-board = record { sane = unfold machine in tt; four = refl }
+board : OnBoard start
+board = record { sane = unfold machine in tt; size = tt }
 
-start-ready : Start party (stateIn (structOf start) (tableOf start))
-start-ready = rw (board-state board) (starts-all party start (unfold machine claim premises in tt))
-
-quiet-runs : Run party (structOf start) (tableOf start) (moves start quiet)
-quiet-runs = machine-runs-are-code-runs party start quiet board (runs-all party start quiet (unfold machine claim premises in tt))
-
-busy-runs : Run party (structOf start) (tableOf start) (moves start busy)
-busy-runs = machine-runs-are-code-runs party start busy board (runs-all party start busy (unfold machine claim premises in tt))
-
-same-own : own quiet ≡ own busy
-unfolding claim
-same-own = refl
-
-same-calls : ownCalls (moves start quiet) ≡ ownCalls (moves start busy)
-same-calls = ownCalls-moves start quiet ∙ same-own ∙ sym (ownCalls-moves start busy)
+-- two runs of the machine that meet the premises are two such runs of the code
+pub run-alike : (s : StateM) (xs ys : List Step) → OnBoard s → Start party s → RunM party s xs → RunM party s ys → own xs ≡ own ys
+    → Alike party (structOf s) (moves s xs) (moves s ys)
+run-alike s xs ys b a r q e =
+    answers-replies-channels party (structOf s) (tableOf s) (moves s xs) (moves s ys) (board-held b) (rw (board-state b) a)
+    (machine-runs-are-code-runs party s xs b r) (machine-runs-are-code-runs party s ys b q)
+    (ownCalls-moves s xs ∙ (e ∙ sym (ownCalls-moves s ys)))
 
 pub alike : Alike party (structOf start) (moves start quiet) (moves start busy)
-alike = answers-replies-channels party (structOf start) (tableOf start) (moves start quiet) (moves start busy) (board-held board) start-ready quiet-runs busy-runs same-calls
+alike =
+    run-alike start quiet busy board (starts-all party start (unfold machine claim premises in tt)) (runs-all party start quiet (unfold machine claim premises in tt))
+    (runs-all party start busy (unfold machine claim premises in tt)) (unfold claim in refl)
 
 -- two records: the write that ended, and the STOP; id, command, error, map, key
 pub bytes-seen : allRecords party (moves start busy) ≡ (5 ∷ 3 ∷ 0 ∷ 1 ∷ 0 ∷ 1 ∷ []) ∷ (5 ∷ 6 ∷ 0 ∷ 3 ∷ 0 ∷ 1 ∷ []) ∷ []
@@ -84,10 +79,10 @@ unfolding machine codeClaim splice
 bytes-seen = refl
 
 -- and the runs end unlike: the open count and the last key
-pub quiet-end : (stateAfter (structOf start) (moves start quiet) .opens ≡ 1) × (stateAfter (structOf start) (moves start quiet) .last ≡ 7)
+pub quiet-end : (stateAfter (structOf start) (moves start quiet) .state .opens ≡ 1) × (stateAfter (structOf start) (moves start quiet) .state .last ≡ 7)
 unfolding machine codeClaim
 quiet-end = (refl, refl)
 
-pub busy-end : (stateAfter (structOf start) (moves start busy) .opens ≡ 1) × (stateAfter (structOf start) (moves start busy) .last ≡ 9)
+pub busy-end : (stateAfter (structOf start) (moves start busy) .state .opens ≡ 1) × (stateAfter (structOf start) (moves start busy) .state .last ≡ 9)
 unfolding machine codeClaim
 busy-end = (refl, refl)

@@ -1,13 +1,13 @@
--- Demand 3 on the code. A run is a sequence of calls, each of which took a struct and a table to an outcome and a table as
+-- Demand 3 on the code. A run is a sequence of calls, each of which took a board and a table to an outcome and a table as
 -- `Called`, the promise of `arbiter::call`, says. Nothing else is asked of the code, so the claim holds of every implementation
--- of that promise. The premises are those of crates/two_runs, said of the states that the structs and tables of the run hold.
+-- of that promise. The premises are those of crates/two_runs, said of the states that the boards and tables of the run hold.
 -- proofs/CodeRuns.antt proves the claim as `K-sees-the-same-of-the-code`.
 -- Assumes nothing.
 --
 -- A call
 --   Turn                 one call: operation, request, combinations and reply list as lent; outcome, table and list as they became
 --   asked t              its numbers, as the machine's call has them
---   Took st tb t         it took the struct st and the table tb there, by the promise; its precedence is one byte, its key two
+--   Took st tb t         it took the board st and the table tb there, by the promise; its precedence is one byte, its key two
 -- A run
 --   Move, ours t, others t   a call of the K party or an event on a channel of K's; any other call
 --   turn m               the call itself
@@ -21,11 +21,11 @@
 --   recordsTo p n l      those of them to the K party's ids, in order
 --   ownRecords p t       those that a call reported
 --   maskOf p c           a channel as the K party sees it: itself if it has K, else as a free one
---   viewOf p st          all channels of a struct so, each at its place
+--   viewOf p st          all channels of the board so, each at its place
 --   Sight, sights p st ms   answers, records and channels, in the order of the run
 -- The claim
 --   Demand3·code         two runs with the same calls of the K party show it the same
---   stateAfter st ms, tableAfter tb ms   the struct and the table that a run leaves
+--   stateAfter st ms, tableAfter tb ms   the board and the table that a run leaves
 --   ownAnswers ms, allRecords p ms       the answers to the K party's calls; all records to its ids, in order
 --   Alike p st ms ns     the claim in three parts: these two are the same, and its channels are in the end
 --   codeClaim            one name that unfolds these definitions
@@ -38,11 +38,11 @@ use Rattle.machine.specs.Lists.{if_then_else_, keep}
 use Rattle.machine.specs.State.{Call, free}
 use Rattle.channel.specs.declared.Channel.{Channel}
 use Rattle.channel.specs.Channel.{channelOf}
-use Rattle.store.specs.declared.State.{State}
-use Rattle.store.specs.Store.{stateIn, Held}
+use Rattle.board.specs.declared.Board.{Board}
+use Rattle.board.specs.Board.{stateIn, Held}
 use Rattle.answers.specs.declared.Request.{Request}
 use Rattle.answers.specs.declared.Answer.{Answer}
-use Rattle.answers.specs.declared.Outcome.{Outcome}
+use Rattle.board.specs.declared.Outcome.{Outcome}
 use Rattle.answers.specs.Answers.{answerIn}
 use Rattle.refusals.specs.declared.Op.{Op}
 use Rattle.refusals.specs.Refusals.{askedOf}
@@ -63,7 +63,7 @@ pub record Turn : Type 0 where
 abbrev pub asked : Turn → Call
 asked t = askedOf (t .op) (t .request) (t .combos) (length (t .lent))
 
-pub record Took (st : State) (tb : List ℕ) (t : Turn) : Type 0 where
+pub record Took (st : Board) (tb : List ℕ) (t : Turn) : Type 0 where
   pub called : Called (t .op) (t .request) st (t .combos) tb (t .lent) (t .outcome) (t .table) (t .list)
   pub prec : t .request .prec ≤ 255
   pub key : t .request .key ≤ 65535
@@ -78,12 +78,12 @@ abbrev pub turn : Move → Turn
 turn (ours t) = t
 turn (others t) = t
 
-abbrev pub Chained : State → List ℕ → List Move → Type 0
+abbrev pub Chained : Board → List ℕ → List Move → Type 0
 Chained st tb [] = Unit {0}
 Chained st tb (m ∷ ms) = Took st tb (turn m) × Chained (turn m .outcome .state) (turn m .table) ms
 
 -- as `Keeps` of crates/two_runs, on the structs, tables and answers of the run itself
-abbrev pub Keeps : Party → ℕ → State → List ℕ → List Move → Type 0
+abbrev pub Keeps : Party → ℕ → Board → List ℕ → List Move → Type 0
 Keeps p n st tb [] = Unit {0}
 Keeps p n st tb (ours t ∷ ms) = ByK p (stateIn st tb) (asked t) × Keeps p n (t .outcome .state) (t .table) ms
 Keeps p n st tb (others t ∷ ms) =
@@ -94,7 +94,7 @@ abbrev pub Full : List Move → Type 0
 Full [] = Unit {0}
 Full (m ∷ ms) = (384 ≤ length (turn m .lent)) × Full ms
 
-pub record Run (p : Party) (st : State) (tb : List ℕ) (ms : List Move) : Type 0 where
+pub record Run (p : Party) (st : Board) (tb : List ℕ) (ms : List Move) : Type 0 where
   -- the code made these calls, one on what the other left
   pub chained : Chained st tb ms
   -- the K party's calls and the others' are as the demand says; the others have neither opened nor closed yet
@@ -124,8 +124,8 @@ ownRecords p t = recordsTo p (t .outcome .n) (t .list)
 unfoldable pub maskOf : Party → Channel → Channel
 maskOf p c = if eqb (c .key) (p .key) then c else channelOf free
 
-unfoldable pub viewOf : Party → State → List Channel
-viewOf p st = map (maskOf p) (st .channels)
+unfoldable pub viewOf : Party → Board → List Channel
+viewOf p st = map (maskOf p) (take (st .width) (st .state .channels))
 
 -- "the K party's answers, replies and channels"
 pub data Sight : Type 0 where
@@ -135,7 +135,7 @@ pub data Sight : Type 0 where
 
 -- each call of its own and each event on its channels shows the records to its ids, then the answer, then its channels; a
 -- call of the others shows the records to its ids; the end shows its channels
-unfoldable pub sights : Party → State → List Move → List Sight
+unfoldable pub sights : Party → Board → List Move → List Sight
 sights p st [] = has (viewOf p st) ∷ []
 sights p st (ours t ∷ ms) =
     map got (ownRecords p t) ++ told (t .outcome .answer) ∷ has (viewOf p (t .outcome .state)) ∷ sights p (t .outcome .state) ms
@@ -146,12 +146,12 @@ sights p st (others t ∷ ms) = map got (ownRecords p t) ++ sights p (t .outcome
 -- "then the K party's answers, replies and channels are the same in both runs"
 abbrev pub Demand3·code : Type 0
 Demand3·code =
-    (p : Party) (st : State) (tb : List ℕ) (ms ns : List Move) → Held st tb → Start p (stateIn st tb) → Run p st tb ms → Run p st tb ns
+    (p : Party) (st : Board) (tb : List ℕ) (ms ns : List Move) → Held st tb → Start p (stateIn st tb) → Run p st tb ms → Run p st tb ns
     → ownCalls ms ≡ ownCalls ns → sights p st ms ≡ sights p st ns
 
 -- ---- what a run leaves, and the claim in three parts
 
-unfoldable pub stateAfter : State → List Move → State
+unfoldable pub stateAfter : Board → List Move → Board
 stateAfter st [] = st
 stateAfter st (m ∷ ms) = stateAfter (turn m .outcome .state) ms
 
@@ -168,7 +168,7 @@ unfoldable pub allRecords : Party → List Move → List (List ℕ)
 allRecords p [] = []
 allRecords p (m ∷ ms) = ownRecords p (turn m) ++ allRecords p ms
 
-pub record Alike (p : Party) (st : State) (ms ns : List Move) : Type 0 where
+pub record Alike (p : Party) (st : Board) (ms ns : List Move) : Type 0 where
   pub answers : ownAnswers ms ≡ ownAnswers ns
   pub replies : allRecords p ms ≡ allRecords p ns
   pub channels : viewOf p (stateAfter st ms) ≡ viewOf p (stateAfter st ns)

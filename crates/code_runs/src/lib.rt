@@ -1,9 +1,9 @@
 // Demand 3 on the code is a statement (specs/) and its proof (proofs/). This function is a call of a run: it makes
 // `arbiter::call`, and its types see to the two ranges that a run asks. Assumes nothing.
-use answers::Outcome;
 use answers::Request;
+use board::Board;
+use board::Outcome;
 use refusals::Op;
-use store::State;
 ghost use Prim.Native.Nat.{_≤_};
 ghost use Rattle.code_runs.specs.CodeRuns.{Took};
 
@@ -15,13 +15,14 @@ fn ranges(prec: u8, key: u16)
 pub fn take_turn(
     op: Op,
     r: Request,
-    s: State,
+    b: Board,
     combos: &[u8],
     table: &mut [u8],
     replies: &mut [u8],
 ) -> Outcome
-    ensures { λ d. ⌜ Took s (now (table .entry)) (record { op = op; request = r; combos = now (combos .entry); lent = now (replies .entry); outcome = d; table = now (table .exit); list = now (replies .exit) }) ⌝ }
+    ensures { λ d. ⌜ Took b (now (table .entry))
+        (record { op = op; request = r; combos = now (combos .entry); lent = now (replies .entry); outcome = d; table = now (table .exit); list = now (replies .exit) }) ⌝ }
 {
     ranges(r.prec, r.key);
-    arbiter::call(op, r, s, combos, table, replies)
+    arbiter::call(op, r, b, combos, table, replies)
 }

@@ -19,7 +19,7 @@ use Rattle.machine.specs.Commands.{done, silent, playing, doEvent}
 use Rattle.store.specs.declared.State.{State}
 use Rattle.store.specs.Store.{stateIn, Held}
 use Rattle.store.specs.Work.{Did}
-use Rattle.store.proofs.Store.{held-parts, held-four}
+use Rattle.store.proofs.Store.{held-parts, held-eight}
 use Rattle.answers.specs.declared.Request.{Request}
 use Rattle.answers.specs.declared.Answer.{Answer}
 use Rattle.answers.specs.declared.Outcome.{Outcome}
@@ -31,7 +31,7 @@ use Rattle.play.proofs.Outcomes.{front-is, front-none, event-none, event-still,
 
 -- ---- the front write ends
 
-module _ {st : State} {tb : List ℕ} (h : Held st tb) (i : ℕ) (g : i < 4) (c : Channel) (ec : c ≡ getD (st .channels) i (channelOf free)) (j : ℕ) (ej : j ≡ frontOf (channelIn c)) (small : j < 255) where
+module _ {st : State} {tb : List ℕ} (h : Held st tb) (i : ℕ) (g : i < 8) (c : Channel) (ec : c ≡ getD (st .channels) i (channelOf free)) (j : ℕ) (ej : j ≡ frontOf (channelIn c)) (small : j < 255) where
   pub same-channel : c ≡ channelOf (getD (stateIn st tb .channels) i free)
   same-channel = ec ∙ channel-is h i g (channelOf free)
 
@@ -56,7 +56,7 @@ module _ {st : State} {tb : List ℕ} (h : Held st tb) (i : ℕ) (g : i < 4) (c 
   end-did {l = l} et eb el bb en =
       record {
         struct = et ∙ front-struct h i g c j (front-at .0) same-channel (front-at .1) (front-below .0);
-        table = eb ∙ (ap (λ (x : List ℕ). splice x (j * 23) idle) (h .table) ∙ front-table (stateIn st tb) i j (front-at .0) (held-parts h) (rw (held-four h) g) (front-at .1));
+        table = eb ∙ (ap (λ (x : List ℕ). splice x (j * 23) idle) (h .table) ∙ front-table (stateIn st tb) i j (front-at .0) (held-parts h) (rw (held-eight h) g) (front-at .1));
         list = el ∙ ap (λ (x : ℕ). splice l 0 (encode (record { id = j; command = 3; error = 0; map = x; key = c .key }))) bb;
         count = en;
       }
@@ -69,23 +69,23 @@ module _ {st : State} {tb : List ℕ} (h : Held st tb) (r : Request) where
   unfolding silent
   event-quiet {l = l} ea e = told-as e (record { answer = ea; did = record { struct = h .struct; table = h .table; list = sym (splice-none l 0); count = refl } })
 
-  pub event-off : (i : ℕ) → i ≡ lowestFrom 4 (r .map) → 4 ≤ i → doEvent (callOf r []) (stateIn st tb) ≡ silent (done 0 0 (r .key) NONE) [] (stateIn st tb)
-  event-off i e g = event-none (callOf r []) (stateIn st tb) (rw (held-four h, ← e) g)
+  pub event-off : (i : ℕ) → i ≡ lowestFrom 8 (r .map) → 8 ≤ i → doEvent (callOf r []) (stateIn st tb) ≡ silent (done 0 0 (r .key) NONE) [] (stateIn st tb)
+  event-off i e g = event-none (callOf r []) (stateIn st tb) (rw (held-eight h, ← e) g)
 
-  pub event-idle : (i : ℕ) (d : Channel) → i ≡ lowestFrom 4 (r .map) → i < 4 → 255 ≡ frontOf (channelIn (getD (st .channels) i d))
+  pub event-idle : (i : ℕ) (d : Channel) → i ≡ lowestFrom 8 (r .map) → i < 8 → 255 ≡ frontOf (channelIn (getD (st .channels) i d))
       → doEvent (callOf r []) (stateIn st tb) ≡ silent (done 0 0 (r .key) NONE) [] (stateIn st tb)
   event-idle i d e g f =
       let c = getD (stateIn st tb .channels) i free in
       let q : 255 ≡ frontOf c = f ∙ (ap (λ (x : Channel). frontOf (channelIn x)) (channel-is h i g d) ∙ ap frontOf (channelIn-of c)) in
-      event-still (callOf r []) (stateIn st tb) i (rw (held-four h) e) (rw (held-four h) g)
+      event-still (callOf r []) (stateIn st tb) i (rw (held-eight h) e) (rw (held-eight h) g)
       (front-none c q (λ j ws w. front-room (stateIn st tb) i j ws (held-parts h) w .1))
 
-  pub event-told : {o : Outcome} {tb′ l l′ : List ℕ} (i : ℕ) → i ≡ lowestFrom 4 (r .map) → (g : i < 4) (c : Channel) (ec : c ≡ getD (st .channels) i (channelOf free)) (j : ℕ) (ej : j ≡ frontOf (channelIn c)) (small : j < 255)
+  pub event-told : {o : Outcome} {tb′ l l′ : List ℕ} (i : ℕ) → i ≡ lowestFrom 8 (r .map) → (g : i < 8) (c : Channel) (ec : c ≡ getD (st .channels) i (channelOf free)) (j : ℕ) (ej : j ≡ frontOf (channelIn c)) (small : j < 255)
       → o .answer ≡ answerOf (done 0 (2 ^ i) (r .key) NONE) → Did (withFront i (stateIn st tb)) (record { id = j; command = 3; error = 0; map = 2 ^ i; key = c .key } ∷ []) l 0 (o .state) tb′ l′ (o .n)
       → Told (doEvent (callOf r []) (stateIn st tb)) l o tb′ l′
   unfolding silent
   event-told {o} {tb′} {l} {l′} i e g c ec j ej small ea d =
       let f = front-at h i g c ec j ej small in
       let k : c .key ≡ getD (stateIn st tb .channels) i free .key = ap (λ (x : Channel). x .key) (same-channel h i g c ec j ej small) in
-      told-as (event-ends (callOf r []) (stateIn st tb) i (rw (held-four h) e) (rw (held-four h) g) j (f .0) (f .2) (f .1))
+      told-as (event-ends (callOf r []) (stateIn st tb) i (rw (held-eight h) e) (rw (held-eight h) g) j (f .0) (f .2) (f .1))
       (record { answer = ea; did = subst (λ (x : ℕ). Did (withFront i (stateIn st tb)) (record { id = j; command = 3; error = 0; map = 2 ^ i; key = x } ∷ []) l 0 (o .state) tb′ l′ (o .n)) k d })

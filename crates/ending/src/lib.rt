@@ -21,7 +21,7 @@ pub fn event(r: Request, s: State, table: &mut [u8], replies: &mut [u8]) -> Outc
     ensures { λ d. ⌜ Does (doEvent (callOf r [])) s (now (table .entry)) (now (replies .entry)) d (now (table .exit)) (now (replies .exit)) ⌝ }
 {
     let i = channel::lowest(r.map);
-    if 4 <= i {
+    if 8 <= i {
         let no = answers::done(0, 0, r.key, 255);
         return Outcome {
             answer: no,
@@ -53,7 +53,7 @@ fn end_front(
     c: Channel,
     id: u8,
 ) -> Outcome
-    requires { ⌜ Ready s (now table) (now replies) 0 1 × (i < 4) × (c ≡ getD (s .channels) i (channelOf free)) × (id ≡ frontOf (channelIn c)) × (id < 255) ⌝ }
+    requires { ⌜ Ready s (now table) (now replies) 0 1 × (i < 8) × (c ≡ getD (s .channels) i (channelOf free)) × (id ≡ frontOf (channelIn c)) × (id < 255) ⌝ }
     ensures { λ d. ⌜ EndsFront i id (c .key) r s (now (table .entry)) (now (replies .entry)) d (now (table .exit)) (now (replies .exit)) ⌝ }
 {
     let b = play::bit(i);

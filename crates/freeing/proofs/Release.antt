@@ -22,7 +22,7 @@ use Rattle.store.specs.declared.State.{State}
 use Rattle.store.specs.Store.{writeItem, lockItem, waitItem, writeItems, items, tableOf, stateIn, Held}
 use Rattle.store.specs.Work.{Ready, Did}
 use Rattle.store.proofs.Table.{good-sub}
-use Rattle.store.proofs.Store.{held-parts, held-four, good-of}
+use Rattle.store.proofs.Store.{held-parts, held-eight, good-of}
 use Rattle.granting.specs.Granting.{idled, writesIn}
 use Rattle.granting.proofs.Laws.{held-changed, held-cleared}
 use Rattle.locks.specs.declared.Sifted.{Sifted}
@@ -55,11 +55,11 @@ module _ {st : State} {tb : List ℕ} (m : ℕ) (h : Held st tb) where
   over = ending false m (stateIn st tb .locks)
 
   pub left-is : left ≡ keep (λ l. not (isEmpty l)) (cleared (length (stateIn st tb .channels)) m (stateIn st tb .locks))
-  left-is = rw (held-four h) (lefts-freed m (stateIn st tb .locks))
+  left-is = rw (held-eight h) (lefts-freed m (stateIn st tb .locks))
 
   pub replies-are : abortedIn m (stateIn st tb .channels) ++ over ≡ freeingReplies m (stateIn st tb)
   unfolding freeingReplies
-  replies-are = rw (held-four h, ending-freed m (stateIn st tb .locks))
+  replies-are = rw (held-eight h, ending-freed m (stateIn st tb .locks))
 
   pub replies-count : length (abortedIn m (stateIn st tb .channels)) + length over ≡ length (freeingReplies m (stateIn st tb))
   replies-count = sym (length-append (abortedIn m (stateIn st tb .channels)) over) ∙ ap length replies-are
@@ -72,7 +72,7 @@ module _ {st : State} {tb l : List ℕ} (m : ℕ) (p : Ready st tb l 0 (length (
       let e = replies-count m (p .held) in
       omega arith
 
-  module _ (b : m < 16) {l₁ tb₁ : List ℕ} {at : ℕ}
+  module _ (b : m < 256) {l₁ tb₁ : List ℕ} {at : ℕ}
       (w : (at ≡ 0 + length (abortedIn m (stateIn st tb .channels))) × (l₁ ≡ sent l 0 (abortedIn m (stateIn st tb .channels)))
       × (tb₁ ≡ idled (writesIn m (stateIn st tb .channels)) tb)) where
     pub sifting : Sifting false m (st .locks) tb₁ l₁ at
@@ -91,7 +91,7 @@ module _ {st : State} {tb l : List ℕ} (m : ℕ) (p : Ready st tb l 0 (length (
             table = w .2 ∙ held-cleared h freed (λ _. refl) m;
             good = good-sub (sub-append (sub-append (sub-items m (s .channels)) (sub-refl (map lockItem (s .locks)))) (sub-refl (map waitItem (s .waiting))))
                 (good-of s (held-parts h));
-            maps = maps-small s (held-parts h) (held-four h);
+            maps = maps-small s (held-parts h) (held-eight h);
           };
           wanted = b;
           room = let e = replies-count m h in
@@ -126,7 +126,7 @@ module _ {st : State} {tb l : List ℕ} (m : ℕ) (p : Ready st tb l 0 (length (
 
 -- ---- FREE
 
-module _ {st : State} {tb : List ℕ} (r : Request) (h : Held st tb) (b : r .map < 16) (free : r .command ≡ 9) {ok : ℕ}
+module _ {st : State} {tb : List ℕ} (r : Request) (h : Held st tb) (b : r .map < 256) (free : r .command ≡ 9) {ok : ℕ}
     (e : ok ≡ matchingEach (r .key) (r .map) (st .channels)) where
   pub free-ready : {l : List ℕ} → Ready st tb l 0 (length (freeingReplies (matching (r .key) (r .map) (stateIn st tb .channels)) (stateIn st tb)) + 1)
       → Ready st tb l 0 (length (freeingReplies ok (stateIn st tb)))
@@ -161,18 +161,22 @@ module _ {st : State} {tb : List ℕ} (r : Request) (h : Held st tb) (b : r .map
 less : (n : ℕ) → n - 1 ≡ pred n
 less n = omega arith
 
-owned-four : (k : ℕ) (cs : List ChannelM) → length cs ≡ 4 → owned k cs ≡ matching k 15 cs
+owned-eight : (k : ℕ) (cs : List ChannelM) → length cs ≡ 8 → owned k cs ≡ matching k 255 cs
 unfolding owned matching odd half
-owned-four k [] f = absurd (omega arith)
-owned-four k (a ∷ []) f = absurd (omega arith)
-owned-four k (a ∷ b ∷ []) f = absurd (omega arith)
-owned-four k (a ∷ b ∷ c ∷ []) f = absurd (omega arith)
-owned-four k (a ∷ b ∷ c ∷ d ∷ []) f = refl
-owned-four k (a ∷ b ∷ c ∷ d ∷ e ∷ cs) f = absurd (omega arith)
+owned-eight k [] f = absurd (omega arith)
+owned-eight k (a ∷ []) f = absurd (omega arith)
+owned-eight k (a ∷ b ∷ []) f = absurd (omega arith)
+owned-eight k (a ∷ b ∷ c ∷ []) f = absurd (omega arith)
+owned-eight k (a ∷ b ∷ c ∷ d ∷ []) f = absurd (omega arith)
+owned-eight k (a ∷ b ∷ c ∷ d ∷ u ∷ []) f = absurd (omega arith)
+owned-eight k (a ∷ b ∷ c ∷ d ∷ u ∷ v ∷ []) f = absurd (omega arith)
+owned-eight k (a ∷ b ∷ c ∷ d ∷ u ∷ v ∷ w ∷ []) f = absurd (omega arith)
+owned-eight k (a ∷ b ∷ c ∷ d ∷ u ∷ v ∷ w ∷ x ∷ []) f = refl
+owned-eight k (a ∷ b ∷ c ∷ d ∷ u ∷ v ∷ w ∷ x ∷ y ∷ cs) f = absurd (omega arith)
 
-module _ {st : State} {tb : List ℕ} (r : Request) (h : Held st tb) {ok : ℕ} (e : ok ≡ matchingEach (r .key) 15 (st .channels)) where
+module _ {st : State} {tb : List ℕ} (r : Request) (h : Held st tb) {ok : ℕ} (e : ok ≡ matchingEach (r .key) 255 (st .channels)) where
   pub owned-is : ok ≡ owned (r .key) (stateIn st tb .channels)
-  owned-is = e ∙ match-is h (r .key) 15 ∙ sym (owned-four (r .key) (stateIn st tb .channels) (held-four h))
+  owned-is = e ∙ match-is h (r .key) 255 ∙ sym (owned-eight (r .key) (stateIn st tb .channels) (held-eight h))
 
   pub close-ready : {l : List ℕ} → Ready st tb l 0 (length (freeingReplies (owned (r .key) (stateIn st tb .channels)) (stateIn st tb)))
       → Ready st tb l 0 (length (freeingReplies ok (stateIn st tb)))

@@ -22,7 +22,7 @@ pub struct Freed {
 
 // The channels of a map freed: their writes aborted, their bits cleared in every lock.
 pub fn freeing(s: State, map: u8, table: &mut [u8], replies: &mut [u8]) -> Freed
-    requires { ⌜ Ready s (now table) (now replies) 0 (length (freeingReplies map (stateIn s (now table)))) × (map < 16) ⌝ }
+    requires { ⌜ Ready s (now table) (now replies) 0 (length (freeingReplies map (stateIn s (now table)))) × (map < 256) ⌝ }
     ensures { λ r. ⌜ Frees map s (now (table .entry)) (now (replies .entry)) r (now (table .exit)) (now (replies .exit)) ⌝ }
 {
     let cs = s.channels;
@@ -39,7 +39,7 @@ pub fn freeing(s: State, map: u8, table: &mut [u8], replies: &mut [u8]) -> Freed
 
 // FREE.
 pub fn free(r: Request, s: State, table: &mut [u8], replies: &mut [u8]) -> Outcome
-    requires { ⌜ Ready s (now table) (now replies) 0 (length (matchReplies r (stateIn s (now table))) + 1) × (r .map < 16) × (r .command ≡ 9) ⌝ }
+    requires { ⌜ Ready s (now table) (now replies) 0 (length (matchReplies r (stateIn s (now table))) + 1) × (r .map < 256) × (r .command ≡ 9) ⌝ }
     ensures { λ d. ⌜ Does (doFree (callOf r [])) s (now (table .entry)) (now (replies .entry)) d (now (table .exit)) (now (replies .exit)) ⌝ }
 {
     let cs = s.channels;

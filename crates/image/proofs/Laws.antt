@@ -1,13 +1,13 @@
 -- A struct and its bytes: what the stores leave, and that each is read back from the other. Assumes nothing.
-use Prim.Native.Nat.{ℕ, zero, suc, _+_, _*_, _≤_, _<_}
-use mathlib.Core.Path.{_≡_, refl, ap, sym, _∙_}
+use Prim.Native.Nat.{ℕ, zero, suc, _+_, _-_, _*_, _≤_, _<_}
+use mathlib.Core.Path.{_≡_, refl, ap, ap₂, sym, _∙_}
 use mathlib.Core.Bool.{Bool, true, false, _&&_}
 use mathlib.Core.List.{List, [], _∷_, _++_, append-assoc, append-nil}
 use native.Mathlib.Omega.{arith}
 use native.Mathlib.Numerals.{add-one}
 use lib.Dec.{eqb, eqb→eq}
 use lib.ListN.{length, getD, take, drop, set, replicate, length-append, length-replicate, length-take, length-drop, drop-of-length-le}
-use lib.Seq.{take-suc, take-all}
+use lib.Seq.{take-suc, take-suc-set, take-all}
 use borrow.Author.Tests.{lt-ltb, eq-eqb, ne-eqb}
 use Rattle.memory.specs.Splice.{splice}
 use Rattle.memory.proofs.Splice.{splice-none, set-splice, splice-append, splice-then, splice-snoc, length-splice}
@@ -15,8 +15,8 @@ use Rattle.machine.specs.Lists.{all}
 use Rattle.machine.proofs.Tests.{and-left}
 use Rattle.queue.specs.declared.Queue.{Queue}
 use Rattle.channel.specs.declared.Channel.{Channel}
-use Rattle.store.specs.declared.State.{State}
-use Rattle.image.specs.Image.{markOf, keyBytes, queueBytes, channelBytes, channelsBytes, imageOf, keyAt, queueAt, channelAt, stateOf, isByte, marksAt, isWhole, Whole, Filled, AllFilled, Wrote, Entered}
+use Rattle.board.specs.declared.Board.{Board}
+use Rattle.image.specs.Image.{markOf, keyBytes, queueBytes, channelBytes, channelsBytes, imageOf, keyAt, queueAt, channelAt, channelsAt, stateOf, isByte, marksAt, allMarks, isWhole, Whole, Filled, AllFilled, Wrote, Entered}
 
 -- ---- the test
 
@@ -31,31 +31,40 @@ bytes-all [] h = refl
 bytes-all (b ∷ bs) h = rw (lt-ltb b 256 (h 0)) (bytes-all bs (λ i. h (suc i)))
 
 module _ (bs : List ℕ) where
-  pub not-long : (length bs ≡ 414 → ⊥) → false ≡ isWhole bs
+  pub not-long : (length bs ≡ 695 → ⊥) → false ≡ isWhole bs
   unfolding isWhole
-  not-long n = rw (ne-eqb (length bs) 414 n)
+  not-long n = rw (ne-eqb (length bs) 695 n)
 
-  pub whole-long : Whole bs → length bs ≡ 414
+  pub whole-long : Whole bs → length bs ≡ 695
   unfolding isWhole
-  whole-long w = eqb→eq (length bs) 414 (and-left (eqb (length bs) 414) _ w)
+  whole-long w = eqb→eq (length bs) 695 (and-left (eqb (length bs) 695) _ w)
 
-  module _ (l : length bs ≡ 414) where
-    pub no-first : marksAt bs 0 ≡ false → false ≡ isWhole bs
-    unfolding isWhole
-    no-first a = rw (eq-eqb (length bs) 414 l, a)
+  pub the-marks : length bs ≡ 695 → ((i : ℕ) → getD bs i 0 < 256) → allMarks 8 bs 0 ≡ isWhole bs
+  unfolding isWhole
+  the-marks l h = rw (eq-eqb (length bs) 695 l, bytes-all bs h) (sym (and-on (allMarks 8 bs 0)))
 
-    pub no-second : marksAt bs 0 ≡ true → marksAt bs 70 ≡ false → false ≡ isWhole bs
-    unfolding isWhole
-    no-second a b = rw (eq-eqb (length bs) 414 l, a, b)
+-- the marks of the channels left are those of all, where the ones before are marks
+pub record Marked (bs : List ℕ) (i : ℕ) : Type 0 where
+  pub rest : allMarks (8 - i) bs (i * 70) ≡ allMarks 8 bs 0
 
-    pub no-third : marksAt bs 0 ≡ true → marksAt bs 70 ≡ true → marksAt bs 140 ≡ false → false ≡ isWhole bs
-    unfolding isWhole
-    no-third a b c = rw (eq-eqb (length bs) 414 l, a, b, c)
+module _ {bs : List ℕ} {i : ℕ} (t : Marked bs i) where
+  pub marked-end : 8 ≤ i → true ≡ allMarks 8 bs 0
+  unfolding allMarks
+  marked-end h = let e : 8 - i ≡ 0 = omega arith in rw e at (t .rest)
 
-    pub the-fourth : marksAt bs 0 ≡ true → marksAt bs 70 ≡ true → marksAt bs 140 ≡ true → ((i : ℕ) → getD bs i 0 < 256)
-        → marksAt bs 210 ≡ isWhole bs
-    unfolding isWhole
-    the-fourth a b c h = rw (eq-eqb (length bs) 414 l, a, b, c, bytes-all bs h) (sym (and-on (marksAt bs 210)))
+  module _ (h : i < 8) where
+    one-left : allMarks (8 - i) bs (i * 70) ≡ (marksAt bs (i * 70) && allMarks (8 - (i + 1)) bs ((i + 1) * 70))
+    unfolding allMarks
+    one-left =
+        let e : 8 - i ≡ suc (8 - (i + 1)) = omega arith in
+        let f : i * 70 + 70 ≡ (i + 1) * 70 = omega arith in
+        ap (λ (n : ℕ). allMarks n bs (i * 70)) e ∙ ap (λ (n : ℕ). marksAt bs (i * 70) && allMarks (8 - (i + 1)) bs n) f
+
+    pub marked-stop : marksAt bs (i * 70) ≡ false → false ≡ allMarks 8 bs 0
+    marked-stop e = sym (one-left ∙ ap (λ (b : Bool). b && allMarks (8 - (i + 1)) bs ((i + 1) * 70)) e) ∙ t .rest
+
+    pub marked-more : marksAt bs (i * 70) ≡ true → Marked bs (i + 1)
+    marked-more e = record { rest = sym (one-left ∙ ap (λ (b : Bool). b && allMarks (8 - (i + 1)) bs ((i + 1) * 70)) e) ∙ t .rest }
 
 -- ---- splice
 
@@ -158,42 +167,64 @@ pub filled-turn : (cs : List Channel) (i : ℕ) (d : Channel) {at : ℕ} {l₁ l
     → Wrote l₁ at (channelBytes (getD cs i d)) 70 l₂ → AllFilled (take (i + 1) cs)
 filled-turn cs i d h a w = rw add-one (each-more cs i d h a (channel-filled (getD cs i d) (w .size)))
 
-pub channels-entered : (l : List ℕ) (cs : List Channel) {l₁ : List ℕ} → length cs ≡ 4 → AllFilled (take 4 cs) → Wrote l 0 (channelsBytes (take 4 cs)) 280 l₁
+pub channels-entered : (l : List ℕ) (cs : List Channel) {l₁ : List ℕ} → length cs ≡ 8 → AllFilled (take 8 cs) → Wrote l 0 (channelsBytes (take 8 cs)) 560 l₁
     → Entered l cs l₁
-channels-entered l cs h a w = let e = take-all 4 cs (omega arith) in record { four = h; filled = rw e at a; wrote = rw e at w }
+channels-entered l cs h a w = let e = take-all 8 cs (omega arith) in record { eight = h; filled = rw e at a; wrote = rw e at w }
+
+-- channels read one after another
+channels-snoc : (n : ℕ) (bs : List ℕ) (at : ℕ) → channelsAt (suc n) bs at ≡ channelsAt n bs at ++ (channelAt bs (at + n * 70) ∷ [])
+unfolding channelsAt
+channels-snoc zero bs at = let e : at ≡ at + 0 * 70 = omega arith in ap (λ (k : ℕ). channelAt bs k ∷ []) e
+channels-snoc (suc n) bs at =
+    let e : at + 70 + n * 70 ≡ at + suc n * 70 = omega arith in
+    ap (λ (l : List Channel). channelAt bs at ∷ l) (channels-snoc n bs (at + 70) ∙ ap (λ (k : ℕ). channelsAt n bs (at + 70) ++ (channelAt bs k ∷ [])) e)
+
+pub channels-more-at : (bs : List ℕ) (cs : List Channel) (i : ℕ) {c : Channel} → i < length cs → take i cs ≡ channelsAt i bs 0 → c ≡ channelAt bs (i * 70)
+    → take (i + 1) (set cs i c) ≡ channelsAt (i + 1) bs 0
+channels-more-at bs cs i {c} h t e =
+    let z : 0 + i * 70 ≡ i * 70 = omega arith in
+    rw (add-one i) (take-suc-set cs i c h ∙ (ap₂ (λ (l : List Channel) (d : Channel). l ++ (d ∷ [])) t (e ∙ ap (channelAt bs) (sym z)) ∙ sym (channels-snoc i bs 0)))
 
 -- ---- the whole
 
-module _ (l : List ℕ) (s : State) (h : length l ≡ 414) where
-  pub state-wrote : {l₁ l₂ l₃ l₄ l₅ : List ℕ} → Wrote l 0 (channelsBytes (s .channels)) 280 l₁ → Wrote l₁ 280 (queueBytes (s .locks)) 65 l₂
-      → Wrote l₂ 345 (queueBytes (s .waiting)) 65 l₃ → l₄ ≡ splice l₃ 410 (keyBytes (s .opens)) → l₅ ≡ splice l₄ 412 (keyBytes (s .last))
-      → l₅ ≡ imageOf s
-  unfolding imageOf
-  state-wrote a b c d e =
-      let u = channelsBytes (s .channels) in
-      let v = queueBytes (s .locks) in
-      let w = queueBytes (s .waiting) in
-      let x = keyBytes (s .opens) in
-      let y = keyBytes (s .last) in
-      let p = a .size in
-      let q = b .size in
-      let r = c .size in
-      let uv : length (u ++ v) ≡ 345 = rw length-append (omega arith) in
-      let uvw : length ((u ++ v) ++ w) ≡ 410 = rw length-append (omega arith) in
-      let uvwx : length (((u ++ v) ++ w) ++ x) ≡ 412 = rw length-append (omega arith) in
-      let all : length ((((u ++ v) ++ w) ++ x) ++ y) ≡ 414 = rw length-append (omega arith) in
-      e ∙ (rw (d, c .bytes, b .bytes, a .bytes)
-      (rw (
-        splice-then l 0 u v 280 (omega arith) (omega arith),
-        splice-then l 0 (u ++ v) w 345 (omega arith) (omega arith),
-        splice-then l 0 ((u ++ v) ++ w) x 410 (omega arith) (omega arith),
-        splice-then l 0 (((u ++ v) ++ w) ++ x) y 412 (omega arith) (omega arith),
-        splice-whole l ((((u ++ v) ++ w) ++ x) ++ y) (omega arith),
-      )
-      (simp append-assoc)))
+regroup : (u v w x y z : List ℕ) → ((((u ++ v) ++ w) ++ x) ++ y) ++ z ≡ u ++ (v ++ (w ++ (x ++ (y ++ z))))
+regroup u v w x y z = simp append-assoc
 
-pub state-parts : (bs : List ℕ) {a b c d : Channel} {p q : Queue} {m n : ℕ} → a ≡ channelAt bs 0 → b ≡ channelAt bs 70 → c ≡ channelAt bs 140 → d ≡ channelAt bs 210
-    → p ≡ queueAt bs 280 → q ≡ queueAt bs 345 → m ≡ keyAt bs 410 → n ≡ keyAt bs 412
-    → _≡_ {A = State} (record { channels = a ∷ b ∷ c ∷ d ∷ []; locks = p; waiting = q; opens = m; last = n }) (stateOf bs)
+module _ (l : List ℕ) (b : Board) (h : length l ≡ 695) where
+  pub state-wrote : {l₁ l₂ l₃ l₄ l₅ : List ℕ} → Wrote l 0 (channelsBytes (b .state .channels)) 560 l₁ → Wrote l₁ 560 (queueBytes (b .state .locks)) 65 l₂
+      → Wrote l₂ 625 (queueBytes (b .state .waiting)) 65 l₃ → l₄ ≡ splice l₃ 690 (keyBytes (b .state .opens)) → l₅ ≡ splice l₄ 692 (keyBytes (b .state .last))
+      → set l₅ 694 (b .width) ≡ imageOf b
+  unfolding imageOf
+  state-wrote {l₁} {l₂} {l₃} {l₄} {l₅} a b′ c d e =
+      let u = channelsBytes (b .state .channels) in
+      let v = queueBytes (b .state .locks) in
+      let w = queueBytes (b .state .waiting) in
+      let x = keyBytes (b .state .opens) in
+      let y = keyBytes (b .state .last) in
+      let p = a .size in
+      let q = b′ .size in
+      let r = c .size in
+      let uv : length (u ++ v) ≡ 625 = rw length-append (omega arith) in
+      let uvw : length ((u ++ v) ++ w) ≡ 690 = rw length-append (omega arith) in
+      let uvwx : length (((u ++ v) ++ w) ++ x) ≡ 692 = rw length-append (omega arith) in
+      let uvwxy : length ((((u ++ v) ++ w) ++ x) ++ y) ≡ 694 = rw length-append (omega arith) in
+      let all : length (((((u ++ v) ++ w) ++ x) ++ y) ++ b .width ∷ []) ≡ 695 = rw length-append (omega arith) in
+      ap (λ (k : List ℕ). set k 694 (b .width)) e ∙ (rw (d, c .bytes, b′ .bytes, a .bytes)
+      (rw (
+        splice-then l 0 u v 560 (omega arith) (omega arith),
+        splice-then l 0 (u ++ v) w 625 (omega arith) (omega arith),
+        splice-then l 0 ((u ++ v) ++ w) x 690 (omega arith) (omega arith),
+        splice-then l 0 (((u ++ v) ++ w) ++ x) y 692 (omega arith) (omega arith),
+        last-byte ((((u ++ v) ++ w) ++ x) ++ y) uvwxy,
+        splice-whole l (((((u ++ v) ++ w) ++ x) ++ y) ++ b .width ∷ []) (omega arith),
+      )
+      (regroup u v w x y (b .width ∷ []))))
+    where
+      last-byte : (vs : List ℕ) → length vs ≡ 694 → set (splice l 0 vs) 694 (b .width) ≡ splice l 0 (vs ++ b .width ∷ [])
+      last-byte vs k = let z : 694 ≡ 0 + length vs = omega arith in ap (λ (n : ℕ). set (splice l 0 vs) n (b .width)) z ∙ splice-snoc l 0 vs (b .width) (omega arith)
+
+pub state-parts : (bs : List ℕ) {cs : List Channel} {p q : Queue} {m n : ℕ} → cs ≡ channelsAt 8 bs 0
+    → p ≡ queueAt bs 560 → q ≡ queueAt bs 625 → m ≡ keyAt bs 690 → n ≡ keyAt bs 692
+    → _≡_ {A = Board} (record { width = getD bs 694 0; state = record { channels = cs; locks = p; waiting = q; opens = m; last = n } }) (stateOf bs)
 unfolding stateOf
-state-parts bs e f g h j k m n i = record { channels = e i ∷ f i ∷ g i ∷ h i ∷ []; locks = j i; waiting = k i; opens = m i; last = n i }
+state-parts bs e j k m n i = record { width = getD bs 694 0; state = record { channels = e i; locks = j i; waiting = k i; opens = m i; last = n i } }

@@ -1,4 +1,4 @@
--- Bytes that hold a struct are the bytes of that struct; the bytes of a struct hold it. Assumes nothing.
+-- Bytes that hold a board are the bytes of that board; the bytes of a board hold it. Assumes nothing.
 use Prim.Native.Nat.{ℕ, zero, suc, _+_, _*_, _/_, _%_, _≤_, _<_}
 use mathlib.Core.Path.{_≡_, refl, ap, ap₂, sym, subst, _∙_}
 use mathlib.Core.Bool.{Bool, true, false, _&&_}
@@ -14,8 +14,8 @@ use Rattle.machine.specs.Lists.{all}
 use Rattle.machine.proofs.Tests.{and-left, and-right}
 use Rattle.queue.specs.declared.Queue.{Queue}
 use Rattle.channel.specs.declared.Channel.{Channel}
-use Rattle.store.specs.declared.State.{State}
-use Rattle.image.specs.Image.{markOf, keyBytes, queueBytes, channelBytes, channelsBytes, imageOf, keyAt, queueAt, channelAt, stateOf, isByte, isMark, marksAt, isWhole, Whole, Filled, AllFilled, Sized, Saved}
+use Rattle.board.specs.declared.Board.{Board}
+use Rattle.image.specs.Image.{markOf, keyBytes, queueBytes, channelBytes, channelsBytes, imageOf, keyAt, queueAt, channelAt, channelsAt, stateOf, isByte, isMark, marksAt, allMarks, isWhole, Whole, Filled, AllFilled, Sized, Saved}
 use Rattle.image.proofs.Laws.{whole-long, bytes-all}
 
 -- ---- what stands behind a list
@@ -78,153 +78,136 @@ channel-long : (c : Channel) → Filled (c .writes) → length (channelBytes c) 
 unfolding channelBytes
 channel-long c f = omega arith
 
+-- channels, one behind the other
+channels-long : (cs : List Channel) → AllFilled cs → length (channelsBytes cs) ≡ length cs * 70
+unfolding channelsBytes
+channels-long [] f = refl
+channels-long (c ∷ cs) f = let a = channel-long c (f .0) in let b = channels-long cs (f .1) in length-append (channelBytes c) (channelsBytes cs) ∙ omega arith
+
+module _ (vs : List ℕ) where
+  channels-back : (cs : List Channel) → AllFilled cs → (us : List ℕ) (at : ℕ) → length us ≡ at → channelsAt (length cs) (us ++ (channelsBytes cs ++ vs)) at ≡ cs
+  unfolding channelsAt channelsBytes
+  channels-back [] f us at h = refl
+  channels-back (c ∷ cs) f us at h =
+      let e : us ++ ((channelBytes c ++ channelsBytes cs) ++ vs) ≡ us ++ (channelBytes c ++ (channelsBytes cs ++ vs)) = ap (λ (l : List ℕ). us ++ l) (append-assoc (channelBytes c) (channelsBytes cs) vs) in
+      let g : us ++ (channelBytes c ++ (channelsBytes cs ++ vs)) ≡ (us ++ channelBytes c) ++ (channelsBytes cs ++ vs) = sym (append-assoc us (channelBytes c) (channelsBytes cs ++ vs)) in
+      let n : length (us ++ channelBytes c) ≡ at + 70 = let a = channel-long c (f .0) in length-append us (channelBytes c) ∙ omega arith in
+      let a = ap (λ (l : List ℕ). channelAt l at) e ∙ channel-back us at h (channelsBytes cs ++ vs) c (f .0) in
+      let b = ap (λ (l : List ℕ). channelsAt (length cs) l (at + 70)) (e ∙ g) ∙ channels-back cs (f .1) (us ++ channelBytes c) (at + 70) n in
+      λ i. a i ∷ b i
+
+  channels-marks : (cs : List Channel) → AllFilled cs → (us : List ℕ) (at : ℕ) → length us ≡ at → allMarks (length cs) (us ++ (channelsBytes cs ++ vs)) at ≡ true
+  unfolding allMarks channelsBytes
+  channels-marks [] f us at h = refl
+  channels-marks (c ∷ cs) f us at h =
+      let e : us ++ ((channelBytes c ++ channelsBytes cs) ++ vs) ≡ us ++ (channelBytes c ++ (channelsBytes cs ++ vs)) = ap (λ (l : List ℕ). us ++ l) (append-assoc (channelBytes c) (channelsBytes cs) vs) in
+      let g : us ++ (channelBytes c ++ (channelsBytes cs ++ vs)) ≡ (us ++ channelBytes c) ++ (channelsBytes cs ++ vs) = sym (append-assoc us (channelBytes c) (channelsBytes cs ++ vs)) in
+      let n : length (us ++ channelBytes c) ≡ at + 70 = let a = channel-long c (f .0) in length-append us (channelBytes c) ∙ omega arith in
+      let a = ap (λ (l : List ℕ). marksAt l at) e ∙ channel-marks us at h (channelsBytes cs ++ vs) c in
+      let b = ap (λ (l : List ℕ). allMarks (length cs) l (at + 70)) (e ∙ g) ∙ channels-marks cs (f .1) (us ++ channelBytes c) (at + 70) n in
+      ap₂ _&&_ a b
+
 -- the parts of an image, in their order
-module _ (a b c d : Channel) (q w : Queue) (m n : ℕ) (fa : Filled (a .writes)) (fb : Filled (b .writes)) (fc : Filled (c .writes)) (fd : Filled (d .writes))
-    (fq : Filled q) (fw : Filled w) where
-  abbrev image : List ℕ
-  image = imageOf (record { channels = a ∷ b ∷ c ∷ d ∷ []; locks = q; waiting = w; opens = m; last = n })
+module _ (b : Board) (z : Sized b) where
+  abbrev Q : List ℕ
+  Q = queueBytes (b .state .locks)
 
-  abbrev A : List ℕ
-  A = channelBytes a
+  abbrev W : List ℕ
+  W = queueBytes (b .state .waiting)
 
-  abbrev B : List ℕ
-  B = channelBytes b
+  abbrev M : List ℕ
+  M = keyBytes (b .state .opens)
 
-  abbrev C : List ℕ
-  C = channelBytes c
-
-  abbrev D : List ℕ
-  D = channelBytes d
+  abbrev N : List ℕ
+  N = keyBytes (b .state .last)
 
   abbrev E : List ℕ
-  E = keyBytes m ++ keyBytes n
+  E = b .width ∷ []
 
-  -- what stands before the third channel, the fourth, the locks, the waiting requests, the open count and the last key
-  abbrev P2 : List ℕ
-  P2 = A ++ B
-
-  abbrev P3 : List ℕ
-  P3 = P2 ++ C
-
+  -- what stands before the locks, the waiting requests, the open count, the last key and the number of channels
   abbrev P4 : List ℕ
-  P4 = P3 ++ D
+  P4 = channelsBytes (b .state .channels)
 
   abbrev P5 : List ℕ
-  P5 = P4 ++ queueBytes q
+  P5 = P4 ++ Q
 
   abbrev P6 : List ℕ
-  P6 = P5 ++ queueBytes w
+  P6 = P5 ++ W
 
   abbrev P7 : List ℕ
-  P7 = P6 ++ keyBytes m
+  P7 = P6 ++ M
 
-  at-first : image ≡ A ++ (B ++ (C ++ (D ++ (queueBytes q ++ (queueBytes w ++ E)))))
-  unfolding imageOf channelsBytes
-  at-first = simp append-assoc
+  abbrev P8 : List ℕ
+  P8 = P7 ++ N
 
-  at-third : image ≡ P2 ++ (C ++ (D ++ (queueBytes q ++ (queueBytes w ++ E))))
-  at-third = at-first ∙ sym (append-assoc A B _)
+  at-locks : imageOf b ≡ P4 ++ (Q ++ (W ++ (M ++ (N ++ E))))
+  unfolding imageOf
+  at-locks = refl
 
-  at-fourth : image ≡ P3 ++ (D ++ (queueBytes q ++ (queueBytes w ++ E)))
-  at-fourth = at-third ∙ sym (append-assoc P2 C _)
+  at-waiting : imageOf b ≡ P5 ++ (W ++ (M ++ (N ++ E)))
+  at-waiting = at-locks ∙ sym (append-assoc P4 Q _)
 
-  at-locks : image ≡ P4 ++ (queueBytes q ++ (queueBytes w ++ E))
-  at-locks = at-fourth ∙ sym (append-assoc P3 D _)
+  at-opens : imageOf b ≡ P6 ++ (M ++ (N ++ E))
+  at-opens = at-waiting ∙ sym (append-assoc P5 W _)
 
-  at-waiting : image ≡ P5 ++ (queueBytes w ++ E)
-  at-waiting = at-locks ∙ sym (append-assoc P4 (queueBytes q) _)
+  at-last : imageOf b ≡ P7 ++ (N ++ E)
+  at-last = at-opens ∙ sym (append-assoc P6 M _)
 
-  at-opens : image ≡ P6 ++ E
-  at-opens = at-waiting ∙ sym (append-assoc P5 (queueBytes w) E)
+  at-width : imageOf b ≡ P8 ++ E
+  at-width = at-last ∙ sym (append-assoc P7 N E)
 
-  at-last : image ≡ P7 ++ keyBytes n
-  at-last = at-opens ∙ sym (append-assoc P6 (keyBytes m) (keyBytes n))
+  long-4 : length P4 ≡ 560
+  long-4 = channels-long (b .state .channels) (z .channels) ∙ ap (λ (n : ℕ). n * 70) (z .eight)
 
-  long-2 : length P2 ≡ 140
-  long-2 = length-append A B ∙ ap₂ _+_ (channel-long a fa) (channel-long b fb)
+  long-5 : length P5 ≡ 625
+  long-5 = length-append P4 Q ∙ ap₂ _+_ long-4 (ap suc (z .locks))
 
-  long-3 : length P3 ≡ 210
-  long-3 = length-append P2 C ∙ ap₂ _+_ long-2 (channel-long c fc)
+  long-6 : length P6 ≡ 690
+  long-6 = length-append P5 W ∙ ap₂ _+_ long-5 (ap suc (z .waiting))
 
-  long-4 : length P4 ≡ 280
-  long-4 = length-append P3 D ∙ ap₂ _+_ long-3 (channel-long d fd)
+  long-7 : length P7 ≡ 692
+  long-7 = length-append P6 M ∙ ap (λ (x : ℕ). x + 2) long-6
 
-  long-5 : length P5 ≡ 345
-  long-5 = length-append P4 (queueBytes q) ∙ ap₂ _+_ long-4 (ap suc fq)
+  long-8 : length P8 ≡ 694
+  long-8 = length-append P7 N ∙ ap (λ (x : ℕ). x + 2) long-7
 
-  long-6 : length P6 ≡ 410
-  long-6 = length-append P5 (queueBytes w) ∙ ap₂ _+_ long-5 (ap suc fw)
+  image-long : length (imageOf b) ≡ 695
+  image-long = ap length at-width ∙ length-append P8 E ∙ ap (λ (x : ℕ). x + 1) long-8
 
-  long-7 : length P7 ≡ 412
-  long-7 = length-append P6 (keyBytes m) ∙ ap (λ (x : ℕ). x + 2) long-6
-
-  image-long : length image ≡ 414
-  image-long = ap length at-last ∙ length-append P7 (keyBytes n) ∙ ap (λ (x : ℕ). x + 2) long-7
-
-  parts-back : stateOf image ≡ record { channels = a ∷ b ∷ c ∷ d ∷ []; locks = q; waiting = w; opens = m; last = n }
+  -- the bytes of a board hold it
+  pub stateOf-imageOf : stateOf (imageOf b) ≡ b
   unfolding stateOf
-  parts-back i =
-      record {
-        channels =
-            (ap (λ (x : List ℕ). channelAt x 0) at-first ∙ channel-back [] 0 refl _ a fa) i
-            ∷ (ap (λ (x : List ℕ). channelAt x 70) at-first ∙ channel-back A 70 (channel-long a fa) _ b fb) i
-            ∷ (ap (λ (x : List ℕ). channelAt x 140) at-third ∙ channel-back P2 140 long-2 _ c fc) i
-            ∷ (ap (λ (x : List ℕ). channelAt x 210) at-fourth ∙ channel-back P3 210 long-3 _ d fd) i
-            ∷ [];
-        locks = (ap (λ (x : List ℕ). queueAt x 280) at-locks ∙ queue-back P4 280 long-4 (queueBytes w ++ E) q fq) i;
-        waiting = (ap (λ (x : List ℕ). queueAt x 345) at-waiting ∙ queue-back P5 345 long-5 E w fw) i;
-        opens = (ap (λ (x : List ℕ). keyAt x 410) at-opens ∙ key-back P6 410 long-6 (keyBytes n) m) i;
-        last = (ap (λ (x : List ℕ). keyAt x 412) at-last ∙ key-back P7 412 long-7 [] n) i;
-      }
+  stateOf-imageOf =
+      let c : channelsAt 8 (imageOf b) 0 ≡ b .state .channels =
+      ap₂ (λ (n : ℕ) (l : List ℕ). channelsAt n l 0) (sym (z .eight)) at-locks ∙ channels-back (Q ++ (W ++ (M ++ (N ++ E)))) (b .state .channels) (z .channels) [] 0 refl in
+      let q = ap (λ (x : List ℕ). queueAt x 560) at-locks ∙ queue-back P4 560 long-4 (W ++ (M ++ (N ++ E))) (b .state .locks) (z .locks) in
+      let w = ap (λ (x : List ℕ). queueAt x 625) at-waiting ∙ queue-back P5 625 long-5 (M ++ (N ++ E)) (b .state .waiting) (z .waiting) in
+      let m = ap (λ (x : List ℕ). keyAt x 690) at-opens ∙ key-back P6 690 long-6 (N ++ E) (b .state .opens) in
+      let n = ap (λ (x : List ℕ). keyAt x 692) at-last ∙ key-back P7 692 long-7 E (b .state .last) in
+      let v : getD (imageOf b) 694 0 ≡ b .width = ap (λ (x : List ℕ). getD x 694 0) at-width ∙ first-behind P8 E 694 long-8 in
+      λ i. record { width = v i; state = record { channels = c i; locks = q i; waiting = w i; opens = m i; last = n i } }
 
-  parts-whole : all isByte image ≡ true → Whole image
+  -- the bytes of a board are whole
+  pub imageOf-whole : all isByte (imageOf b) ≡ true → Whole (imageOf b)
   unfolding isWhole
-  parts-whole y =
-      rw (
-        eq-eqb (length image) 414 image-long,
-        ap (λ (x : List ℕ). marksAt x 0) at-first ∙ channel-marks [] 0 refl _ a,
-        ap (λ (x : List ℕ). marksAt x 70) at-first ∙ channel-marks A 70 (channel-long a fa) _ b,
-        ap (λ (x : List ℕ). marksAt x 140) at-third ∙ channel-marks P2 140 long-2 _ c,
-        ap (λ (x : List ℕ). marksAt x 210) at-fourth ∙ channel-marks P3 210 long-3 _ d,
-        y,
-      ) tt
+  imageOf-whole y =
+      let m : allMarks 8 (imageOf b) 0 ≡ true =
+      ap₂ (λ (n : ℕ) (l : List ℕ). allMarks n l 0) (sym (z .eight)) at-locks ∙ channels-marks (Q ++ (W ++ (M ++ (N ++ E)))) (b .state .channels) (z .channels) [] 0 refl in
+      rw (eq-eqb (length (imageOf b)) 695 image-long, m, y) tt
 
--- a struct of four channels, taken apart
-by-four {ℓ} : (P : State → Type ℓ)
-    → ((a b c d : Channel) (q w : Queue) (m n : ℕ) → Filled (a .writes) → Filled (b .writes) → Filled (c .writes) → Filled (d .writes) → Filled q → Filled w
-    → P (record { channels = a ∷ b ∷ c ∷ d ∷ []; locks = q; waiting = w; opens = m; last = n }))
-    → (s : State) → Sized s → P s
-by-four P f s z = go (s .channels) (z .four) (z .channels)
-  where
-    go : (cs : List Channel) → length cs ≡ 4 → AllFilled cs → P (record { channels = cs; locks = s .locks; waiting = s .waiting; opens = s .opens; last = s .last })
-    go [] h g = absurd (omega arith)
-    go (a ∷ []) h g = absurd (omega arith)
-    go (a ∷ b ∷ []) h g = absurd (omega arith)
-    go (a ∷ b ∷ c ∷ []) h g = absurd (omega arith)
-    go (a ∷ b ∷ c ∷ d ∷ []) h g = f a b c d (s .locks) (s .waiting) (s .opens) (s .last) (g .0) (g .1 .0) (g .1 .1 .0) (g .1 .1 .1 .0) (z .locks) (z .waiting)
-    go (a ∷ b ∷ c ∷ d ∷ e ∷ cs) h g = absurd (omega arith)
-
--- the bytes of a struct hold it
-pub stateOf-imageOf : (s : State) → Sized s → stateOf (imageOf s) ≡ s
-stateOf-imageOf = by-four (λ s. stateOf (imageOf s) ≡ s) parts-back
-
--- the bytes of a struct are whole
-pub imageOf-whole : (s : State) → Sized s → all isByte (imageOf s) ≡ true → Whole (imageOf s)
-imageOf-whole = by-four (λ s. all isByte (imageOf s) ≡ true → Whole (imageOf s)) parts-whole
-
-pub saved : (s : State) {l : List ℕ} → Sized s → l ≡ imageOf s → ((i : ℕ) → getD l i 0 < 256) → Saved s l
-saved s {l} z e h =
+pub saved : (b : Board) {l : List ℕ} → Sized b → l ≡ imageOf b → ((i : ℕ) → getD l i 0 < 256) → Saved b l
+saved b {l} z e h =
     record {
       bytes = e;
       sized = z;
-      whole = subst (λ (x : List ℕ). Whole x) (sym e) (imageOf-whole s z (subst (λ (x : List ℕ). all isByte x ≡ true) e (bytes-all l h)));
+      whole = subst (λ (x : List ℕ). Whole x) (sym e) (imageOf-whole b z (subst (λ (x : List ℕ). all isByte x ≡ true) e (bytes-all l h)));
     }
 
--- no second image fits: a struct is saved as these bytes and no others
-pub one-image : {s : State} {l l₂ : List ℕ} → Saved s l → Saved s l₂ → l ≡ l₂
-one-image a b = a .bytes ∙ sym (b .bytes)
+-- no second image fits: a board is saved as these bytes and no others
+pub one-image : {b : Board} {l l₂ : List ℕ} → Saved b l → Saved b l₂ → l ≡ l₂
+one-image x y = x .bytes ∙ sym (y .bytes)
 
--- ---- bytes that are whole are those of the struct that they hold
+-- ---- bytes that are whole are those of the board that they hold
 
 -- n bytes from a place on, and m behind them
 part-add : (bs : List ℕ) (at n m : ℕ) → take n (drop at bs) ++ take m (drop (at + n) bs) ≡ take (n + m) (drop at bs)
@@ -279,49 +262,27 @@ bytes-each [] t i = omega arith
 bytes-each (b ∷ bs) t zero = ltb→lt b 256 (and-left (isByte b) (all isByte bs) t)
 bytes-each (b ∷ bs) t (suc i) = bytes-each bs (and-right (isByte b) (all isByte bs) t) i
 
--- what it is to be whole
-record Parts (bs : List ℕ) : Type 0 where
-  long : length bs ≡ 414
-  first : T (marksAt bs 0)
-  second : T (marksAt bs 70)
-  third : T (marksAt bs 140)
-  fourth : T (marksAt bs 210)
-  bytes : (i : ℕ) → getD bs i 0 < 256
-
-whole-parts : (bs : List ℕ) → Whole bs → Parts bs
-unfolding isWhole
-whole-parts bs w =
-    let m₀ = marksAt bs 0 in
-    let m₁ = marksAt bs 70 in
-    let m₂ = marksAt bs 140 in
-    let m₃ = marksAt bs 210 in
-    let y = all isByte bs in
-    let t₀ = and-right (eqb (length bs) 414) (m₀ && (m₁ && (m₂ && (m₃ && y)))) w in
-    let t₁ = and-right m₀ (m₁ && (m₂ && (m₃ && y))) t₀ in
-    let t₂ = and-right m₁ (m₂ && (m₃ && y)) t₁ in
-    let t₃ = and-right m₂ (m₃ && y) t₂ in
-    record {
-      long = whole-long bs w;
-      first = and-left m₀ (m₁ && (m₂ && (m₃ && y))) t₀;
-      second = and-left m₁ (m₂ && (m₃ && y)) t₁;
-      third = and-left m₂ (m₃ && y) t₂;
-      fourth = and-left m₃ y t₃;
-      bytes = bytes-each bs (and-right m₃ y t₃);
-    }
+channels-part : (bs : List ℕ) → ((i : ℕ) → getD bs i 0 < 256) → (n at : ℕ) → at + n * 70 ≤ length bs → T (allMarks n bs at)
+    → channelsBytes (channelsAt n bs at) ≡ take (n * 70) (drop at bs)
+unfolding channelsBytes channelsAt allMarks
+channels-part bs y zero at h t = let e : 0 * 70 ≡ 0 = omega arith in sym (ap (λ (n : ℕ). take n (drop at bs)) e)
+channels-part bs y (suc n) at h t =
+    let a = channel-part bs y at (omega arith) (and-left (marksAt bs at) (allMarks n bs (at + 70)) t) in
+    let b = channels-part bs y n (at + 70) (omega arith) (and-right (marksAt bs at) (allMarks n bs (at + 70)) t) in
+    let e : 70 + n * 70 ≡ suc n * 70 = omega arith in
+    ap₂ _++_ a b ∙ (part-add bs at 70 (n * 70) ∙ ap (λ (k : ℕ). take k (drop at bs)) e)
 
 pub imageOf-stateOf : (bs : List ℕ) → Whole bs → imageOf (stateOf bs) ≡ bs
-unfolding imageOf stateOf channelsBytes
+unfolding imageOf stateOf isWhole
 imageOf-stateOf bs w =
-    let p = whole-parts bs w in
-    let l = p .long in
-    let a = channel-part bs (p .bytes) 0 (omega arith) (p .first) in
-    let b = channel-part bs (p .bytes) 70 (omega arith) (p .second) in
-    let c = channel-part bs (p .bytes) 140 (omega arith) (p .third) in
-    let d = channel-part bs (p .bytes) 210 (omega arith) (p .fourth) in
-    let q = queue-part bs (p .bytes) 280 (omega arith) in
-    let r = queue-part bs (p .bytes) 345 (omega arith) in
-    let m = key-part bs (p .bytes) 410 (omega arith) in
-    let n = key-part bs (p .bytes) 412 (omega arith) in
-    let cs : channelBytes (channelAt bs 0) ++ (channelBytes (channelAt bs 70) ++ (channelBytes (channelAt bs 140) ++ (channelBytes (channelAt bs 210) ++ []))) ≡ take 280 (drop 0 bs) =
-    ap₂ _++_ a (ap₂ _++_ b (ap₂ _++_ c (append-nil _ ∙ d) ∙ part-add bs 140 70 70) ∙ part-add bs 70 70 140) ∙ part-add bs 0 70 210 in
-    ap₂ _++_ cs (ap₂ _++_ q (ap₂ _++_ r (ap₂ _++_ m n ∙ part-add bs 410 2 2) ∙ part-add bs 345 65 4) ∙ part-add bs 280 65 69) ∙ part-add bs 0 280 134 ∙ take-all 414 bs (omega arith)
+    let t = and-right (eqb (length bs) 695) (allMarks 8 bs 0 && all isByte bs) w in
+    let y = bytes-each bs (and-right (allMarks 8 bs 0) (all isByte bs) t) in
+    let l = whole-long bs w in
+    let cs : channelsBytes (channelsAt 8 bs 0) ≡ take 560 (drop 0 bs) = channels-part bs y 8 0 (omega arith) (and-left (allMarks 8 bs 0) (all isByte bs) t) in
+    let q = queue-part bs y 560 (omega arith) in
+    let r = queue-part bs y 625 (omega arith) in
+    let m = key-part bs y 690 (omega arith) in
+    let n = key-part bs y 692 (omega arith) in
+    let v : getD bs 694 0 ∷ [] ≡ take 1 (drop 694 bs) = sym (part-cons bs 694 0 (omega arith)) in
+    ap₂ _++_ cs (ap₂ _++_ q (ap₂ _++_ r (ap₂ _++_ m (ap₂ _++_ n v ∙ part-add bs 692 2 1) ∙ part-add bs 690 2 3) ∙ part-add bs 625 65 5) ∙ part-add bs 560 65 70)
+    ∙ part-add bs 0 560 135 ∙ take-all 695 bs (omega arith)

@@ -1,25 +1,27 @@
--- The state as 414 bytes that a caller keeps: four channels of 70 bytes from 0 on, the locks at 280, the waiting requests at 345,
--- the open count at 410 and the last key at 412. Assumes nothing.
+-- The state as 695 bytes that a caller keeps: eight channels of 70 bytes from 0 on, the locks at 560, the waiting requests at 625,
+-- the open count at 690, the last key at 692, and at 694 how many channels the board has. One size for both boards: behind four
+-- channels of its own a board keeps four that are free. Assumes nothing.
 --
---   CHANNEL, LOCKS, WAITING, OPENS, LAST, STATE   the size of a channel, where the other parts begin, the size of all
+--   CHANNEL, LOCKS, WAITING, OPENS, LAST, CHANNELS, STATE   the size of a channel, where the other parts begin, the size of all
 --   markOf b              a mark as a byte: 1 or 0
 --   keyBytes k            2 bytes, the high one first: a key, or the open count
 --   queueBytes q          65 bytes: the count, then the 64 ids
 --   channelBytes c        70 bytes: its key, its precedence as it is stored (itself plus 128), its lock mark, its stop mark, its queue
 --   channelsBytes cs      the bytes of channels, one behind the other
---   imageOf s             the 414 bytes of a struct
+--   imageOf b             the 695 bytes of a board
 --   keyAt, queueAt, channelAt bs at   the key, the queue, the channel that stand at a place
---   stateOf bs            the struct that 414 bytes hold
+--   channelsAt n bs at    n channels from a place on
+--   stateOf bs            the board that 695 bytes hold
 --   isByte b, isMark b    a number that a byte can have; one that a mark can have
---   marksAt bs at         the two marks of the channel at a place are marks
---   isWhole bs, Whole bs  414 bytes, each below 256, and every mark of theirs is 0 or 1; others hold no struct
+--   marksAt bs at         the two marks of the channel at a place are marks; allMarks n bs at: those of n channels from there on
+--   isWhole bs, Whole bs  695 bytes, each below 256, and every mark of theirs is 0 or 1; others hold no struct
 --   Wrote l at vs n l′    the n bytes vs were written at a place, and every other byte is as before
---   Filled q, AllFilled cs, Sized s   a queue, the queues of channels, a struct, of the lengths that the code's types keep
---   Entered l cs l′       the bytes of four channels were written in front of a list
---   Saved s l′            what `save` promises: the bytes of the struct, which hold it
-use Prim.Native.Nat.{ℕ, _+_, _*_, _/_, _%_}
+--   Filled q, AllFilled cs, Sized b   a queue, the queues of channels, a struct, of the lengths that the code's types keep
+--   Entered l cs l′       the bytes of eight channels were written in front of a list
+--   Saved b l′            what `save` promises: the bytes of the board, which hold it
+use Prim.Native.Nat.{ℕ, zero, suc, _+_, _*_, _/_, _%_}
 use mathlib.Core.Path.{_≡_}
-use mathlib.Core.Bool.{Bool, _&&_}
+use mathlib.Core.Bool.{Bool, true, _&&_}
 use mathlib.Core.List.{List, [], _∷_, _++_}
 use lib.Dec.{T, eqb, ltb}
 use lib.ListN.{length, getD, take, drop}
@@ -27,26 +29,29 @@ use Rattle.memory.specs.Splice.{splice}
 use Rattle.machine.specs.Lists.{if_then_else_, all}
 use Rattle.queue.specs.declared.Queue.{Queue}
 use Rattle.channel.specs.declared.Channel.{Channel}
-use Rattle.store.specs.declared.State.{State}
+use Rattle.board.specs.declared.Board.{Board}
 use Rattle.store.specs.Store.{Each}
 
 abbrev pub CHANNEL : ℕ
 CHANNEL = 70
 
 abbrev pub LOCKS : ℕ
-LOCKS = 280
+LOCKS = 560
 
 abbrev pub WAITING : ℕ
-WAITING = 345
+WAITING = 625
 
 abbrev pub OPENS : ℕ
-OPENS = 410
+OPENS = 690
 
 abbrev pub LAST : ℕ
-LAST = 412
+LAST = 692
+
+abbrev pub CHANNELS : ℕ
+CHANNELS = 694
 
 abbrev pub STATE : ℕ
-STATE = 414
+STATE = 695
 
 -- ---- to bytes
 
@@ -66,8 +71,11 @@ unfoldable pub channelsBytes : List Channel → List ℕ
 channelsBytes [] = []
 channelsBytes (c ∷ cs) = channelBytes c ++ channelsBytes cs
 
-unfoldable pub imageOf : State → List ℕ
-imageOf s = channelsBytes (s .channels) ++ (queueBytes (s .locks) ++ (queueBytes (s .waiting) ++ (keyBytes (s .opens) ++ keyBytes (s .last))))
+unfoldable pub imageOf : Board → List ℕ
+imageOf b =
+    let s = b .state in
+    channelsBytes (s .channels)
+    ++ (queueBytes (s .locks) ++ (queueBytes (s .waiting) ++ (keyBytes (s .opens) ++ (keyBytes (s .last) ++ (b .width ∷ [])))))
 
 -- ---- from bytes
 
@@ -87,14 +95,22 @@ channelAt bs at =
       writes = queueAt bs (at + 5);
     }
 
-unfoldable pub stateOf : List ℕ → State
+unfoldable pub channelsAt : ℕ → List ℕ → ℕ → List Channel
+channelsAt zero bs at = []
+channelsAt (suc n) bs at = channelAt bs at ∷ channelsAt n bs (at + CHANNEL)
+
+unfoldable pub stateOf : List ℕ → Board
 stateOf bs =
     record {
-      channels = channelAt bs 0 ∷ channelAt bs 70 ∷ channelAt bs 140 ∷ channelAt bs 210 ∷ [];
-      locks = queueAt bs LOCKS;
-      waiting = queueAt bs WAITING;
-      opens = keyAt bs OPENS;
-      last = keyAt bs LAST;
+      width = getD bs CHANNELS 0;
+      state =
+          record {
+            channels = channelsAt 8 bs 0;
+            locks = queueAt bs LOCKS;
+            waiting = queueAt bs WAITING;
+            opens = keyAt bs OPENS;
+            last = keyAt bs LAST;
+          };
     }
 
 -- ---- which bytes hold a struct
@@ -108,8 +124,12 @@ isMark b = ltb b 2
 unfoldable pub marksAt : List ℕ → ℕ → Bool
 marksAt bs at = isMark (getD bs (at + 3) 0) && isMark (getD bs (at + 4) 0)
 
+unfoldable pub allMarks : ℕ → List ℕ → ℕ → Bool
+allMarks zero bs at = true
+allMarks (suc n) bs at = marksAt bs at && allMarks n bs (at + CHANNEL)
+
 unfoldable pub isWhole : List ℕ → Bool
-isWhole bs = eqb (length bs) STATE && (marksAt bs 0 && (marksAt bs 70 && (marksAt bs 140 && (marksAt bs 210 && all isByte bs))))
+isWhole bs = eqb (length bs) STATE && (allMarks 8 bs 0 && all isByte bs)
 
 abbrev pub Whole : List ℕ → Type 0
 Whole bs = T (isWhole bs)
@@ -122,11 +142,11 @@ Filled q = length (q .ids) ≡ 64
 abbrev pub AllFilled : List Channel → Type 0
 AllFilled cs = Each (λ c. Filled (c .writes)) cs
 
-pub record Sized (s : State) : Type 0 where
-  pub four : length (s .channels) ≡ 4
-  pub channels : AllFilled (s .channels)
-  pub locks : Filled (s .locks)
-  pub waiting : Filled (s .waiting)
+pub record Sized (b : Board) : Type 0 where
+  pub eight : length (b .state .channels) ≡ 8
+  pub channels : AllFilled (b .state .channels)
+  pub locks : Filled (b .state .locks)
+  pub waiting : Filled (b .state .waiting)
 
 -- ---- the promises
 
@@ -135,11 +155,11 @@ pub record Wrote (l : List ℕ) (at : ℕ) (vs : List ℕ) (n : ℕ) (l′ : Lis
   pub size : length vs ≡ n
 
 pub record Entered (l : List ℕ) (cs : List Channel) (l′ : List ℕ) : Type 0 where
-  pub four : length cs ≡ 4
+  pub eight : length cs ≡ 8
   pub filled : AllFilled cs
-  pub wrote : Wrote l 0 (channelsBytes cs) 280 l′
+  pub wrote : Wrote l 0 (channelsBytes cs) 560 l′
 
-pub record Saved (s : State) (l′ : List ℕ) : Type 0 where
-  pub bytes : l′ ≡ imageOf s
-  pub sized : Sized s
+pub record Saved (b : Board) (l′ : List ℕ) : Type 0 where
+  pub bytes : l′ ≡ imageOf b
+  pub sized : Sized b
   pub whole : Whole l′

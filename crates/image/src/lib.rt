@@ -1,5 +1,6 @@
-// The state as 414 bytes that a caller keeps: tested and read (specs/Image.antt has the layout; `saving` writes it).
+// The state as 695 bytes that a caller keeps: tested and read (specs/Image.antt has the layout; `saving` writes it).
 // Assumes nothing.
+use board::Board;
 use channel::Channel;
 use queue::Queue;
 use store::State;
@@ -7,7 +8,7 @@ ghost use mathlib.Core.Path.{_≡_};
 ghost use mathlib.Core.Bool.{_&&_};
 ghost use Prim.Native.Nat.{_+_, _≤_};
 ghost use lib.ListN.{length};
-ghost use Rattle.image.specs.Image.{queueAt, channelAt, stateOf, marksAt, isWhole, Whole};
+ghost use Rattle.image.specs.Image.{queueAt, channelAt, channelsAt, stateOf, marksAt, allMarks, isWhole, Whole};
 
 // ---- the test
 
@@ -18,23 +19,28 @@ fn marked(bytes: &[u8], at: usize) -> bool
     bytes[at + 3] < 2 && bytes[at + 4] < 2
 }
 
+fn all_marked(bytes: &[u8]) -> bool
+    requires { ⌜ 560 ≤ length (now bytes) ⌝ }
+    ensures { λ r. ⌜ r ≡ allMarks 8 (now (bytes .entry)) 0 ⌝ }
+{
+    let mut i: usize = 0;
+    while i < 8 {
+        if !marked(bytes, i * 70) {
+            return false;
+        }
+        i += 1;
+    }
+    true
+}
+
 // The length is right, and each mark is 0 or 1.
 pub fn whole(bytes: &[u8]) -> bool
     ensures { λ r. ⌜ r ≡ isWhole (now (bytes .entry)) ⌝ }
 {
-    if bytes.len() != 414 {
+    if bytes.len() != 695 {
         return false;
     }
-    if !marked(bytes, 0) {
-        return false;
-    }
-    if !marked(bytes, 70) {
-        return false;
-    }
-    if !marked(bytes, 140) {
-        return false;
-    }
-    marked(bytes, 210)
+    all_marked(bytes)
 }
 
 // ---- from bytes
@@ -64,22 +70,37 @@ fn channel_at(bytes: &[u8], at: usize) -> Channel
     }
 }
 
-pub fn load(bytes: &[u8]) -> State
+fn channels_at(bytes: &[u8]) -> [Channel; 8]
+    requires { ⌜ 560 ≤ length (now bytes) ⌝ }
+    ensures { λ r. ⌜ r ≡ channelsAt 8 (now (bytes .entry)) 0 ⌝ }
+{
+    let none = Channel::unused();
+    let mut cs = [none; 8];
+    let mut i: usize = 0;
+    while i < 8 {
+        let c = channel_at(bytes, i * 70);
+        cs[i] = c;
+        i += 1;
+    }
+    cs
+}
+
+pub fn load(bytes: &[u8]) -> Board
     requires { ⌜ Whole (now bytes) ⌝ }
     ensures { λ r. ⌜ r ≡ stateOf (now (bytes .entry)) ⌝ }
 {
-    let a = channel_at(bytes, 0);
-    let b = channel_at(bytes, 70);
-    let c = channel_at(bytes, 140);
-    let d = channel_at(bytes, 210);
-    let cs = [a, b, c, d];
-    let locks = queue_at(bytes, 280);
-    let waiting = queue_at(bytes, 345);
-    State {
+    let cs = channels_at(bytes);
+    let locks = queue_at(bytes, 560);
+    let waiting = queue_at(bytes, 625);
+    let s = State {
         channels: cs,
         locks,
         waiting,
-        opens: memory::key_at(bytes, 410),
-        last: memory::key_at(bytes, 412),
+        opens: memory::key_at(bytes, 690),
+        last: memory::key_at(bytes, 692),
+    };
+    Board {
+        width: bytes[694],
+        state: s,
     }
 }

@@ -6,7 +6,7 @@ use mathlib.Core.Bool.{Bool, true, false, not, _||_, cond}
 use mathlib.Core.List.{List, [], _∷_, _++_, map}
 use native.Mathlib.Omega.{arith}
 use lib.Dec.{T, T-not, not-T, eqb, eqb→eq}
-use lib.ListN.{length, getD, take, drop, length-append}
+use lib.ListN.{length, getD, take, drop, set, length-append}
 use Rattle.queue.specs.declared.Queue.{Queue}
 use Rattle.queue.specs.Queue.{queueOf, listOf, indexOf, removed}
 use Rattle.queue.proofs.Laws.{listOf-queueOf, removed-of}
@@ -77,21 +77,31 @@ module _ {q : Queue} (t : Tidy q) (i : ℕ) where
   pub strike-none : {k : ℕ} → k ≡ indexOf i (listOf q) → q .n ≤ k → q ≡ struck i q
   strike-none e h = let c = same-count in t .lies ∙ ap queueOf (sym (others-all i (listOf q) (not-found i (listOf q) (omega arith))))
 
--- ---- four channels
+-- ---- the channels one after another: those before place i are done, those from it on are as they were
 
-pub each-at : (P : Channel → Type 0) (cs : List Channel) (k : ℕ) (d : Channel) → Each P cs → k < length cs → P (getD cs k d)
+pub each-at : (P : Channel → Type 0) (cs : List Channel) (k : ℕ) (d : Channel) → Each P (drop k cs) → k < length cs → P (getD cs k d)
 each-at P [] k d e h = absurd (omega arith)
 each-at P (c ∷ cs) zero d e h = e .0
-each-at P (c ∷ cs) (suc k) d e h = each-at P cs k d (e .1) (omega arith)
+each-at P (c ∷ cs) (suc k) d e h = each-at P cs k d e (omega arith)
 
-pub four : (f : Channel → Channel) (cs : List Channel) (d₀ d₁ d₂ d₃ : Channel) {x₀ x₁ x₂ x₃ : Channel} → length cs ≡ 4
-    → x₀ ≡ f (getD cs 0 d₀) → x₁ ≡ f (getD cs 1 d₁) → x₂ ≡ f (getD cs 2 d₂) → x₃ ≡ f (getD cs 3 d₃) → x₀ ∷ x₁ ∷ x₂ ∷ x₃ ∷ [] ≡ map f cs
-four f [] d₀ d₁ d₂ d₃ h a b c d = absurd (omega arith)
-four f (u ∷ []) d₀ d₁ d₂ d₃ h a b c d = absurd (omega arith)
-four f (u ∷ v ∷ []) d₀ d₁ d₂ d₃ h a b c d = absurd (omega arith)
-four f (u ∷ v ∷ w ∷ []) d₀ d₁ d₂ d₃ h a b c d = absurd (omega arith)
-four f (u ∷ v ∷ w ∷ x ∷ []) d₀ d₁ d₂ d₃ h a b c d = rw (a, b, c, d) refl
-four f (u ∷ v ∷ w ∷ x ∷ y ∷ cs) d₀ d₁ d₂ d₃ h a b c d = absurd (omega arith)
+pub each-more : (P : Channel → Type 0) (cs : List Channel) (k : ℕ) (x : Channel) → Each P (drop k cs) → Each P (drop (suc k) (set cs k x))
+each-more P [] k x e = tt
+each-more P (c ∷ cs) zero x e = e .1
+each-more P (c ∷ cs) (suc k) x e = each-more P cs k x e
+
+abbrev pub doneTo : (Channel → Channel) → ℕ → List Channel → List Channel
+doneTo f k cs = take k cs ++ map f (drop k cs)
+
+pub done-more : (f : Channel → Channel) (cs : List Channel) (k : ℕ) (d x : Channel) → k < length cs → x ≡ f (getD cs k d) → doneTo f (suc k) (set cs k x) ≡ doneTo f k cs
+done-more f [] k d x h e = absurd (omega arith)
+done-more f (c ∷ cs) zero d x h e = ap (λ (y : Channel). y ∷ map f cs) e
+done-more f (c ∷ cs) (suc k) d x h e = ap (λ (l : List Channel). c ∷ l) (done-more f cs k d x (omega arith) e)
+
+pub done-end : (f : Channel → Channel) (cs : List Channel) (k : ℕ) → length cs ≤ k → cs ≡ doneTo f k cs
+done-end f [] zero h = refl
+done-end f [] (suc k) h = refl
+done-end f (c ∷ cs) zero h = absurd (omega arith)
+done-end f (c ∷ cs) (suc k) h = ap (λ (l : List Channel). c ∷ l) (done-end f cs k (omega arith))
 
 -- ---- the queues of a state that is held
 

@@ -30,15 +30,19 @@ fn clean(c: Channel, id: u8) -> Channel
     c.with_writes(p)
 }
 
-fn clean_all(cs: [Channel; 4], id: u8) -> [Channel; 4]
+fn clean_all(cs: [Channel; 8], id: u8) -> [Channel; 8]
     requires { ⌜ Each (λ c. Tidy (c .writes)) cs ⌝ }
     ensures { λ ds. ⌜ ds ≡ each (cleaned id) cs ⌝ }
 {
-    let a = clean(cs[0], id);
-    let b = clean(cs[1], id);
-    let c = clean(cs[2], id);
-    let d = clean(cs[3], id);
-    [a, b, c, d]
+    let mut ds = cs;
+    let mut i: usize = 0;
+    while i < 8 {
+        let c = ds[i];
+        let d = clean(c, id);
+        ds[i] = d;
+        i += 1;
+    }
+    ds
 }
 
 // The id is in no queue of writes, and does not wait.

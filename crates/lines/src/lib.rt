@@ -1,18 +1,19 @@
 // Replies, answers and channels as lines of upper-case hexadecimal, two digits a byte, each line ended by LF.
 // A line is written at its place and nowhere else. Assumes nothing.
 use answers::Answer;
+use board::Board;
 use channel::Channel;
-use store::State;
 ghost use mathlib.Core.Path.{_≡_};
 ghost use mathlib.Core.List.{[], _∷_};
 ghost use Prim.Native.Nat.{_+_, _*_, _≤_, _<_, _/_, _%_};
-ghost use lib.ListN.{length};
+ghost use lib.Dec.{ltb};
+ghost use lib.ListN.{length, take};
 ghost use Rattle.memory.specs.Splice.{splice, block};
 ghost use Rattle.machine.specs.Log.{hexDigit, line, answerLine};
 ghost use Rattle.machine.specs.Lists.{if_then_else_};
 ghost use Rattle.answers.specs.Answers.{answerIn};
 ghost use Rattle.lines.specs.Lines.{digits, recordLine, Tells};
-ghost use Rattle.lines.specs.ChannelLines.{marksOf, channelLine, channelLines};
+ghost use Rattle.lines.specs.ChannelLines.{marksOf, channelLine, channelLines, Shows};
 
 fn digit(n: u8) -> u8
     requires { ⌜ n < 16 ⌝ }
@@ -128,7 +129,7 @@ fn signed(prec: u8) -> u8
 
 // The line of channel i.
 fn put_channel(out: &mut [u8], i: usize, c: Channel)
-    requires { ⌜ (i < 4) × (i * 15 + 15 ≤ length (now out)) ⌝ }
+    requires { ⌜ (i < 8) × (i * 15 + 15 ≤ length (now out)) ⌝ }
     ensures { λ _. ⌜ now (out .exit) ≡ splice (now (out .entry)) (i * 15) (channelLine i c) ⌝ }
 {
     let high = (c.key / 256) as u8;
@@ -138,22 +139,32 @@ fn put_channel(out: &mut [u8], i: usize, c: Channel)
     put_seven(out, i * 15, 0xB0, i as u8, high, low, prec, m, c.writes.n);
 }
 
-fn put_channels(out: &mut [u8], cs: [Channel; 4])
-    requires { ⌜ length (now out) ≡ 60 ⌝ }
-    ensures { λ _. ⌜ now (out .exit) ≡ channelLines 0 cs ⌝ }
+fn put_channels(out: &mut [u8], cs: [Channel; 8], n: usize)
+    requires { ⌜ (length (now out) ≡ 120) × (n ≤ 8) ⌝ }
+    ensures { λ _. ⌜ (length cs ≡ 8) × (now (out .exit) ≡ splice (now (out .entry)) 0 (channelLines 0 (take n cs))) ⌝ }
 {
     let mut i = 0;
-    while i < 4 {
+    while i < n {
         let c = cs[i];
         put_channel(out, i, c);
         i += 1;
     }
 }
 
-// The lines of the four channels.
-pub fn channels(s: State, out: &mut [u8; 60])
-    ensures { λ _. ⌜ now (out .exit) ≡ channelLines 0 (s .channels) ⌝ }
+// How many channels a board has that says so; one that says more than eight has eight.
+fn own(width: u8) -> usize
+    ensures { λ r. ⌜ (r ≡ (if ltb width 8 then width else 8)) × (r ≤ 8) ⌝ }
 {
+    if width < 8 { width as usize } else { 8 }
+}
+
+// The lines of the board's own channels; how many bytes they are.
+pub fn channels(b: Board, out: &mut [u8; 120]) -> usize
+    ensures { λ r. ⌜ Shows b (now (out .entry)) r (now (out .exit)) ⌝ }
+{
+    let s = b.state;
     let cs = s.channels;
-    put_channels(out, cs);
+    let n = own(b.width);
+    put_channels(out, cs, n);
+    n * 15
 }

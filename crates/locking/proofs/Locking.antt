@@ -100,7 +100,7 @@ module _ {st : State} {tb : List ℕ} (r : Request) (h : Held st tb) (b : r .id 
 
 -- ---- LOCK
 
-module _ {st : State} {tb : List ℕ} (r : Request) (h : Held st tb) (b : r .map < 16) (lock : r .command ≡ 13) {ok : ℕ}
+module _ {st : State} {tb : List ℕ} (r : Request) (h : Held st tb) (b : r .map < 256) (lock : r .command ≡ 13) {ok : ℕ}
     (e : ok ≡ matchingEach (r .key) (r .map) (st .channels)) where
   same-did : {l : List ℕ} → Did (stateIn st tb) [] l 0 st tb l 0
   same-did {l} = record { struct = h .struct; table = h .table; list = sym (splice-none l 0); count = refl }

@@ -45,7 +45,7 @@ fn enter(r: Request, s: State, table: &mut [u8]) -> State
 }
 
 pub fn lock(r: Request, s: State, table: &mut [u8], replies: &mut [u8]) -> Outcome
-    requires { ⌜ Ready s (now table) (now replies) 0 1 × (r .map < 16) × (r .id < 64) × T (not (among (r .id) (ids (stateIn s (now table))))) × (r .command ≡ 13) ⌝ }
+    requires { ⌜ Ready s (now table) (now replies) 0 1 × (r .map < 256) × (r .id < 64) × T (not (among (r .id) (ids (stateIn s (now table))))) × (r .command ≡ 13) ⌝ }
     ensures { λ d. ⌜ Does (doLock (callOf r [])) s (now (table .entry)) (now (replies .entry)) d (now (table .exit)) (now (replies .exit)) ⌝ }
 {
     let cs = s.channels;

@@ -18,10 +18,12 @@ use Rattle.machine.proofs.Tests.{by-test, test-true, test-false, if-elim}
 use Rattle.memory.specs.Splice.{splice}
 use Rattle.memory.proofs.Splice.{splice-none, splice-then, length-splice}
 use Rattle.channel.specs.declared.Channel.{Channel}
-use Rattle.store.specs.declared.State.{State}
-use Rattle.store.specs.Store.{structOf, tableOf, stateIn, Held}
-use Rattle.lines.specs.ChannelLines.{channelLines}
-use Rattle.lines.proofs.ChannelLines.{length-channelLines}
+use Rattle.board.specs.declared.Board.{Board}
+use Rattle.store.specs.Store.{tableOf}
+use Rattle.board.specs.Board.{structOf, stateIn, Held}
+use Rattle.board.proofs.Laws.{held-eight}
+use Rattle.lines.specs.ChannelLines.{boardLines, Shows}
+use Rattle.lines.proofs.ChannelLines.{board-few}
 use Rattle.lines.proofs.Laws.{length-told}
 use Rattle.frames.specs.Frames.{LINE, ended, used, kept}
 use Rattle.frames.proofs.Lumps.{used-within}
@@ -51,9 +53,20 @@ room-behind need at len h =
     (λ y. let e = test-true (leb (at + need) len) y in let k = leb-true (at + need) len e in le-leb need (len - at) (omega arith) ∙ sym e)
     (λ y. let e = test-false (leb (at + need) len) y in let k = leb-false (at + need) len e in lt-leb need (len - at) (omega arith) ∙ sym e)
 
--- four channels are told in 60 bytes
-pub board-length : (cs : List Channel) {b : List ℕ} → length cs ≡ 4 → b ≡ channelLines 0 cs → 60 ≡ length b
-board-length cs f e = let n = length-channelLines 0 cs in sym (ap length e ∙ n ∙ ap (λ (k : ℕ). 15 * k) f)
+-- what a board shows stands in front of the memory lent
+pub shown-front : {s : Board} {lent b : List ℕ} {j : ℕ} → Shows s lent j b → take j b ≡ boardLines s
+unfolding splice
+shown-front {s} q = rw (q .bytes, q .count) (take-at (boardLines s) _ (length (boardLines s)) refl)
+
+-- and is not more than the memory
+pub shown-few : {s : Board} {lent b : List ℕ} {j : ℕ} → length (s .state .channels) ≡ 8 → Shows s lent j b → j ≤ 120
+shown-few {s} h q = let f = board-few s h in let c = q .count in omega arith
+
+pub shown-long : {s : Board} {lent b : List ℕ} {j : ℕ} → length (s .state .channels) ≡ 8 → length lent ≡ 120 → Shows s lent j b → length b ≡ 120
+shown-long {s} {lent} h e q = let f = board-few s h in ap length (q .bytes) ∙ (length-splice lent 0 (boardLines s) (omega arith) ∙ e)
+
+pub few-within : {j n : ℕ} → j ≤ 120 → n ≡ 120 → j ≤ n
+few-within h e = omega arith
 
 -- ---- what is put on the page
 
@@ -85,20 +98,20 @@ module _ {show : Bool} {t : Taken} {out page : List ℕ} {at : ℕ} where
         let n : at + t .at ≡ at + length (textOf show t out) = ap (λ (y : ℕ). at + y) (sym (ap length x ∙ length-take-le (t .at) out k)) in
         record { answer = λ i. record { state = t .state; line = t .line; used = t .used; at = n i }; bytes = p ∙ ap (splice page at) (sym x) }
 
-    pub put-shown : {page₁ page₂ b : List ℕ} → show ≡ true → length (t .state .channels) ≡ 4 → at + t .at ≤ length page → page₁ ≡ splice page at (take (t .at) out)
-        → b ≡ channelLines 0 (t .state .channels) → page₂ ≡ splice page₁ (at + t .at) b
-        → Puts show t out page at (record { state = t .state; line = t .line; used = t .used; at = at + t .at + 60 }) page₂
+    pub put-shown : {page₁ page₂ lent b : List ℕ} {j : ℕ} → show ≡ true → at + t .at ≤ length page → page₁ ≡ splice page at (take (t .at) out)
+        → Shows (t .state) lent j b → page₂ ≡ splice page₁ (at + t .at) (take j b)
+        → Puts show t out page at (record { state = t .state; line = t .line; used = t .used; at = at + t .at + j }) page₂
     unfolding shownOf
-    put-shown {page₁} {page₂} {b} e f r p q v =
-        let x : textOf show t out ≡ take (t .at) out ++ channelLines 0 (t .state .channels) = text-some show t out h ∙ rw e in
+    put-shown {page₁} {page₂} {lent} {b} {j} e r p q v =
+        let x : textOf show t out ≡ take (t .at) out ++ boardLines (t .state) = text-some show t out h ∙ rw e in
         let m = length-take-le (t .at) out k in
-        let c = length-channelLines 0 (t .state .channels) in
-        let n : at + t .at + 60 ≡ at + length (textOf show t out) = rw (x, length-append) (omega arith) in
-        let y : splice (splice page at (take (t .at) out)) (at + t .at) (channelLines 0 (t .state .channels)) ≡ splice page at (textOf show t out) =
-        rw x (splice-then page at (take (t .at) out) (channelLines 0 (t .state .channels)) (at + t .at) (omega arith) (omega arith)) in
+        let c = q .count in
+        let n : at + t .at + j ≡ at + length (textOf show t out) = rw (x, length-append) (omega arith) in
+        let y : splice (splice page at (take (t .at) out)) (at + t .at) (boardLines (t .state)) ≡ splice page at (textOf show t out) =
+        rw x (splice-then page at (take (t .at) out) (boardLines (t .state)) (at + t .at) (omega arith) (omega arith)) in
         record {
           answer = λ i. record { state = t .state; line = t .line; used = t .used; at = n i };
-          bytes = v ∙ ap₂ (λ (z w : List ℕ). splice z (at + t .at) w) p q ∙ y;
+          bytes = v ∙ ap₂ (λ (z w : List ℕ). splice z (at + t .at) w) p (shown-front q) ∙ y;
         }
 
 -- no line was answered: the desk is the same on any page
@@ -163,7 +176,7 @@ module _ {t : Taken} {l′ tb′ out′ : List ℕ} (σ : StateM) (l out : List 
 
 -- ---- one turn
 
-module _ {s : State} {tb l out : List ℕ} {n : ℕ} {bs : List ℕ} {t : Taken} {l′ tb′ out′ : List ℕ} (w : Takes s tb l n bs out t l′ tb′ out′) where
+module _ {s : Board} {tb l out : List ℕ} {n : ℕ} {bs : List ℕ} {t : Taken} {l′ tb′ out′ : List ℕ} (w : Takes s tb l n bs out t l′ tb′ out′) where
   pub take-few : Held s tb → t .at ≤ 973
   take-few h =
       by-test (ended bs)
@@ -176,8 +189,8 @@ module _ {s : State} {tb l out : List ℕ} {n : ℕ} {bs : List ℕ} {t : Taken}
       (λ y. let e = test-true (ended bs) y in answered-size (stateIn s tb) (splice l n (kept n bs)) out (n + length (kept n bs)) (0 + used bs) (rw (taken-ended false (deskOf s tb l n out 0) bs e) at (w .leaves)) (h .sane) z)
       (λ y. let e = test-false (ended bs) y in let v = rw (taken-open false (deskOf s tb l n out 0) bs e) at (w .leaves) in z ∙ ap length (sym (v .page)))
 
-  pub take-four : Held s tb → length (t .state .channels) ≡ 4
-  take-four h = leaves-held (taken-fine false (deskOf s tb l n out 0) bs (held-fine h)) (w .leaves) .four
+  pub take-eight : Held s tb → length (t .state .state .channels) ≡ 8
+  take-eight h = held-eight (leaves-held (taken-fine false (deskOf s tb l n out 0) bs (held-fine h)) (w .leaves))
 
   pub take-put : {show : Bool} {page page′ : List ℕ} {at : ℕ} {r : Taken} → Puts show t out′ page at r page′
       → Turns show s tb l n bs page at r l′ tb′ page′
@@ -201,7 +214,7 @@ module _ (show : Bool) (d : Desk) where
   unfolding finished
   finished-full e = rw e
 
-module _ {s : State} {tb l out : List ℕ} {n : ℕ} {t : Taken} {tb′ out′ : List ℕ} (w : Ends s tb l n out t tb′ out′) where
+module _ {s : Board} {tb l out : List ℕ} {n : ℕ} {t : Taken} {tb′ out′ : List ℕ} (w : Ends s tb l n out t tb′ out′) where
   pub end-few : Held s tb → t .at ≤ 973
   end-few h =
       by-test (eqb n 0)
@@ -214,8 +227,8 @@ module _ {s : State} {tb l out : List ℕ} {n : ℕ} {t : Taken} {tb′ out′ :
       (λ y. let e = eqb-true n 0 (test-true (eqb n 0) y) in let v = rw (closed-none false (deskOf s tb l n out 0) e) at (w .leaves) in z ∙ ap length (sym (v .page)))
       (λ y. let e = eqb-false n 0 (test-false (eqb n 0) y) in answered-size (stateIn s tb) l out n 0 (rw (closed-some false (deskOf s tb l n out 0) e) at (w .leaves)) (h .sane) z)
 
-  pub end-four : Held s tb → length (t .state .channels) ≡ 4
-  end-four h = leaves-held (closed-fine false (deskOf s tb l n out 0) (held-fine h)) (w .leaves) .four
+  pub end-eight : Held s tb → length (t .state .state .channels) ≡ 8
+  end-eight h = held-eight (leaves-held (closed-fine false (deskOf s tb l n out 0) (held-fine h)) (w .leaves))
 
   pub end-put : {show : Bool} {page page′ : List ℕ} {at : ℕ} {r : Taken} → fits show (deskOf s tb l n page at) ≡ true → Puts show t out′ page at r page′
       → Finishes show s tb l n page at r tb′ page′
@@ -230,11 +243,11 @@ module _ {s : State} {tb l out : List ℕ} {n : ℕ} {t : Taken} {tb′ out′ :
       }
 
 -- where nothing is done, a desk leaves itself
-module _ {s : State} {tb : List ℕ} (h : Held s tb) (l : List ℕ) (n : ℕ) (page : List ℕ) (at u : ℕ) where
+module _ {s : Board} {tb : List ℕ} (h : Held s tb) (l : List ℕ) (n : ℕ) (page : List ℕ) (at u : ℕ) where
   pub stays : Leaves (record { state = s; line = n; used = u; at = at }) l tb page (record { state = stateIn s tb; line = l; n = n; page = page; at = at; used = u })
   stays = record { struct = h .struct; table = h .table; line = refl; started = refl; page = refl; at = refl; used = refl }
 
-pub full-stays : (show : Bool) {s : State} {tb : List ℕ} → Held s tb → (l : List ℕ) (n : ℕ) (page : List ℕ) (at : ℕ) → fits show (deskOf s tb l n page at) ≡ false
+pub full-stays : (show : Bool) {s : Board} {tb : List ℕ} → Held s tb → (l : List ℕ) (n : ℕ) (page : List ℕ) (at : ℕ) → fits show (deskOf s tb l n page at) ≡ false
     → Finishes show s tb l n page at (record { state = s; line = n; used = 0; at = at }) tb page
 full-stays show {s} {tb} h l n page at f = record { leaves = rw (finished-full show (deskOf s tb l n page at) f) (stays h l n page at 0) }
 
@@ -258,11 +271,11 @@ module _ (show : Bool) where
   takes-more k d (b ∷ bs) h e = rw e
 
 -- the desk of a call that is `from` bytes into its lump
-abbrev pub deskAt : State → List ℕ → List ℕ → ℕ → List ℕ → ℕ → ℕ → Desk
+abbrev pub deskAt : Board → List ℕ → List ℕ → ℕ → List ℕ → ℕ → ℕ → Desk
 deskAt s tb l n page at from = record { state = stateIn s tb; line = l; n = n; page = page; at = at; used = from }
 
 -- what is left of the lump, taken by the rule from where the loop is, gives the whole
-pub record Filling (show : Bool) (d : Desk) (input : List ℕ) (s : State) (tb l : List ℕ) (n : ℕ) (page : List ℕ) (at from : ℕ) : Type 0 where
+pub record Filling (show : Bool) (d : Desk) (input : List ℕ) (s : Board) (tb l : List ℕ) (n : ℕ) (page : List ℕ) (at from : ℕ) : Type 0 where
   pub held : Held s tb
   pub within : n ≤ LINE
   pub inside : from ≤ length input
@@ -270,12 +283,12 @@ pub record Filling (show : Bool) (d : Desk) (input : List ℕ) (s : State) (tb l
   pub enough : length input ≤ from + left
   pub whole : filled show d input ≡ takes show left (deskAt s tb l n page at from) (drop from input)
 
-module _ {show : Bool} {s : State} {tb l : List ℕ} {n : ℕ} {page : List ℕ} {at : ℕ} {input : List ℕ} where
+module _ {show : Bool} {s : Board} {tb l : List ℕ} {n : ℕ} {page : List ℕ} {at : ℕ} {input : List ℕ} where
   pub filling-start : Held s tb → n ≤ LINE → Filling show (deskOf s tb l n page at) input s tb l n page at 0
   unfolding filled
   filling-start h w = record { held = h; within = w; inside = omega arith; left = length input; enough = omega arith; whole = refl }
 
-module _ {show : Bool} {d : Desk} {input : List ℕ} {s : State} {tb l : List ℕ} {n : ℕ} {page : List ℕ} {at from : ℕ} (i : Filling show d input s tb l n page at from) where
+module _ {show : Bool} {d : Desk} {input : List ℕ} {s : Board} {tb l : List ℕ} {n : ℕ} {page : List ℕ} {at from : ℕ} (i : Filling show d input s tb l n page at from) where
   done : takes show (i .left) (deskAt s tb l n page at from) (drop from input) ≡ deskAt s tb l n page at from
       → Leaves (record { state = s; line = n; used = from; at = at }) l tb page (filled show d input)
   done e = rw (i .whole ∙ e) (stays (i .held) l n page at from)
@@ -304,7 +317,7 @@ taken-from show d bs _ u = go (ended bs)
     go true = refl
     go false = refl
 
-module _ {show : Bool} {d : Desk} {input : List ℕ} {s : State} {tb l : List ℕ} {n : ℕ} {page : List ℕ} {at from : ℕ} (i : Filling show d input s tb l n page at from)
+module _ {show : Bool} {d : Desk} {input : List ℕ} {s : Board} {tb l : List ℕ} {n : ℕ} {page : List ℕ} {at from : ℕ} (i : Filling show d input s tb l n page at from)
     (h : from < length input) {t : Taken} {l′ tb′ page′ : List ℕ}
     (w : Turns show s tb l n (take (length input - from) (drop from input)) page at t l′ tb′ page′) where
   v : Leaves t l′ tb′ page′ (taken show (deskOf s tb l n page at) (drop from input))
@@ -352,10 +365,10 @@ module _ {show : Bool} {d : Desk} {input : List ℕ} {s : State} {tb l : List �
 
 -- ---- no second outcome fits
 
-pub one-filling : {show : Bool} {s : State} {tb l : List ℕ} {n : ℕ} {bs page : List ℕ} {at : ℕ} {t t₂ : Taken} {l₁ l₂ tb₁ tb₂ page₁ page₂ : List ℕ}
+pub one-filling : {show : Bool} {s : Board} {tb l : List ℕ} {n : ℕ} {bs page : List ℕ} {at : ℕ} {t t₂ : Taken} {l₁ l₂ tb₁ tb₂ page₁ page₂ : List ℕ}
     → Fills show s tb l n bs page at t l₁ tb₁ page₁ → Fills show s tb l n bs page at t₂ l₂ tb₂ page₂ → Same t t₂ l₁ l₂ tb₁ tb₂ page₁ page₂
 one-filling a b = one-leaving (a .leaves) (b .leaves)
 
-pub one-finishing : {show : Bool} {s : State} {tb l : List ℕ} {n : ℕ} {page : List ℕ} {at : ℕ} {t t₂ : Taken} {tb₁ tb₂ page₁ page₂ : List ℕ}
+pub one-finishing : {show : Bool} {s : Board} {tb l : List ℕ} {n : ℕ} {page : List ℕ} {at : ℕ} {t t₂ : Taken} {tb₁ tb₂ page₁ page₂ : List ℕ}
     → Finishes show s tb l n page at t tb₁ page₁ → Finishes show s tb l n page at t₂ tb₂ page₂ → Same t t₂ l l tb₁ tb₂ page₁ page₂
 one-finishing a b = one-leaving (a .leaves) (b .leaves)

@@ -14,7 +14,7 @@ use lib.Dec.{eqb}
 use lib.ListN.{length, take}
 use Rattle.machine.specs.Lists.{if_then_else_}
 use Rattle.memory.specs.Splice.{splice}
-use Rattle.store.specs.declared.State.{State}
+use Rattle.board.specs.declared.Board.{Board}
 use Rattle.taking.specs.declared.Taken.{Taken}
 use Rattle.taking.specs.Desk.{shownOf, deskOf, taken, filled, finished, Leaves}
 
@@ -25,11 +25,11 @@ pub record Puts (show : Bool) (t : Taken) (out page : List ℕ) (at : ℕ) (r : 
   pub answer : r ≡ record { state = t .state; line = t .line; used = t .used; at = at + length (textOf show t out) }
   pub bytes : page′ ≡ splice page at (textOf show t out)
 
-pub record Turns (show : Bool) (s : State) (tb l : List ℕ) (n : ℕ) (bs page : List ℕ) (at : ℕ) (t : Taken) (l′ tb′ page′ : List ℕ) : Type 0 where
+pub record Turns (show : Bool) (s : Board) (tb l : List ℕ) (n : ℕ) (bs page : List ℕ) (at : ℕ) (t : Taken) (l′ tb′ page′ : List ℕ) : Type 0 where
   pub leaves : Leaves t l′ tb′ page′ (taken show (deskOf s tb l n page at) bs)
 
-pub record Fills (show : Bool) (s : State) (tb l : List ℕ) (n : ℕ) (bs page : List ℕ) (at : ℕ) (t : Taken) (l′ tb′ page′ : List ℕ) : Type 0 where
+pub record Fills (show : Bool) (s : Board) (tb l : List ℕ) (n : ℕ) (bs page : List ℕ) (at : ℕ) (t : Taken) (l′ tb′ page′ : List ℕ) : Type 0 where
   pub leaves : Leaves t l′ tb′ page′ (filled show (deskOf s tb l n page at) bs)
 
-pub record Finishes (show : Bool) (s : State) (tb l : List ℕ) (n : ℕ) (page : List ℕ) (at : ℕ) (t : Taken) (tb′ page′ : List ℕ) : Type 0 where
+pub record Finishes (show : Bool) (s : Board) (tb l : List ℕ) (n : ℕ) (page : List ℕ) (at : ℕ) (t : Taken) (tb′ page′ : List ℕ) : Type 0 where
   pub leaves : Leaves t l tb′ page′ (finished show (deskOf s tb l n page at))

@@ -1,17 +1,17 @@
 // The output of a log on a lent page: a lump of input is taken as far as the page has room, and the caller writes the page and
 // comes back with the rest. The state is known to be sound. Assumes nothing.
-use store::State;
+use board::Board;
 use taking::Taken;
 ghost use Prim.Native.Nat.{_+_, _≤_};
 ghost use mathlib.Core.Path.{_≡_};
 ghost use lib.Dec.{leb};
 ghost use lib.ListN.{length};
-ghost use Rattle.store.specs.Store.{Held};
+ghost use Rattle.board.specs.Board.{Held};
 ghost use Rattle.frames.specs.Frames.{LINE};
 ghost use Rattle.taking.specs.Desk.{needed};
 ghost use Rattle.paging.specs.Paging.{Puts, Turns, Fills, Finishes};
 
-// Whether the output of one line has room, with the four channels' lines where they are shown.
+// Whether the output of one line has room, with the lines of eight channels where they are shown.
 fn room(show: bool, page: &[u8], at: usize) -> bool
     ensures { λ r. ⌜ r ≡ leb (at + needed show) (length (now (page .entry))) ⌝ }
 {
@@ -19,7 +19,7 @@ fn room(show: bool, page: &[u8], at: usize) -> bool
         return false;
     }
     if show {
-        return page.len() - at >= 1033;
+        return page.len() - at >= 1093;
     }
     page.len() - at >= 973
 }
@@ -27,7 +27,7 @@ fn room(show: bool, page: &[u8], at: usize) -> bool
 // A line's output behind what stands on the page, then the channels' lines where they are shown. Every line has an answer, so no
 // output is no line: then nothing is put.
 fn put(show: bool, t: Taken, out: &[u8], page: &mut [u8], at: usize) -> Taken
-    requires { ⌜ (t .at ≤ 973) × (length (now out) ≡ 973) × (length (t .state .channels) ≡ 4) × (at + needed show ≤ length (now page)) ⌝ }
+    requires { ⌜ (t .at ≤ 973) × (length (now out) ≡ 973) × (length (t .state .state .channels) ≡ 8) × (at + needed show ≤ length (now page)) ⌝ }
     ensures { λ r. ⌜ Puts show t (now (out .entry)) (now (page .entry)) at r (now (page .exit)) ⌝ }
 {
     let s = t.state;
@@ -49,21 +49,21 @@ fn put(show: bool, t: Taken, out: &[u8], page: &mut [u8], at: usize) -> Taken
             at: at + n,
         };
     }
-    let mut board = [0u8; 60];
-    lines::channels(s, &mut board);
-    memory::copy(page, at + n, &board);
+    let mut board = [0u8; 120];
+    let k = lines::channels(s, &mut board);
+    memory::copy(page, at + n, &board[..k]);
     Taken {
         state: s,
         line: t.line,
         used: t.used,
-        at: at + n + 60,
+        at: at + n + k,
     }
 }
 
 // One line at most, its output on the page.
 fn turn(
     show: bool,
-    s: State,
+    s: Board,
     line: &mut [u8; 527],
     n: usize,
     input: &[u8],
@@ -72,7 +72,8 @@ fn turn(
     at: usize,
 ) -> Taken
     requires { ⌜ Held s (now table) × (n ≤ LINE) × (at + needed show ≤ length (now page)) ⌝ }
-    ensures { λ t. ⌜ Turns show s (now (table .entry)) (now (line .entry)) n (now (input .entry)) (now (page .entry)) at t (now (line .exit)) (now (table .exit)) (now (page .exit)) ⌝ }
+    ensures { λ t. ⌜ Turns show s (now (table .entry)) (now (line .entry)) n (now (input .entry)) (now (page .entry)) at
+        t (now (line .exit)) (now (table .exit)) (now (page .exit)) ⌝ }
 {
     let mut out = [0u8; 973];
     let t = taking::take(s, line, n, input, table, &mut out);
@@ -82,7 +83,7 @@ fn turn(
 // A lump, as far as the page has room for one more line's output.
 pub fn fill(
     show: bool,
-    state: State,
+    state: Board,
     line: &mut [u8; 527],
     started: usize,
     input: &[u8],
@@ -91,7 +92,8 @@ pub fn fill(
     stands: usize,
 ) -> Taken
     requires { ⌜ Held state (now table) × (started ≤ LINE) ⌝ }
-    ensures { λ t. ⌜ Fills show state (now (table .entry)) (now (line .entry)) started (now (input .entry)) (now (page .entry)) stands t (now (line .exit)) (now (table .exit)) (now (page .exit)) ⌝ }
+    ensures { λ t. ⌜ Fills show state (now (table .entry)) (now (line .entry)) started (now (input .entry)) (now (page .entry)) stands
+        t (now (line .exit)) (now (table .exit)) (now (page .exit)) ⌝ }
 {
     let mut s = state;
     let mut n = started;
@@ -125,7 +127,7 @@ pub fn fill(
 // is written.
 pub fn finish(
     show: bool,
-    s: State,
+    s: Board,
     line: &[u8; 527],
     n: usize,
     table: &mut [u8],

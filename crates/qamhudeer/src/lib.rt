@@ -1,7 +1,7 @@
 // The arbiter for programs in C: every exported function, and nothing else. Each forwards to a library function with the same promise.
 // None asks anything of its caller but memory that is its own. Assumes nothing.
 ghost use mathlib.Core.Path.{_≡_};
-ghost use Rattle.image.specs.Image.{STATE, CHANNEL, LOCKS, WAITING, OPENS, LAST};
+ghost use Rattle.image.specs.Image.{STATE, CHANNEL, LOCKS, WAITING, OPENS, LAST, CHANNELS};
 ghost use Rattle.sizes.specs.Sizes.{TABLE, REPLIES, ANSWER};
 ghost use Rattle.handed.specs.Handed.{requestOf};
 ghost use Rattle.starting.specs.Starting.{Started};
@@ -74,14 +74,21 @@ pub extern "C" fn qamhudeer_offset_of_last() -> usize
     sizes::offset_of_last()
 }
 
+#[no_mangle]
+pub extern "C" fn qamhudeer_offset_of_channels() -> usize
+    ensures { λ r. ⌜ r ≡ CHANNELS ⌝ }
+{
+    sizes::offset_of_channels()
+}
+
 // ---- a fresh device, and a call
 
-// A fresh device: 0. Memory of another size: 1, and nothing moves.
+// A fresh device of four or eight channels: 0. Another number of channels, or memory of another size: 1, and nothing moves.
 #[no_mangle]
-pub extern "C" fn qamhudeer_fresh(state: &mut [u8], table: &mut [u8]) -> u8
-    ensures { λ r. ⌜ Started (now (state .entry)) (now (table .entry)) r (now (state .exit)) (now (table .exit)) ⌝ }
+pub extern "C" fn qamhudeer_fresh(channels: u8, state: &mut [u8], table: &mut [u8]) -> u8
+    ensures { λ r. ⌜ Started channels (now (state .entry)) (now (table .entry)) r (now (state .exit)) (now (table .exit)) ⌝ }
 {
-    starting::fresh(state, table)
+    starting::fresh(channels, state, table)
 }
 
 // The number of replies; 255 where the answer is not lent six bytes, and nothing moves.

@@ -1,5 +1,5 @@
--- The machine's refusals of a sound state on a board of four channels are each operation's list of tests. Assumes nothing.
-use Prim.Native.Nat.{ℕ, _/_, _≤_, _<_}
+-- The machine's refusals of a sound state are each operation's list of tests, with the bound of the board's maps. Assumes nothing.
+use Prim.Native.Nat.{ℕ, _+_, _/_, _^_, _≤_, _<_}
 use mathlib.Core.Path.{_≡_, ap, sym, _∙_}
 use mathlib.Core.Bool.{Bool, _&&_}
 use mathlib.Core.List.{List, [], _∷_, map}
@@ -14,9 +14,9 @@ use Rattle.machine.specs.Sound.{sound, ids}
 use Rattle.machine.specs.Kinds.{kind, unknown, allocates}
 use Rattle.machine.specs.Refusals.{refused, first, badList, badMaps, badMap, refusal}
 use Rattle.machine.proofs.Tests.{by-test, test-true, test-false}
-use Rattle.store.specs.declared.State.{State}
-use Rattle.store.specs.Store.{stateIn, Held}
-use Rattle.store.proofs.Store.{held-four}
+use Rattle.board.specs.declared.Board.{Board}
+use Rattle.board.specs.Board.{topOf, stateIn, Held}
+use Rattle.board.proofs.Laws.{top-pow, held-parts, held-width, held-sized}
 use Rattle.answers.specs.declared.Request.{Request}
 use Rattle.refusals.specs.declared.Op.{Op}
 use Rattle.refusals.specs.declared.Op.the-variants.{Open, Close, Abort, Event, Command}
@@ -24,15 +24,15 @@ use Rattle.refusals.specs.Refusals.{opIn, askedOf, openTests, closeTests
 use Rattle.steps.specs.Steps.{numberOf, high, used, eventTests}
 use Rattle.steps.proofs.Laws.{used-among}
 
--- ---- the machine's tests of a sound state on a board of four channels
+-- ---- the machine's tests of a sound state, on a board whose maps are those below a bound
 
-maps-four : (c : Call) (s : StateM) → length (s .channels) ≡ 4 → badMaps c s ≡ any high (c .combos)
+maps-below : (bound : ℕ) (c : Call) (s : StateM) → 2 ^ length (s .channels) ≡ bound → badMaps c s ≡ any (high bound) (c .combos)
 unfolding badMaps
-maps-four c s e = rw e
+maps-below bound c s e = rw e
 
-map-four : (c : Call) (s : StateM) → length (s .channels) ≡ 4 → badMap c s ≡ high (c .map)
+map-below : (bound : ℕ) (c : Call) (s : StateM) → 2 ^ length (s .channels) ≡ bound → badMap c s ≡ high bound (c .map)
 unfolding badMap
-map-four c s e = rw e
+map-below bound c s e = rw e
 
 module _ (c : Call) (s : StateM) (ok : T (sound s)) where
   short-list : (o : OpM) → c .room < 64 → refusal o c s ≡ refused NOROOM
@@ -52,14 +52,14 @@ module _ (c : Call) (s : StateM) (ok : T (sound s)) where
     unfolding refusal first
     abort-left = rw (test-true (sound s) ok, le-ltb _ _ h)
 
-    module _ (four : length (s .channels) ≡ 4) where
-      open-left : refusal OPEN c s ≡ first (openTests (c .combos) (s .opens))
+    module _ (bound : ℕ) (wide : 2 ^ length (s .channels) ≡ bound) where
+      open-left : refusal OPEN c s ≡ first (openTests bound (c .combos) (s .opens))
       unfolding refusal first badList
-      open-left = rw (test-true (sound s) ok, le-ltb _ _ h, maps-four c s four)
+      open-left = rw (test-true (sound s) ok, le-ltb _ _ h, maps-below bound c s wide)
 
-      event-left : refusal EVENT c s ≡ first (eventTests (c .map))
+      event-left : refusal EVENT c s ≡ first (eventTests bound (c .map))
       unfolding refusal first
-      event-left = rw (test-true (sound s) ok, le-ltb _ _ h, map-four c s four)
+      event-left = rw (test-true (sound s) ok, le-ltb _ _ h, map-below bound c s wide)
 
       command-left : (n : ℕ) (u : Bool) → (c .id < 64 → u ≡ among (c .id) (ids s))
           → refusal (COMMAND n) c s
@@ -69,38 +69,48 @@ module _ (c : Call) (s : StateM) (ok : T (sound s)) where
           ∷ (eqb (s .opens) 0, 2)
           ∷ (unknown (kind n), 253)
           ∷ (allocates (kind n) && ltb 16 (length (c .combos)), 252)
-          ∷ (if allocates (kind n) then any high (c .combos) else high (c .map), 251)
+          ∷ (if allocates (kind n) then any (high bound) (c .combos) else high bound (c .map), 251)
           ∷ [])
       unfolding refusal first badList
       command-left n u e =
           by-test (ltb 63 (c .id)) (λ t. rw (test-true (sound s) ok, le-ltb _ _ h, test-true (ltb 63 (c .id)) t))
           (λ t.
           let g = ltb-false 63 (c .id) (test-false (ltb 63 (c .id)) t) in
-          rw (test-true (sound s) ok, le-ltb _ _ h, e (omega arith), maps-four c s four, map-four c s four))
+          rw (test-true (sound s) ok, le-ltb _ _ h, e (omega arith), maps-below bound c s wide, map-below bound c s wide))
 
 -- ---- the promise
 
 room-six : (len : ℕ) → 384 ≤ len → 64 ≤ len / 6
 room-six len h = omega arith
 
-module _ {o : Op} {r : Request} {s : State} {ms tb : List ℕ} {len : ℕ} (h : Held s tb) where
-  pub no-room : len < 384 → Refuses o r s ms tb len 5
-  no-room l = record { number = sym (ap numberOf (short-list (askedOf o r ms len) (stateIn s tb) (h .sane) (opIn o (r .command)) (omega arith))) }
+-- the bound is that of the board's highest map
+bound-is : {b : Board} {tb : List ℕ} → Held b tb → {top : ℕ} → top ≡ topOf (b .width) → 2 ^ length (stateIn b tb .channels) ≡ top + 1
+bound-is {b} {tb} h {top} e = ap (λ (n : ℕ). 2 ^ n) (sym (held-width h)) ∙ (sym (top-pow (b .width) (held-sized h)) ∙ ap (λ (n : ℕ). n + 1) (sym e))
 
-module _ {r : Request} {s : State} {ms tb : List ℕ} {len : ℕ} (h : Held s tb) (l : 384 ≤ len) {e : ℕ} where
-  pub open-told : e ≡ numberOf (first (openTests ms (s .opens))) → Refuses Open r s ms tb len e
-  open-told q = record { number = q ∙ sym (ap numberOf (open-left (askedOf Open r ms len) (stateIn s tb) (h .sane) (room-six len l) (held-four h))) }
+module _ {o : Op} {r : Request} {b : Board} {ms tb : List ℕ} {len : ℕ} (h : Held b tb) where
+  pub no-room : len < 384 → Refuses o r b ms tb len 5
+  no-room l = record { number = sym (ap numberOf (short-list (askedOf o r ms len) (stateIn b tb) (h .sane) (opIn o (r .command)) (omega arith))) }
 
-  pub close-told : e ≡ numberOf (first (closeTests (s .opens))) → Refuses Close r s ms tb len e
-  close-told q = record { number = q ∙ sym (ap numberOf (close-left (askedOf Close r ms len) (stateIn s tb) (h .sane) (room-six len l))) }
+module _ {r : Request} {b : Board} {ms tb : List ℕ} {len : ℕ} (h : Held b tb) (l : 384 ≤ len) {top : ℕ} (t : top ≡ topOf (b .width)) {e : ℕ} where
+  pub open-told : e ≡ numberOf (first (openTests (top + 1) ms (b .state .opens))) → Refuses Open r b ms tb len e
+  open-told q = record { number = q ∙ sym (ap numberOf (open-left (askedOf Open r ms len) (stateIn b tb) (h .sane) (room-six len l) (top + 1) (bound-is h t))) }
 
-  pub abort-told : e ≡ numberOf (first (abortTests (r .id))) → Refuses Abort r s ms tb len e
-  abort-told q = record { number = q ∙ sym (ap numberOf (abort-left (askedOf Abort r ms len) (stateIn s tb) (h .sane) (room-six len l))) }
+  pub close-told : e ≡ numberOf (first (closeTests (b .state .opens))) → Refuses Close r b ms tb len e
+  close-told q = record { number = q ∙ sym (ap numberOf (close-left (askedOf Close r ms len) (stateIn b tb) (h .sane) (room-six len l))) }
 
-  pub event-told : e ≡ numberOf (first (eventTests (r .map))) → Refuses Event r s ms tb len e
-  event-told q = record { number = q ∙ sym (ap numberOf (event-left (askedOf Event r ms len) (stateIn s tb) (h .sane) (room-six len l) (held-four h))) }
+  pub abort-told : e ≡ numberOf (first (abortTests (r .id))) → Refuses Abort r b ms tb len e
+  abort-told q = record { number = q ∙ sym (ap numberOf (abort-left (askedOf Abort r ms len) (stateIn b tb) (h .sane) (room-six len l))) }
 
-  pub command-told : e ≡ numberOf (first (commandTests r ms tb (s .opens)))
-      → Refuses Command r s ms tb len e
+  pub event-told : e ≡ numberOf (first (eventTests (top + 1) (r .map))) → Refuses Event r b ms tb len e
+  event-told q = record { number = q ∙ sym (ap numberOf (event-left (askedOf Event r ms len) (stateIn b tb) (h .sane) (room-six len l) (top + 1) (bound-is h t))) }
+
+  pub command-told : e ≡ numberOf (first (commandTests (top + 1) r ms tb (b .state .opens))) → Refuses Command r b ms tb len e
   command-told q =
-      record { number = q ∙ sym (ap numberOf (command-left (askedOf Command r ms len) (stateIn s tb) (h .sane) (room-six len l) (held-four h) (r .command) (used tb (r .id)) (used-among h (r .id)))) }
+      record {
+        number =
+            q
+            ∙ sym
+            (ap numberOf
+            (command-left (askedOf Command r ms len) (stateIn b tb) (h .sane) (room-six len l) (top + 1) (bound-is h t) (r .command) (used tb (r .id))
+            (used-among (stateIn b tb) (held-parts h) tb (h .table) (r .id))));
+      }

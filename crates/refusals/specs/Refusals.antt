@@ -3,7 +3,8 @@
 --
 --   opIn o n               the machine's operation; a command has its number n
 --   askedOf o r ms len     the machine's call: a request with combinations ms and a reply list of len bytes, six to a record
---   openTests .. commandTests    the tests after 1 and 5, which every operation has, each with its number
+--   openTests .. commandTests    the tests after 1 and 5, which every operation has, each with its number; the board's maps are
+--                          those below the bound
 --   Refuses .. e           what `refusal` promises of a sound state: the number of the machine's refusal
 use Prim.Native.Nat.{ℕ, _/_}
 use mathlib.Core.Path.{_≡_}
@@ -16,8 +17,8 @@ use Rattle.machine.specs.Lists.{if_then_else_, any}
 use Rattle.machine.specs.State.{Call, Op as OpM, OPEN, CLOSE, ABORT, EVENT, COMMAND}
 use Rattle.machine.specs.Kinds.{kind, unknown, allocates}
 use Rattle.machine.specs.Refusals.{refusal}
-use Rattle.store.specs.declared.State.{State}
-use Rattle.store.specs.Store.{stateIn}
+use Rattle.board.specs.declared.Board.{Board}
+use Rattle.board.specs.Board.{stateIn}
 use Rattle.answers.specs.declared.Request.{Request}
 use Rattle.steps.specs.Steps.{numberOf, high, used}
 use Rattle.refusals.specs.declared.Op.{Op}
@@ -43,8 +44,8 @@ askedOf o r ms len =
       room = len / 6;
     }
 
-abbrev pub openTests : List ℕ → ℕ → List (Bool × ℕ)
-openTests ms opens = (ltb COMBOS (length ms), BADLENGTH) ∷ (any high ms, BADADDRESS) ∷ (leb 65535 opens, OPENFAIL) ∷ []
+abbrev pub openTests : ℕ → List ℕ → ℕ → List (Bool × ℕ)
+openTests bound ms opens = (ltb COMBOS (length ms), BADLENGTH) ∷ (any (high bound) ms, BADADDRESS) ∷ (leb 65535 opens, OPENFAIL) ∷ []
 
 abbrev pub closeTests : ℕ → List (Bool × ℕ)
 closeTests opens = (eqb opens 0, NOTOPEN) ∷ []
@@ -52,15 +53,15 @@ closeTests opens = (eqb opens 0, NOTOPEN) ∷ []
 abbrev pub abortTests : ℕ → List (Bool × ℕ)
 abortTests id = (ltb 63 id, BADID) ∷ []
 
-abbrev pub commandTests : Request → List ℕ → List ℕ → ℕ → List (Bool × ℕ)
-commandTests r ms tb opens =
+abbrev pub commandTests : ℕ → Request → List ℕ → List ℕ → ℕ → List (Bool × ℕ)
+commandTests bound r ms tb opens =
     (ltb 63 (r .id), BADID)
     ∷ (used tb (r .id), INUSE)
     ∷ (eqb opens 0, NOTOPEN)
     ∷ (unknown (kind (r .command)), NOCMD)
     ∷ (allocates (kind (r .command)) && ltb COMBOS (length ms), BADLENGTH)
-    ∷ (if allocates (kind (r .command)) then any high ms else high (r .map), BADADDRESS)
+    ∷ (if allocates (kind (r .command)) then any (high bound) ms else high bound (r .map), BADADDRESS)
     ∷ []
 
-pub record Refuses (o : Op) (r : Request) (s : State) (ms tb : List ℕ) (len e : ℕ) : Type 0 where
-  pub number : e ≡ numberOf (refusal (opIn o (r .command)) (askedOf o r ms len) (stateIn s tb))
+pub record Refuses (o : Op) (r : Request) (b : Board) (ms tb : List ℕ) (len e : ℕ) : Type 0 where
+  pub number : e ≡ numberOf (refusal (opIn o (r .command)) (askedOf o r ms len) (stateIn b tb))

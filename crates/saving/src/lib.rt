@@ -1,11 +1,11 @@
-// The state written as the 414 bytes that a caller keeps (image's specs/Image.antt has the layout, and what is promised).
+// The state written as the 695 bytes that a caller keeps (image's specs/Image.antt has the layout, and what is promised).
 // Assumes nothing.
+use board::Board;
 use channel::Channel;
 use queue::Queue;
-use store::State;
 ghost use mathlib.Core.Path.{_≡_};
-ghost use Prim.Native.Nat.{_+_, _≤_};
-ghost use lib.ListN.{length};
+ghost use Prim.Native.Nat.{_+_, _≤_, _<_};
+ghost use lib.ListN.{length, set};
 ghost use Rattle.image.specs.Image.{markOf, queueBytes, channelBytes, Wrote, Entered, Saved};
 
 fn mark(on: bool) -> u8
@@ -35,28 +35,38 @@ fn put_channel(bytes: &mut [u8], at: usize, c: Channel)
     put_queue(bytes, at + 5, q);
 }
 
-fn put_channels(bytes: &mut [u8], cs: [Channel; 4])
-    requires { ⌜ 280 ≤ length (now bytes) ⌝ }
+fn put_channels(bytes: &mut [u8], cs: [Channel; 8])
+    requires { ⌜ 560 ≤ length (now bytes) ⌝ }
     ensures { λ _. ⌜ Entered (now (bytes .entry)) cs (now (bytes .exit)) ⌝ }
 {
     let mut i: usize = 0;
-    while i < 4 {
+    while i < 8 {
         let c = cs[i];
         put_channel(bytes, i * 70, c);
         i += 1;
     }
 }
 
-pub fn save(s: State, bytes: &mut [u8])
-    requires { ⌜ length (now bytes) ≡ 414 ⌝ }
-    ensures { λ _. ⌜ Saved s (now (bytes .exit)) ⌝ }
+// How many channels the board has, in the last byte.
+fn put_width(bytes: &mut [u8], width: u8)
+    requires { ⌜ 694 < length (now bytes) ⌝ }
+    ensures { λ _. ⌜ now (bytes .exit) ≡ set (now (bytes .entry)) 694 width ⌝ }
 {
+    bytes[694] = width;
+}
+
+pub fn save(b: Board, bytes: &mut [u8])
+    requires { ⌜ length (now bytes) ≡ 695 ⌝ }
+    ensures { λ _. ⌜ Saved b (now (bytes .exit)) ⌝ }
+{
+    let s = b.state;
     let cs = s.channels;
     let locks = s.locks;
     let waiting = s.waiting;
     put_channels(bytes, cs);
-    put_queue(bytes, 280, locks);
-    put_queue(bytes, 345, waiting);
-    memory::put_key(bytes, 410, s.opens);
-    memory::put_key(bytes, 412, s.last);
+    put_queue(bytes, 560, locks);
+    put_queue(bytes, 625, waiting);
+    memory::put_key(bytes, 690, s.opens);
+    memory::put_key(bytes, 692, s.last);
+    put_width(bytes, b.width);
 }

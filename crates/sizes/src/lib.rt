@@ -1,13 +1,13 @@
 // Sizes of what a program in C lends, and the places in the state's bytes, for the header to be held against.
 // Assumes nothing.
 ghost use mathlib.Core.Path.{_≡_};
-ghost use Rattle.image.specs.Image.{STATE, CHANNEL, LOCKS, WAITING, OPENS, LAST};
+ghost use Rattle.image.specs.Image.{STATE, CHANNEL, LOCKS, WAITING, OPENS, LAST, CHANNELS};
 ghost use Rattle.sizes.specs.Sizes.{TABLE, REPLIES, ANSWER};
 
 pub fn state_size() -> usize
     ensures { λ r. ⌜ r ≡ STATE ⌝ }
 {
-    414
+    695
 }
 
 pub fn table_size() -> usize
@@ -37,23 +37,29 @@ pub fn channel_size() -> usize
 pub fn offset_of_locks() -> usize
     ensures { λ r. ⌜ r ≡ LOCKS ⌝ }
 {
-    280
+    560
 }
 
 pub fn offset_of_waiting() -> usize
     ensures { λ r. ⌜ r ≡ WAITING ⌝ }
 {
-    345
+    625
 }
 
 pub fn offset_of_opens() -> usize
     ensures { λ r. ⌜ r ≡ OPENS ⌝ }
 {
-    410
+    690
 }
 
 pub fn offset_of_last() -> usize
     ensures { λ r. ⌜ r ≡ LAST ⌝ }
 {
-    412
+    692
+}
+
+pub fn offset_of_channels() -> usize
+    ensures { λ r. ⌜ r ≡ CHANNELS ⌝ }
+{
+    694
 }

@@ -1,19 +1,22 @@
 // A fresh device in bytes that the caller lends. Assumes nothing.
-use store::State;
+use board::Board;
 ghost use Rattle.starting.specs.Starting.{Started};
 
-// A fresh device: 0. Memory of another size: 1, and nothing moves.
-pub fn fresh(state: &mut [u8], table: &mut [u8]) -> u8
-    ensures { λ r. ⌜ Started (now (state .entry)) (now (table .entry)) r (now (state .exit)) (now (table .exit)) ⌝ }
+// A fresh device of four or eight channels: 0. Another number of channels, or memory of another size: 1, and nothing moves.
+pub fn fresh(channels: u8, state: &mut [u8], table: &mut [u8]) -> u8
+    ensures { λ r. ⌜ Started channels (now (state .entry)) (now (table .entry)) r (now (state .exit)) (now (table .exit)) ⌝ }
 {
-    if state.len() != 414 {
+    if !Board::sized(channels) {
+        return 1;
+    }
+    if state.len() != 695 {
         return 1;
     }
     if table.len() != 1472 {
         return 1;
     }
-    let s = State::fresh();
-    saving::save(s, state);
+    let b = Board::fresh(channels);
+    saving::save(b, state);
     let n = table.len();
     memory::clear(table, 0, n);
     0

@@ -18,9 +18,9 @@ use Rattle.machine.specs.Sound.{ids}
 use Rattle.machine.specs.Kinds.{kind, unknown, allocates}
 use Rattle.machine.specs.Refusals.{first}
 use Rattle.machine.proofs.Tests.{by-test, test-true, test-false, and-left, and-right}
-use Rattle.store.specs.declared.State.{State}
-use Rattle.store.specs.Store.{Item, writeItem, lockItem, waitItem, writeItems, items, lookup, keys, Each, stateIn, Held}
-use Rattle.store.proofs.Store.{keys-items, parts-long, block-tableOf, held-parts}
+use Rattle.machine_laws.proofs.Sound.{Parts}
+use Rattle.store.specs.Store.{Item, writeItem, lockItem, waitItem, writeItems, items, lookup, keys, Each, tableOf}
+use Rattle.store.proofs.Store.{keys-items, parts-long, block-tableOf}
 use Rattle.steps.specs.Steps.{numberOf, high, used}
 
 -- ---- a list of tests: its first is met, or is passed
@@ -37,11 +37,11 @@ pub none : 0 ≡ numberOf (first [])
 unfolding first
 none = refl
 
-pub high-true : {m : ℕ} → 16 ≤ m → high m ≡ true
-high-true {m} h = rw (le-ltb m 16 h)
+pub high-true : {b m : ℕ} → b ≤ m → high b m ≡ true
+high-true {b} {m} h = rw (le-ltb m b h)
 
-pub high-false : {m : ℕ} → m < 16 → high m ≡ false
-high-false {m} h = rw (lt-ltb m 16 h)
+pub high-false : {b m : ℕ} → m < b → high b m ≡ false
+high-false {b} {m} h = rw (lt-ltb m b h)
 
 pub id-past : {i : ℕ} → i < 64 → ltb 63 i ≡ false
 id-past {i} h = le-ltb 63 i (omega arith)
@@ -81,23 +81,23 @@ module _ (k a b d : Bool) where
 
 -- ---- combinations, one after another
 
-pub record Low (ms : List ℕ) (i : ℕ) : Type 0 where
-  pub rest : any high (drop i ms) ≡ any high ms
+pub record Low (b : ℕ) (ms : List ℕ) (i : ℕ) : Type 0 where
+  pub rest : any (high b) (drop i ms) ≡ any (high b) ms
 
-pub low-start : (ms : List ℕ) → Low ms 0
-low-start ms = record { rest = refl }
+pub low-start : (b : ℕ) (ms : List ℕ) → Low b ms 0
+low-start b ms = record { rest = refl }
 
-module _ {ms : List ℕ} {i : ℕ} (t : Low ms i) where
-  pub low-end : length ms ≤ i → false ≡ any high ms
+module _ {b : ℕ} {ms : List ℕ} {i : ℕ} (t : Low b ms i) where
+  pub low-end : length ms ≤ i → false ≡ any (high b) ms
   unfolding any
   low-end h = rw (drop-of-length-le ms h) at (t .rest)
 
   module _ (h : i < length ms) where
-    pub low-stop : 16 ≤ getD ms i 0 → true ≡ any high ms
+    pub low-stop : b ≤ getD ms i 0 → true ≡ any (high b) ms
     unfolding any
     low-stop e = rw (drop-cons ms i 0 h, le-ltb _ _ e) at (t .rest)
 
-    pub low-more : getD ms i 0 < 16 → Low ms (i + 1)
+    pub low-more : getD ms i 0 < b → Low b ms (i + 1)
     unfolding any
     low-more e = record { rest = rw (add-one i) (rw (drop-cons ms i 0 h, lt-ltb _ _ e) at (t .rest)) }
 
@@ -187,8 +187,7 @@ begun-lookup i (x ∷ xs) b = go (eqb i (x .id)) (begun-lookup i xs (b .1))
     go true e = rw (b .0)
     go false e = e
 
-pub used-among : {st : State} {tb : List ℕ} → Held st tb → (i : ℕ) → i < 64 → used tb i ≡ among i (ids (stateIn st tb))
-used-among {st} {tb} h i g =
-    let s = stateIn st tb in
-    let e : block 23 tb i ≡ lookup i (items s) = ap (λ (l : List ℕ). block 23 l i) (h .table) ∙ block-tableOf s i (parts-long s (held-parts h)) g in
+pub used-among : (s : StateM) → Parts s → (tb : List ℕ) → tb ≡ tableOf s → (i : ℕ) → i < 64 → used tb i ≡ among i (ids s)
+used-among s p tb h i g =
+    let e : block 23 tb i ≡ lookup i (items s) = ap (λ (l : List ℕ). block 23 l i) h ∙ block-tableOf s i (parts-long s p) g in
     ap (λ (l : List ℕ). not (eqb (getD l 0 0) 0)) e ∙ begun-lookup i (items s) (begun-items s) ∙ ap (among i) (keys-items s)

@@ -2,10 +2,10 @@
 -- Assumes nothing.
 --
 --   numberOf f             the number of a refusal; 0 is none
---   high m                 a map that names more than the four channels
+--   high bound m           a map that names more than the board's channels, whose maps are those below the bound
 --   used tb i              the entry of id i begins with a command
---   listTests ms           a list of combinations: more than 16, one above 15, each with its number
---   eventTests m           a map above 15, with its number
+--   listTests bound ms     a list of combinations: more than 16, one too high, each with its number
+--   eventTests bound m     a map that is too high, with its number
 use Prim.Native.Nat.{ℕ}
 use mathlib.Core.Bool.{Bool, not}
 use mathlib.Core.List.{List, [], _∷_}
@@ -20,14 +20,14 @@ abbrev pub numberOf : Refusal → ℕ
 numberOf accepted = 0
 numberOf (refused e) = e
 
-abbrev pub high : ℕ → Bool
-high m = not (ltb m 16)
+abbrev pub high : ℕ → ℕ → Bool
+high bound m = not (ltb m bound)
 
 abbrev pub used : List ℕ → ℕ → Bool
 used tb i = not (eqb (getD (block 23 tb i) 0 0) 0)
 
-abbrev pub listTests : List ℕ → List (Bool × ℕ)
-listTests ms = (ltb COMBOS (length ms), BADLENGTH) ∷ (any high ms, BADADDRESS) ∷ []
+abbrev pub listTests : ℕ → List ℕ → List (Bool × ℕ)
+listTests bound ms = (ltb COMBOS (length ms), BADLENGTH) ∷ (any (high bound) ms, BADADDRESS) ∷ []
 
-abbrev pub eventTests : ℕ → List (Bool × ℕ)
-eventTests m = (high m, BADADDRESS) ∷ []
+abbrev pub eventTests : ℕ → ℕ → List (Bool × ℕ)
+eventTests bound m = (high bound m, BADADDRESS) ∷ []

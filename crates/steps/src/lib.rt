@@ -2,20 +2,20 @@
 use store::State;
 ghost use mathlib.Core.Path.{_≡_};
 ghost use mathlib.Core.Bool.{not};
-ghost use Prim.Native.Nat.{_<_};
+ghost use Prim.Native.Nat.{_+_, _<_};
 ghost use lib.ListN.{length};
 ghost use Rattle.machine.specs.Lists.{any};
 ghost use Rattle.machine.specs.Kinds.{kind, unknown};
 ghost use Rattle.machine.specs.Refusals.{first};
 ghost use Rattle.steps.specs.Steps.{numberOf, high, used, listTests, eventTests};
 
-// Whether a combination is above 15.
-fn any_high(combos: &[u8]) -> bool
-    ensures { λ r. ⌜ r ≡ any high (now (combos .entry)) ⌝ }
+// Whether a combination is above the board's highest map.
+fn any_high(combos: &[u8], top: u8) -> bool
+    ensures { λ r. ⌜ r ≡ any (high (top + 1)) (now (combos .entry)) ⌝ }
 {
     let mut i: usize = 0;
     while i < combos.len() {
-        if combos[i] > State::TOP {
+        if combos[i] > top {
             return true;
         }
         i += 1;
@@ -23,24 +23,24 @@ fn any_high(combos: &[u8]) -> bool
     false
 }
 
-// More than 16 combinations: -4. One above 15: -5.
-pub fn bad_list(combos: &[u8]) -> u8
-    ensures { λ r. ⌜ r ≡ numberOf (first (listTests (now (combos .entry)))) ⌝ }
+// More than 16 combinations: -4. One above the highest map: -5.
+pub fn bad_list(combos: &[u8], top: u8) -> u8
+    ensures { λ r. ⌜ r ≡ numberOf (first (listTests (top + 1) (now (combos .entry)))) ⌝ }
 {
     if State::COMBOS < combos.len() {
         return 252;
     }
-    if any_high(combos) {
+    if any_high(combos, top) {
         return 251;
     }
     0
 }
 
-// A map above 15: -5.
-pub fn bad_map(map: u8) -> u8
-    ensures { λ r. ⌜ r ≡ numberOf (first (eventTests map)) ⌝ }
+// A map above the highest: -5.
+pub fn bad_map(map: u8, top: u8) -> u8
+    ensures { λ r. ⌜ r ≡ numberOf (first (eventTests (top + 1) map)) ⌝ }
 {
-    if map > State::TOP {
+    if map > top {
         return 251;
     }
     0

@@ -10,7 +10,7 @@
 --   lockIn, requestIn the lock and the waiting request that an entry of a table holds
 --   stateIn st tb     the state that a struct and a table hold
 --   Each P xs, Small is   each element has the property; each id is one of the table's
---   Held st tb        they hold a sound state with four channels, and are the ones that stand for it
+--   Held st tb        they hold a sound state with eight channels, and are the ones that stand for it
 use Prim.Native.Nat.{ℕ, zero, suc, _<_}
 use mathlib.Core.Path.{_≡_}
 use mathlib.Core.Bool.{Bool, true, false}
@@ -109,7 +109,7 @@ stateIn st tb =
     }
 
 pub record Held (st : State) (tb : List ℕ) : Type 0 where
-  pub four : length (st .channels) ≡ 4
+  pub eight : length (st .channels) ≡ 8
   pub sane : T (sound (stateIn st tb))
   pub struct : st ≡ structOf (stateIn st tb)
   pub table : tb ≡ tableOf (stateIn st tb)

@@ -1,7 +1,7 @@
 -- A sound state stays sound along a log: the numbers of a frame fit their bytes, and a malformed line changes nothing. So what a
 -- call leaves is held again. Assumes nothing.
 use Prim.Native.Nat.{ℕ, zero, suc, _+_, _*_, _-_, _%_, _≤_, _<_}
-use mathlib.Core.Path.{_≡_, refl, ap, sym, _∙_}
+use mathlib.Core.Path.{_≡_, refl, ap, sym, subst, _∙_}
 use mathlib.Core.Bool.{Bool, true, false, _&&_}
 use mathlib.Core.List.{List, [], _∷_}
 use mathlib.Core.Option.{Option, none, some}
@@ -19,9 +19,10 @@ use Rattle.machine.proofs.Tests.{if-elim, and-both, and-left, and-right}
 use Rattle.machine_laws.proofs.Sound.{parts}
 use Rattle.machine_laws.proofs.KeepingCalls.{call-sound}
 use Rattle.machine_laws.proofs.Board.{call-wide}
-use Rattle.store.specs.declared.State.{State}
-use Rattle.store.specs.Store.{structOf, tableOf, stateIn, Held}
-use Rattle.store.proofs.Store.{held-four, held-next}
+use Rattle.board.specs.declared.Board.{Board}
+use Rattle.store.specs.Store.{tableOf}
+use Rattle.board.specs.Board.{sized, structOf, stateIn, Held}
+use Rattle.board.proofs.Laws.{held-next}
 use Rattle.frames.specs.Frames.{ended, used}
 use Rattle.frames.proofs.Laws.{Small, small-digit}
 use Rattle.taking.specs.declared.Taken.{Taken}
@@ -71,14 +72,14 @@ unfolding frame
 frame-fits none t = tt
 frame-fits (some bs) t = if-elim Fits (leb 8 (length bs) && eqb (length bs) (8 + getD bs 7 0)) (λ _. callOf-fits bs t) (λ _. tt)
 
--- ---- sound, and four channels wide
+-- ---- sound, and of a board's size
 
 pub record Fine (s : StateM) : Type 0 where
   pub sane : T (sound s)
-  pub four : length (s .channels) ≡ 4
+  pub size : T (sized (length (s .channels)))
 
-pub held-fine : {st : State} {tb : List ℕ} → Held st tb → Fine (stateIn st tb)
-held-fine h = record { sane = h .sane; four = held-four h }
+pub held-fine : {st : Board} {tb : List ℕ} → Held st tb → Fine (stateIn st tb)
+held-fine h = record { sane = h .sane; size = h .size }
 
 pub feed-fine : (s : StateM) (l : List ℕ) → Fine s → Fine (feed s l .next)
 unfolding feed outcomeOf
@@ -86,7 +87,7 @@ feed-fine s l h = go (frame (unhex l)) (frame-fits (unhex l) (unhex-bytes l))
   where
     go : (o : Option Call) → Fits o → Fine (outcomeOf s o .next)
     go none t = unfold outcomeOf silent in h
-    go (some c) t = record { sane = call-sound s c t (h .sane); four = call-wide s c ∙ h .four }
+    go (some c) t = record { sane = call-sound s c t (h .sane); size = subst (λ (n : ℕ). T (sized n)) (sym (call-wide s c)) (h .size) }
 
 pub fed-next : (show : Bool) (s : StateM) (l : List ℕ) → fed show s l .next ≡ feed s l .next
 unfolding fed
@@ -124,7 +125,7 @@ finished-fine show d h = if-elim (λ (x : Desk). Fine (x .state)) (fits show d) 
 
 module _ {t : Taken} {l tb page : List ℕ} {d : Desk} (h : Fine (d .state)) (w : Leaves t l tb page d) where
   left : Held (t .state) tb × (stateIn (t .state) tb ≡ d .state)
-  left = held-next (d .state) (t .state) tb (parts (d .state) (h .sane)) (h .four) (w .struct) (w .table)
+  left = held-next (d .state) (t .state) tb (parts (d .state) (h .sane)) (h .size) (w .struct) (w .table)
 
   pub leaves-held : Held (t .state) tb
   leaves-held = left .0

@@ -13,8 +13,9 @@ use Rattle.machine.specs.State.{State as StateM}
 use Rattle.machine.specs.Log.{Fed as FedM, feed}
 use Rattle.memory.specs.Splice.{splice}
 use Rattle.machine.proofs.Tests.{if-elim}
-use Rattle.store.specs.declared.State.{State}
-use Rattle.store.specs.Store.{structOf, tableOf, stateIn, Held}
+use Rattle.board.specs.declared.Board.{Board}
+use Rattle.store.specs.Store.{tableOf}
+use Rattle.board.specs.Board.{structOf, stateIn, Held}
 use Rattle.frames.specs.declared.Gathered.{Gathered}
 use Rattle.frames.specs.Frames.{LINE, front, ended, used, kept, Gathers}
 use Rattle.feeding.specs.declared.Fed.{Fed}
@@ -86,7 +87,7 @@ module _ {l : List ℕ} {n : ℕ} {bs : List ℕ} {g : Gathered} {l′ : List �
   gathered-few h = rw gathered-n (kept-few n bs h)
 
   -- the line goes on: nothing is answered
-  pub open-takes : {s : State} {tb out : List ℕ} → Held s tb → g .ended ≡ false
+  pub open-takes : {s : Board} {tb out : List ℕ} → Held s tb → g .ended ≡ false
       → Takes s tb l n bs out (record { state = s; line = g .n; used = g .used; at = 0 }) l′ tb out
   open-takes {s} {tb} {out} h e =
       record {
@@ -102,11 +103,11 @@ module _ {l : List ℕ} {n : ℕ} {bs : List ℕ} {g : Gathered} {l′ : List �
             });
       }
 
-  gathered-desk : (s : State) (tb out : List ℕ) → record { state = stateIn s tb; line = l′; n = g .n; page = out; at = 0; used = g .used } ≡ gathered (deskOf s tb l n out 0) bs
+  gathered-desk : (s : Board) (tb out : List ℕ) → record { state = stateIn s tb; line = l′; n = g .n; page = out; at = 0; used = g .used } ≡ gathered (deskOf s tb l n out 0) bs
   gathered-desk s tb out i = record { state = stateIn s tb; line = w .filled i; n = gathered-n i; page = out; at = 0; used = (gathered-used ∙ sym (zero-add (used bs))) i }
 
 -- a line that is fed is answered on an empty page
-feeds-answered : {s : State} {tb l out : List ℕ} (n u : ℕ) {f : Fed} {tb′ out′ : List ℕ} → Feeds s tb (take n l) out f tb′ out′
+feeds-answered : {s : Board} {tb l out : List ℕ} (n u : ℕ) {f : Fed} {tb′ out′ : List ℕ} → Feeds s tb (take n l) out f tb′ out′
     → Leaves (record { state = f .state; line = 0; used = u; at = f .n }) l tb′ out′ (answered false (record { state = stateIn s tb; line = l; n = n; page = out; at = 0; used = u }))
 feeds-answered {s} {tb} {l} {out} n u v =
     let a : feed (stateIn s tb) (take n l) ≡ fed false (stateIn s tb) (take n l) = sym (fed-hidden (stateIn s tb) (take n l)) in
@@ -121,7 +122,7 @@ feeds-answered {s} {tb} {l} {out} n u v =
     }
 
 -- the line has ended, and is fed
-pub ended-takes : {s : State} {tb l out : List ℕ} {n : ℕ} {bs : List ℕ} {g : Gathered} {l′ : List ℕ} {f : Fed} {tb′ out′ : List ℕ}
+pub ended-takes : {s : Board} {tb l out : List ℕ} {n : ℕ} {bs : List ℕ} {g : Gathered} {l′ : List ℕ} {f : Fed} {tb′ out′ : List ℕ}
     → Gathers l n bs g l′ → g .ended ≡ true → Feeds s tb (take (g .n) l′) out f tb′ out′
     → Takes s tb l n bs out (record { state = f .state; line = 0; used = g .used; at = f .n }) l′ tb′ out′
 ended-takes {s} {tb} {l} {out} {n} {bs} {g} {l′} {f} {tb′} {out′} w e v =
@@ -133,14 +134,14 @@ ended-takes {s} {tb} {l} {out} {n} {bs} {g} {l′} {f} {tb′} {out′} w e v =
 
 -- ---- the end of the log
 
-pub none-ends : {s : State} {tb l out : List ℕ} {n : ℕ} → Held s tb → n ≡ 0 → Ends s tb l n out (record { state = s; line = 0; used = 0; at = 0 }) tb out
+pub none-ends : {s : Board} {tb l out : List ℕ} {n : ℕ} → Held s tb → n ≡ 0 → Ends s tb l n out (record { state = s; line = 0; used = 0; at = 0 }) tb out
 none-ends {s} {tb} {l} {out} {n} h e =
     record {
       leaves = rw (closed-none false (deskOf s tb l n out 0) e)
           (record { struct = h .struct; table = h .table; line = refl; started = sym e; page = refl; at = refl; used = refl });
     }
 
-pub some-ends : {s : State} {tb l out : List ℕ} {n : ℕ} {f : Fed} {tb′ out′ : List ℕ} → (n ≡ 0 → ⊥) → Feeds s tb (take n l) out f tb′ out′
+pub some-ends : {s : Board} {tb l out : List ℕ} {n : ℕ} {f : Fed} {tb′ out′ : List ℕ} → (n ≡ 0 → ⊥) → Feeds s tb (take n l) out f tb′ out′
     → Ends s tb l n out (record { state = f .state; line = 0; used = 0; at = f .n }) tb′ out′
 some-ends {s} {tb} {l} {out} {n} h v = record { leaves = rw (closed-some false (deskOf s tb l n out 0) h) (feeds-answered n 0 v) }
 
@@ -165,10 +166,10 @@ one-leaving {t} {t₂} a b =
       page = a .page ∙ sym (b .page);
     }
 
-pub one-taking : {s : State} {tb l : List ℕ} {n : ℕ} {bs out : List ℕ} {t t₂ : Taken} {l₁ l₂ tb₁ tb₂ out₁ out₂ : List ℕ} → Takes s tb l n bs out t l₁ tb₁ out₁
+pub one-taking : {s : Board} {tb l : List ℕ} {n : ℕ} {bs out : List ℕ} {t t₂ : Taken} {l₁ l₂ tb₁ tb₂ out₁ out₂ : List ℕ} → Takes s tb l n bs out t l₁ tb₁ out₁
     → Takes s tb l n bs out t₂ l₂ tb₂ out₂ → Same t t₂ l₁ l₂ tb₁ tb₂ out₁ out₂
 one-taking a b = one-leaving (a .leaves) (b .leaves)
 
-pub one-ending : {s : State} {tb l : List ℕ} {n : ℕ} {out : List ℕ} {t t₂ : Taken} {tb₁ tb₂ out₁ out₂ : List ℕ} → Ends s tb l n out t tb₁ out₁ → Ends s tb l n out t₂ tb₂ out₂
+pub one-ending : {s : Board} {tb l : List ℕ} {n : ℕ} {out : List ℕ} {t t₂ : Taken} {tb₁ tb₂ out₁ out₂ : List ℕ} → Ends s tb l n out t tb₁ out₁ → Ends s tb l n out t₂ tb₂ out₂
     → Same t t₂ l l tb₁ tb₂ out₁ out₂
 one-ending a b = one-leaving (a .leaves) (b .leaves)

@@ -1,10 +1,10 @@
 // A log taken a fragment at a time, of any length: what stands of a line is kept in lent bytes, and a call answers one line at
 // most. The state is known to be sound. Assumes nothing.
+use board::Board;
 use feeding::Fed;
-use store::State;
 ghost use Prim.Native.Nat.{_≤_};
 ghost use lib.ListN.{length, take};
-ghost use Rattle.store.specs.Store.{Held};
+ghost use Rattle.board.specs.Board.{Held};
 ghost use Rattle.feeding.specs.Feeding.{Feeds};
 ghost use Rattle.frames.specs.Frames.{LINE};
 ghost use Rattle.taking.specs.Desk.{Takes, Ends};
@@ -12,14 +12,14 @@ ghost use Rattle.taking.specs.Desk.{Takes, Ends};
 // What a call leaves beside the lent bytes: the state, how much stands of a line that has not ended, how much of the fragment
 // is used, and how much output stands.
 pub struct Taken {
-    pub state: State,
+    pub state: Board,
     pub line: usize,
     pub used: usize,
     pub at: usize,
 }
 
 // The first n bytes of the line, fed.
-fn answer(s: State, line: &[u8], n: usize, table: &mut [u8], out: &mut [u8; 973]) -> Fed
+fn answer(s: Board, line: &[u8], n: usize, table: &mut [u8], out: &mut [u8; 973]) -> Fed
     requires { ⌜ Held s (now table) × (n ≤ length (now line)) ⌝ }
     ensures { λ f. ⌜ Feeds s (now (table .entry)) (take n (now (line .entry))) (now (out .entry)) f (now (table .exit)) (now (out .exit)) ⌝ }
 {
@@ -28,7 +28,7 @@ fn answer(s: State, line: &[u8], n: usize, table: &mut [u8], out: &mut [u8; 973]
 
 // The fragment up to its first LF, or all of it. Where the line has ended it is answered.
 pub fn take(
-    s: State,
+    s: Board,
     line: &mut [u8; 527],
     n: usize,
     fragment: &[u8],
@@ -61,7 +61,7 @@ pub fn take(
 
 // The log has ended: what stands of a last line is answered as a line, and where nothing stands nothing is written.
 pub fn take_end(
-    s: State,
+    s: Board,
     line: &[u8; 527],
     n: usize,
     table: &mut [u8],

@@ -4,14 +4,14 @@ use mathlib.Core.Path.{_≡_, ap, _∙_}
 use mathlib.Core.Bool.{true}
 use mathlib.Core.List.{List, _++_, map}
 use native.Mathlib.Omega.{arith}
-use lib.ListN.{length}
+use lib.ListN.{length, drop, length-set}
 use Rattle.queue.specs.Queue.{queueOf}
 use Rattle.reply.specs.Replies.{sent}
 use Rattle.machine.specs.State.{Lock, Reply}
 use Rattle.store.specs.declared.State.{State}
 use Rattle.store.specs.Store.{lockItem, waitItem, writeItems, items, entries, tableOf, stateIn, Held}
 use Rattle.store.specs.Work.{Did}
-use Rattle.store.proofs.Store.{held-parts, held-four}
+use Rattle.store.proofs.Store.{held-parts, held-eight}
 use Rattle.locks.specs.declared.Sifted.{Sifted}
 use Rattle.locks.specs.Locks.{lefts, ending, Sifting, Sieved}
 use Rattle.locks.proofs.Laws.{lefts-stolen, ending-stolen, locked-of}
@@ -19,15 +19,15 @@ use Rattle.waiting.specs.Waiting.{stolen, withoutLocks}
 
 module _ {st : State} {tb : List ℕ} (h : Held st tb) (m : ℕ) where
   pub stolen-is : ending true m (stateIn st tb .locks) ≡ stolen m (stateIn st tb)
-  stolen-is = rw (held-four h) (ending-stolen m (stateIn st tb .locks))
+  stolen-is = rw (held-eight h) (ending-stolen m (stateIn st tb .locks))
 
   left-is : lefts true m (stateIn st tb .locks) ≡ withoutLocks m (stateIn st tb) .locks
-  left-is = rw (held-four h) (lefts-stolen m (stateIn st tb .locks))
+  left-is = rw (held-eight h) (lefts-stolen m (stateIn st tb .locks))
 
-  unfoldable pub sifting-of : {l : List ℕ} {n : ℕ} → m < 16 → 384 ≤ length l → n + length (stolen m (stateIn st tb)) ≤ 64 → Sifting true m (st .locks) tb l n
+  unfoldable pub sifting-of : {l : List ℕ} {n : ℕ} → m < 256 → 384 ≤ length l → n + length (stolen m (stateIn st tb)) ≤ 64 → Sifting true m (st .locks) tb l n
   sifting-of {l} {n} b r f =
       let s = stateIn st tb in
-      let k = locked-of s (held-parts h) (held-four h) in
+      let k = locked-of s (held-parts h) (held-eight h) in
       record {
         pre = writeItems (s .channels);
         ls = s .locks;

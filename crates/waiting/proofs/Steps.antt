@@ -14,7 +14,7 @@ use Rattle.machine.specs.Settling.{replied}
 use Rattle.store.specs.declared.State.{State}
 use Rattle.store.specs.Store.{structOf, tableOf, stateIn, Held}
 use Rattle.store.specs.Work.{Ready, Did}
-use Rattle.store.proofs.Store.{held-parts, held-four, held-next}
+use Rattle.store.proofs.Store.{held-parts, held-eight, held-next}
 use Rattle.granting.specs.declared.Granted.{Granted}
 use Rattle.granting.specs.Granting.{GrantedTo}
 use Rattle.waiting.specs.Waiting.{waiter, outAt}
@@ -44,7 +44,7 @@ module _ {st : State} {tb : List ℕ} (h : Held st tb) (i : ℕ) (w : i < st .wa
 
 module _ {st t : State} {tb tb′ : List ℕ} (h : Held st tb) (i : ℕ) (a : t ≡ structOf (outAt i (stateIn st tb))) (b : tb′ ≡ tableOf (outAt i (stateIn st tb))) where
   pub out-next : Held t tb′ × (stateIn t tb′ ≡ outAt i (stateIn st tb))
-  out-next = held-next (outAt i (stateIn st tb)) t tb′ (out-sound i (stateIn st tb) (held-parts h)) (held-four h) a b
+  out-next = held-next (outAt i (stateIn st tb)) t tb′ (out-sound i (stateIn st tb) (held-parts h)) (held-eight h) a b
 
   pub out-ready : {l : List ℕ} {n : ℕ} (m : ℕ) → 384 ≤ length l → n + (length (abortedIn m (stateIn st tb .channels)) + 1) ≤ 64
       → Ready t tb′ l n (length (abortedIn m (stateIn t tb′ .channels)))

@@ -102,7 +102,7 @@ pub fn grant_one(
 
 // It is held: every lock over a channel of its map is replied -12 and ends; the channels stay locked.
 pub fn steal(s: State, table: &mut [u8], replies: &mut [u8], n: usize, map: u8) -> Settled
-    requires { ⌜ Ready s (now table) (now replies) n (length (stolen map (stateIn s (now table)))) × (map < 16) ⌝ }
+    requires { ⌜ Ready s (now table) (now replies) n (length (stolen map (stateIn s (now table)))) × (map < 256) ⌝ }
     ensures { λ r. ⌜ Makes (withoutLocks map) (stolen map) s (now (table .entry)) (now (replies .entry)) n r (now (table .exit)) (now (replies .exit)) ⌝ }
 {
     let q = s.locks;

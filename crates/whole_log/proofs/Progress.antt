@@ -17,10 +17,11 @@ use Rattle.machine.proofs.Tests.{if-elim, by-test, test-true, test-false}
 use Rattle.memory.specs.Splice.{splice}
 use Rattle.memory.proofs.Splice.{length-splice}
 use Rattle.channel.specs.Channel.{channelOf}
-use Rattle.store.specs.declared.State.{State}
-use Rattle.store.specs.Store.{structOf, stateIn, Held}
-use Rattle.lines.specs.ChannelLines.{channelLines}
-use Rattle.lines.proofs.ChannelLines.{length-channelLines}
+use Rattle.board.specs.declared.Board.{Board}
+use Rattle.board.specs.Board.{structOf, stateIn, Held}
+use Rattle.machine_laws.proofs.Sound.{parts}
+use Rattle.board.proofs.Laws.{struct-eight}
+use Rattle.lines.proofs.ChannelLines.{board-few}
 use Rattle.frames.specs.Frames.{LINE, ended, used}
 use Rattle.frames.proofs.Lumps.{used-within}
 use Rattle.feeding.proofs.Laws.{feed-few}
@@ -37,9 +38,7 @@ fed-few : (show : Bool) (s : StateM) (l : List ℕ) → Fine s → length (fed s
 unfolding fed shownOf
 fed-few true s l h =
     let a = feed-few s l (h .sane) in
-    let c = length-channelLines 0 (map channelOf (feed s l .next .channels)) in
-    let e = length-map (feed s l .next .channels) channelOf in
-    let f = feed-fine s l h .four in
+    let c = board-few (structOf (feed s l .next)) (struct-eight (feed s l .next) (parts (feed s l .next) (feed-fine s l h .sane))) in
     rw length-append (omega arith)
 fed-few false s l h = let a = feed-few s l (h .sane) in rw length-append (omega arith)
 
@@ -170,14 +169,14 @@ module _ {t : Taken} {l tb page : List ℕ} {d x : Desk} {m : ℕ} (v : Went d m
   pub left-used : t .used ≤ d .used + m
   left-used = rw (w .used) (v .most)
 
-pub desk-good : {s : State} {tb : List ℕ} {n : ℕ} {page : List ℕ} {at : ℕ} (l : List ℕ) → Held s tb → n ≤ LINE → at ≤ length page → Good (deskOf s tb l n page at)
+pub desk-good : {s : Board} {tb : List ℕ} {n : ℕ} {page : List ℕ} {at : ℕ} (l : List ℕ) → Held s tb → n ≤ LINE → at ≤ length page → Good (deskOf s tb l n page at)
 desk-good l h k r = record { fine = held-fine h; within = k; inside = r }
 
-pub fills-went : {show : Bool} {s : State} {tb l : List ℕ} {n : ℕ} {bs page : List ℕ} {at : ℕ} {t : Taken} {l′ tb′ page′ : List ℕ} → Fills show s tb l n bs page at t l′ tb′ page′
+pub fills-went : {show : Bool} {s : Board} {tb l : List ℕ} {n : ℕ} {bs page : List ℕ} {at : ℕ} {t : Taken} {l′ tb′ page′ : List ℕ} → Fills show s tb l n bs page at t l′ tb′ page′
     → Held s tb → n ≤ LINE → at ≤ length page → Went (deskOf s tb l n page at) (length bs) (filled show (deskOf s tb l n page at) bs)
 fills-went {show} {s} {tb} {l} {n} {bs} {page} {at} w h k r = filled-went show (deskOf s tb l n page at) bs (desk-good l h k r)
 
-pub fills-on : {show : Bool} {s : State} {tb l : List ℕ} {n : ℕ} {bs page : List ℕ} {at : ℕ} {t : Taken} {l′ tb′ page′ : List ℕ} → Fills show s tb l n bs page at t l′ tb′ page′
+pub fills-on : {show : Bool} {s : Board} {tb l : List ℕ} {n : ℕ} {bs page : List ℕ} {at : ℕ} {t : Taken} {l′ tb′ page′ : List ℕ} → Fills show s tb l n bs page at t l′ tb′ page′
     → Held s tb → n ≤ LINE → at + needed show ≤ length page → 0 < length bs → 0 < t .used
 fills-on {show} {s} {tb} {l} {n} {bs} {page} {at} w h k r z =
     rw (w .leaves .used) (filled-on show (deskOf s tb l n page at) bs (desk-good l h k (omega arith)) (le-leb (at + needed show) (length page) r) z)

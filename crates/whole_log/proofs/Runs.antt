@@ -6,13 +6,14 @@ use mathlib.Core.Bool.{Bool, true, false}
 use mathlib.Core.List.{List, [], _∷_, _++_}
 use native.Mathlib.Omega.{arith}
 use borrow.Author.Tests.{eqb-true, le-leb}
-use lib.Dec.{eqb}
+use lib.Dec.{T, eqb}
 use lib.ListN.{length, take, drop, length-drop}
 use Rattle.machine.specs.Lists.{if_then_else_}
-use Rattle.machine.specs.State.{fresh}
+use Rattle.machine.specs.State.{freshOn}
 use Rattle.machine.proofs.Tests.{if-elim, test-true}
-use Rattle.store.specs.declared.State.{State}
-use Rattle.store.specs.Store.{structOf, tableOf, stateIn, Held}
+use Rattle.board.specs.declared.Board.{Board}
+use Rattle.store.specs.Store.{tableOf}
+use Rattle.board.specs.Board.{sized, structOf, stateIn, Held}
 use Rattle.frames.specs.Frames.{LINE}
 use Rattle.taking.specs.declared.Taken.{Taken}
 use Rattle.taking.specs.Desk.{Desk, deskOf, needed, fits, filled, closed, finished, Leaves}
@@ -23,7 +24,7 @@ use Rattle.whole_log.specs.Whole.{joined, Ran, fills, used-up, finishes,
 use Rattle.whole_log.proofs.Progress.{Good, Went, filled-went, filled-on, finished-went, left-held}
 use Rattle.whole_log.proofs.Whole.{fresh-held}
 
-pub record Runs (show : Bool) (s : State) (tb l : List ℕ) (n : ℕ) (page : List ℕ) (bss : List (List ℕ)) : Type 0 where
+pub record Runs (show : Bool) (s : Board) (tb l : List ℕ) (n : ℕ) (page : List ℕ) (bss : List (List ℕ)) : Type 0 where
   pub out : List ℕ
   pub ran : Ran show s tb l n page 0 bss out
 
@@ -46,7 +47,7 @@ module _ (show : Bool) (d : Desk) where
 
 -- whatever is kept, the bytes bss come to some output
 abbrev Come : Bool → List (List ℕ) → Type 0
-Come show bss = (s : State) (tb l : List ℕ) (n : ℕ) (page : List ℕ) → Held s tb → n ≤ LINE → needed show ≤ length page → Runs show s tb l n page bss
+Come show bss = (s : Board) (tb l : List ℕ) (n : ℕ) (page : List ℕ) → Held s tb → n ≤ LINE → needed show ≤ length page → Runs show s tb l n page bss
 
 module _ (show : Bool) where
   ends : Come show []
@@ -82,5 +83,5 @@ module _ (show : Bool) where
   lumps (bs ∷ bss) = lump bss (lumps bss) (length bs) bs (omega arith)
 
 -- from the fresh device, on any page with room for a line's output: a run, and by `whole-log-shown` its output is the log's
-pub run-exists : (show : Bool) (bss : List (List ℕ)) (l page : List ℕ) → needed show ≤ length page → Runs show (structOf fresh) (tableOf fresh) l 0 page bss
-run-exists show bss l page r = lumps show bss (structOf fresh) (tableOf fresh) l 0 page fresh-held (omega arith) r
+pub run-exists : (w : ℕ) → T (sized w) → (show : Bool) (bss : List (List ℕ)) (l page : List ℕ) → needed show ≤ length page → Runs show (structOf (freshOn w)) (tableOf (freshOn w)) l 0 page bss
+run-exists w t show bss l page r = lumps show bss (structOf (freshOn w)) (tableOf (freshOn w)) l 0 page (fresh-held w t) (omega arith) r

@@ -7,18 +7,20 @@ use mathlib.Core.Bool.{Bool, true, false}
 use mathlib.Core.List.{List, [], _∷_, _++_, append-assoc, append-nil}
 use native.Mathlib.Omega.{arith}
 use borrow.Author.Tests.{eqb-true, eqb-false}
-use lib.Dec.{eqb}
+use lib.Dec.{T, eqb}
 use lib.ListN.{length, take, drop, drop-of-length-le, length-append}
 use lib.Seq.{take-at, drop-drop, length-take-le}
 use Rattle.machine.specs.Lists.{if_then_else_}
-use Rattle.machine.specs.State.{State as StateM, fresh}
+use Rattle.machine.specs.State.{State as StateM, frees, freshOn}
 use Rattle.machine.specs.Log.{Fed as FedM, lines, feed, run, log}
 use Rattle.machine.proofs.Tests.{if-elim, by-test, test-true, test-false}
-use Rattle.machine_laws.proofs.Sound.{parts, fresh-sound}
+use Rattle.machine_laws.proofs.Sound.{parts}
+use Rattle.widening.proofs.Maps.{length-frees}
 use Rattle.memory.specs.Splice.{splice}
-use Rattle.store.specs.declared.State.{State}
-use Rattle.store.specs.Store.{structOf, tableOf, stateIn, Held}
-use Rattle.store.proofs.Store.{held-of, stateIn-of}
+use Rattle.board.specs.declared.Board.{Board}
+use Rattle.store.specs.Store.{tableOf}
+use Rattle.board.specs.Board.{sized, structOf, stateIn, Held}
+use Rattle.board.proofs.Laws.{held-of, stateIn-of, fresh-sane}
 use Rattle.frames.specs.Frames.{LINE, front, ended, used, kept, gatheredOf, Gathers}
 use Rattle.frames.proofs.Lumps.{Stands, stands-none, stands-more, stands-feed, stands-within, front-open, used-open, lines-none, lines-last, lines-step, lines-on}
 use Rattle.taking.specs.declared.Taken.{Taken}
@@ -190,7 +192,7 @@ left-comes show v w p rest = rw (w .at, w .page, leaves-state (v .good .fine) w)
 left-stands : {t : Taken} {l tb page : List ℕ} {x : Desk} {p : List ℕ} → Leaves t l tb page x → Stands (x .line) (x .n) p → Stands l (t .line) p
 left-stands w s = rw (w .line, w .started) s
 
-pub ran-run : {show : Bool} {s : State} {tb l : List ℕ} {n : ℕ} {page : List ℕ} {at : ℕ} {bss : List (List ℕ)} {out : List ℕ} (p : List ℕ) → Held s tb → at ≤ length page
+pub ran-run : {show : Bool} {s : Board} {tb l : List ℕ} {n : ℕ} {page : List ℕ} {at : ℕ} {bss : List (List ℕ)} {out : List ℕ} (p : List ℕ) → Held s tb → at ≤ length page
     → Stands l n p → ended p ≡ false → Ran show s tb l n page at bss out → out ≡ take at page ++ runShown show (stateIn s tb) (lines (p ++ joined bss))
 ran-run p h r t o (fills {show} {s} {tb} {l} {n} {page} {at} {bs} {bss} {t = u} w k) =
     let d = deskOf s tb l n page at in
@@ -217,24 +219,35 @@ ran-run p h r t o (over {show} {s} {tb} {l} e) =
 
 -- ---- from the fresh device
 
-pub fresh-held : Held (structOf fresh) (tableOf fresh)
-fresh-held = held-of fresh (parts fresh fresh-sound) refl
+pub fresh-held : (w : ℕ) → T (sized w) → Held (structOf (freshOn w)) (tableOf (freshOn w))
+fresh-held w t = held-of (freshOn w) (parts (freshOn w) (fresh-sane w t)) (subst (λ (n : ℕ). T (sized n)) (sym (length-frees w)) t)
 
-pub whole-log-shown : {show : Bool} {l page : List ℕ} {bss : List (List ℕ)} {out : List ℕ} → Ran show (structOf fresh) (tableOf fresh) l 0 page 0 bss out
-    → out ≡ logShown show (joined bss)
+pub whole-log-shown : (w : ℕ) → T (sized w) → {show : Bool} {l page : List ℕ} {bss : List (List ℕ)} {out : List ℕ}
+    → Ran show (structOf (freshOn w)) (tableOf (freshOn w)) l 0 page 0 bss out → out ≡ logShown show w (joined bss)
 unfolding logShown
-whole-log-shown {show} {l} {page} {bss} r =
-    ran-run [] fresh-held (omega arith) (stands-none l) none-ended r ∙ ap (λ x. runShown show x (lines (joined bss))) (stateIn-of fresh (parts fresh fresh-sound))
+whole-log-shown w t {show} {l} {page} {bss} r =
+    ran-run [] (fresh-held w t) (omega arith) (stands-none l) none-ended r
+    ∙ ap (λ x. runShown show x (lines (joined bss))) (stateIn-of (freshOn w) (parts (freshOn w) (fresh-sane w t)))
 
 run-hidden : (s : StateM) (ls : List (List ℕ)) → runShown false s ls ≡ run s ls .output
 unfolding runShown run
 run-hidden s [] = refl
 run-hidden s (l ∷ ls) = ap (λ (f : FedM). f .output ++ runShown false (f .next) ls) (fed-hidden s l) ∙ ap (λ (x : List ℕ). feed s l .output ++ x) (run-hidden (feed s l .next) ls)
 
-pub log-hidden : (bs : List ℕ) → logShown false bs ≡ log bs
-unfolding logShown log
-log-hidden bs = run-hidden fresh (lines bs)
+pub log-hidden : (w : ℕ) (bs : List ℕ) → logShown false w bs ≡ run (freshOn w) (lines bs) .output
+unfolding logShown
+log-hidden w bs = run-hidden (freshOn w) (lines bs)
+
+-- on four channels that is the machine's log
+four-log : (bs : List ℕ) → run (freshOn 4) (lines bs) .output ≡ log bs
+unfolding log frees
+four-log bs = refl
 
 -- the log's output, whatever the lumps: the last LF absent or not, no bytes, empty lines, garbage, lines of any length
-pub whole-log : {l page : List ℕ} {bss : List (List ℕ)} {out : List ℕ} → Ran false (structOf fresh) (tableOf fresh) l 0 page 0 bss out → out ≡ log (joined bss)
-whole-log {bss = bss} r = whole-log-shown r ∙ log-hidden (joined bss)
+pub whole-log : (w : ℕ) → T (sized w) → {l page : List ℕ} {bss : List (List ℕ)} {out : List ℕ} → Ran false (structOf (freshOn w)) (tableOf (freshOn w)) l 0 page 0 bss out
+    → out ≡ run (freshOn w) (lines (joined bss)) .output
+whole-log w t {bss = bss} r = whole-log-shown w t r ∙ log-hidden w (joined bss)
+
+pub whole-log-on-four : {l page : List ℕ} {bss : List (List ℕ)} {out : List ℕ} → Ran false (structOf (freshOn 4)) (tableOf (freshOn 4)) l 0 page 0 bss out
+    → out ≡ log (joined bss)
+whole-log-on-four {bss = bss} r = whole-log 4 tt r ∙ four-log (joined bss)

@@ -15,7 +15,7 @@ use mathlib.Core.Path.{_≡_}
 use mathlib.Core.Bool.{Bool}
 use mathlib.Core.List.{List, [], _∷_, _++_}
 use lib.ListN.{take, drop}
-use Rattle.store.specs.declared.State.{State}
+use Rattle.board.specs.declared.Board.{Board}
 use Rattle.taking.specs.declared.Taken.{Taken}
 use Rattle.paging.specs.Paging.{Fills, Finishes}
 
@@ -23,14 +23,14 @@ abbrev pub joined : List (List ℕ) → List ℕ
 joined [] = []
 joined (bs ∷ bss) = bs ++ joined bss
 
-pub data Ran : Bool → State → List ℕ → List ℕ → ℕ → List ℕ → ℕ → List (List ℕ) → List ℕ → Type 0 where
-  fills : {show : Bool} {s : State} {tb l : List ℕ} {n : ℕ} {page : List ℕ} {at : ℕ} {bs : List ℕ} {bss : List (List ℕ)} {out : List ℕ} {t : Taken} {l′ tb′ page′ : List ℕ}
+pub data Ran : Bool → Board → List ℕ → List ℕ → ℕ → List ℕ → ℕ → List (List ℕ) → List ℕ → Type 0 where
+  fills : {show : Bool} {s : Board} {tb l : List ℕ} {n : ℕ} {page : List ℕ} {at : ℕ} {bs : List ℕ} {bss : List (List ℕ)} {out : List ℕ} {t : Taken} {l′ tb′ page′ : List ℕ}
       → Fills show s tb l n bs page at t l′ tb′ page′ → Ran show (t .state) tb′ l′ (t .line) page′ (t .at) (drop (t .used) bs ∷ bss) out
       → Ran show s tb l n page at (bs ∷ bss) out
-  used-up : {show : Bool} {s : State} {tb l : List ℕ} {n : ℕ} {page : List ℕ} {at : ℕ} {bss : List (List ℕ)} {out : List ℕ}
+  used-up : {show : Bool} {s : Board} {tb l : List ℕ} {n : ℕ} {page : List ℕ} {at : ℕ} {bss : List (List ℕ)} {out : List ℕ}
       → Ran show s tb l n page at bss out → Ran show s tb l n page at ([] ∷ bss) out
-  finishes : {show : Bool} {s : State} {tb l : List ℕ} {n : ℕ} {page : List ℕ} {at : ℕ} {out : List ℕ} {t : Taken} {tb′ page′ : List ℕ}
+  finishes : {show : Bool} {s : Board} {tb l : List ℕ} {n : ℕ} {page : List ℕ} {at : ℕ} {out : List ℕ} {t : Taken} {tb′ page′ : List ℕ}
       → Finishes show s tb l n page at t tb′ page′ → Ran show (t .state) tb′ l (t .line) page′ (t .at) [] out → Ran show s tb l n page at [] out
-  writes : {show : Bool} {s : State} {tb l : List ℕ} {n : ℕ} {page : List ℕ} {at : ℕ} {bss : List (List ℕ)} {out : List ℕ}
+  writes : {show : Bool} {s : Board} {tb l : List ℕ} {n : ℕ} {page : List ℕ} {at : ℕ} {bss : List (List ℕ)} {out : List ℕ}
       → Ran show s tb l n page 0 bss out → Ran show s tb l n page at bss (take at page ++ out)
-  over : {show : Bool} {s : State} {tb l : List ℕ} {n : ℕ} {page : List ℕ} → n ≡ 0 → Ran show s tb l n page 0 [] []
+  over : {show : Bool} {s : Board} {tb l : List ℕ} {n : ℕ} {page : List ℕ} → n ≡ 0 → Ran show s tb l n page 0 [] []

@@ -11,17 +11,17 @@ use borrow.Author.Tests.{le-leb, lt-leb}
 use Rattle.play.proofs.Laws.{getD-any}
 use Rattle.writing.specs.Writing.{placeOf}
 
-pub place-none : (k m : ℕ) (cs : List Channel) (i : ℕ) → i ≡ lowestFrom 4 m → 4 ≤ i → 4 ≡ placeOf k m cs
+pub place-none : (k m : ℕ) (cs : List Channel) (i : ℕ) → i ≡ lowestFrom 8 m → 8 ≤ i → 8 ≡ placeOf k m cs
 unfolding placeOf
-place-none k m cs i e h = rw (← e, le-leb 4 i h) refl
+place-none k m cs i e h = rw (← e, le-leb 8 i h) refl
 
-pub place-other : (k m : ℕ) (cs : List Channel) (i : ℕ) → i ≡ lowestFrom 4 m → i < 4 → hasKey k (getD cs i (channelOf free)) ≡ false → 4 ≡ placeOf k m cs
+pub place-other : (k m : ℕ) (cs : List Channel) (i : ℕ) → i ≡ lowestFrom 8 m → i < 8 → hasKey k (getD cs i (channelOf free)) ≡ false → 8 ≡ placeOf k m cs
 unfolding placeOf
-place-other k m cs i e h f = rw (← e, lt-leb 4 i h, f) refl
+place-other k m cs i e h f = rw (← e, lt-leb 8 i h, f) refl
 
-pub place-own : (k m : ℕ) (cs : List Channel) (i : ℕ) → i ≡ lowestFrom 4 m → i < 4 → hasKey k (getD cs i (channelOf free)) ≡ true → i ≡ placeOf k m cs
+pub place-own : (k m : ℕ) (cs : List Channel) (i : ℕ) → i ≡ lowestFrom 8 m → i < 8 → hasKey k (getD cs i (channelOf free)) ≡ true → i ≡ placeOf k m cs
 unfolding placeOf
-place-own k m cs i e h f = rw (← e, lt-leb 4 i h, f) refl
+place-own k m cs i e h f = rw (← e, lt-leb 8 i h, f) refl
 
 pub key-any : (k : ℕ) (cs : List Channel) (i : ℕ) (d : Channel) (b : Bool) → i < length cs → hasKey k (getD cs i d) ≡ b → hasKey k (getD cs i (channelOf free)) ≡ b
 key-any k cs i d b h e = rw (getD-any cs i (channelOf free) d h) e

@@ -23,7 +23,7 @@ use Rattle.machine.specs.Commands.{matches, done, pending, finished, silent, do
 use Rattle.machine.proofs.Tests.{and-right}
 use Rattle.store.specs.declared.State.{State}
 use Rattle.store.specs.Store.{structOf, stateIn, Held}
-use Rattle.store.proofs.Store.{held-parts, held-four}
+use Rattle.store.proofs.Store.{held-parts, held-eight}
 use Rattle.answers.specs.declared.Request.{Request}
 use Rattle.answers.specs.declared.Answer.{Answer}
 use Rattle.answers.specs.Answers.{callOf, answerOf, Told}
@@ -41,46 +41,46 @@ entry-of k k′ e = ap (λ (x : ℕ). headBytes (record { command = 3; key = x; 
 -- ---- the place
 
 record Placed (k m i : ℕ) (cs : List Channel) : Type 0 where
-  low : i ≡ lowestFrom 4 m
+  low : i ≡ lowestFrom 8 m
   own : hasKey k (getD cs i (channelOf free)) ≡ true
 
-placed : (k m : ℕ) (cs : List Channel) (i : ℕ) → i ≡ placeOf k m cs → i < 4 → Placed k m i cs
+placed : (k m : ℕ) (cs : List Channel) (i : ℕ) → i ≡ placeOf k m cs → i < 8 → Placed k m i cs
 unfolding placeOf
-placed k m cs i e h = go (leb 4 (lowestFrom 4 m)) (hasKey k (getD cs (lowestFrom 4 m) (channelOf free))) refl e
+placed k m cs i e h = go (leb 8 (lowestFrom 8 m)) (hasKey k (getD cs (lowestFrom 8 m) (channelOf free))) refl e
   where
-    go : (a b : Bool) → hasKey k (getD cs (lowestFrom 4 m) (channelOf free)) ≡ b → i ≡ (if a then 4 else if b then lowestFrom 4 m else 4) → Placed k m i cs
+    go : (a b : Bool) → hasKey k (getD cs (lowestFrom 8 m) (channelOf free)) ≡ b → i ≡ (if a then 8 else if b then lowestFrom 8 m else 8) → Placed k m i cs
     go true b q p = absurd (omega arith)
     go false true q p = record { low = p; own = rw p q }
     go false false q p = absurd (omega arith)
 
 module _ {st : State} {tb : List ℕ} (h : Held st tb) (r : Request) where
-  own-is : (i : ℕ) → i < 4 → (b : Bool) → hasKey (r .key) (getD (st .channels) i (channelOf free)) ≡ b → matches (r .key) (getD (stateIn st tb .channels) i free) ≡ b
+  own-is : (i : ℕ) → i < 8 → (b : Bool) → hasKey (r .key) (getD (st .channels) i (channelOf free)) ≡ b → matches (r .key) (getD (stateIn st tb .channels) i free) ≡ b
   own-is i l b q = sym (ap (matches (r .key)) (channelIn-of (getD (stateIn st tb .channels) i free))) ∙ (sym (matches-is (r .key) (channelOf (getD (stateIn st tb .channels) i free))) ∙ (rw (← (channel-is h i l (channelOf free))) q))
 
-  pub write-refused : (i : ℕ) → i ≡ placeOf (r .key) (r .map) (st .channels) → 4 ≤ i
+  pub write-refused : (i : ℕ) → i ≡ placeOf (r .key) (r .map) (st .channels) → 8 ≤ i
       → doWrite (callOf r []) (stateIn st tb) ≡ finished 3 (callOf r []) (done NOALLOCATION 0 (r .key) NONE) [] (stateIn st tb)
   unfolding placeOf
-  write-refused i e g = go (leb 4 (lowestFrom 4 (r .map))) refl (hasKey (r .key) (getD (st .channels) (lowestFrom 4 (r .map)) (channelOf free))) refl e
+  write-refused i e g = go (leb 8 (lowestFrom 8 (r .map))) refl (hasKey (r .key) (getD (st .channels) (lowestFrom 8 (r .map)) (channelOf free))) refl e
     where
-      go : (a : Bool) → leb 4 (lowestFrom 4 (r .map)) ≡ a → (b : Bool) → hasKey (r .key) (getD (st .channels) (lowestFrom 4 (r .map)) (channelOf free)) ≡ b
-          → i ≡ (if a then 4 else if b then lowestFrom 4 (r .map) else 4) → doWrite (callOf r []) (stateIn st tb) ≡ finished 3 (callOf r []) (done NOALLOCATION 0 (r .key) NONE) [] (stateIn st tb)
-      go true p b q x = write-none (callOf r []) (stateIn st tb) (rw (held-four h) (leb-true 4 (lowestFrom 4 (r .map)) p))
-      go false p true q x = absurd (let z = leb-false 4 (lowestFrom 4 (r .map)) p in omega arith)
+      go : (a : Bool) → leb 8 (lowestFrom 8 (r .map)) ≡ a → (b : Bool) → hasKey (r .key) (getD (st .channels) (lowestFrom 8 (r .map)) (channelOf free)) ≡ b
+          → i ≡ (if a then 8 else if b then lowestFrom 8 (r .map) else 8) → doWrite (callOf r []) (stateIn st tb) ≡ finished 3 (callOf r []) (done NOALLOCATION 0 (r .key) NONE) [] (stateIn st tb)
+      go true p b q x = write-none (callOf r []) (stateIn st tb) (rw (held-eight h) (leb-true 8 (lowestFrom 8 (r .map)) p))
+      go false p true q x = absurd (let z = leb-false 8 (lowestFrom 8 (r .map)) p in omega arith)
       go false p false q x =
-          let z = leb-false 4 (lowestFrom 4 (r .map)) p in
-          write-other (callOf r []) (stateIn st tb) (lowestFrom 4 (r .map)) (rw (held-four h) refl) (rw (held-four h) z) (own-is (lowestFrom 4 (r .map)) z false q)
+          let z = leb-false 8 (lowestFrom 8 (r .map)) p in
+          write-other (callOf r []) (stateIn st tb) (lowestFrom 8 (r .map)) (rw (held-eight h) refl) (rw (held-eight h) z) (own-is (lowestFrom 8 (r .map)) z false q)
 
-  pub write-room : (i : ℕ) (d : Channel) → i < 4 → r .id < 64 → T (not (among (r .id) (ids (stateIn st tb)))) → getD (st .channels) i d .writes .n < 64
+  pub write-room : (i : ℕ) (d : Channel) → i < 8 → r .id < 64 → T (not (among (r .id) (ids (stateIn st tb)))) → getD (st .channels) i d .writes .n < 64
   write-room i d l b n = rw (channel-is h i l d) (back-room (stateIn st tb) i (r .id) (held-parts h) b n)
 
-  pub join-struct : {t : State} {d : Channel} {q : Queue} (i : ℕ) (c : Channel) → i < 4 → r .id < 64 → T (not (among (r .id) (ids (stateIn st tb)))) → c ≡ getD (st .channels) i (channelOf free)
+  pub join-struct : {t : State} {d : Channel} {q : Queue} (i : ℕ) (c : Channel) → i < 8 → r .id < 64 → T (not (among (r .id) (ids (stateIn st tb)))) → c ≡ getD (st .channels) i (channelOf free)
       → q ≡ pushed (c .writes) (r .id) → d ≡ withWrites q c → t ≡ withChannel i d st → t ≡ structOf (withBack i (r .id) (stateIn st tb))
   join-struct i c g b n ec eq ed et =
       et
       ∙ (ap (λ (x : Channel). withChannel i x st) (ed ∙ ap (λ (x : Queue). withWrites x c) eq)
       ∙ back-struct h i g c (r .id) (ec ∙ channel-is h i g (channelOf free)) (back-room (stateIn st tb) i (r .id) (held-parts h) b n))
 
-  pub write-told : {t : State} {a : Answer} {l tb′ : List ℕ} (i : ℕ) → i ≡ placeOf (r .key) (r .map) (st .channels) → i < 4
+  pub write-told : {t : State} {a : Answer} {l tb′ : List ℕ} (i : ℕ) → i ≡ placeOf (r .key) (r .map) (st .channels) → i < 8
       → r .id < 64 → T (not (among (r .id) (ids (stateIn st tb))))
       → a ≡ answerOf (pending (r .key)) → t ≡ structOf (withBack i (r .id) (stateIn st tb))
       → tb′ ≡ splice tb (r .id * 23) (headBytes (record { command = 3; key = r .key; map = 0; prec = 0; impatient = 0; n = 0 }) ++ replicate 16 0)
@@ -91,7 +91,7 @@ module _ {st : State} {tb : List ℕ} (h : Held st tb) (r : Request) where
       let m = own-is i g true (p .own) in
       let k : getD (stateIn st tb .channels) i free .key ≡ r .key = key-of (r .key) (getD (stateIn st tb .channels) i free) m in
       let w = entry-of _ _ k in
-      told-as (write-own (callOf r []) (stateIn st tb) i (rw (held-four h) (p .low)) (rw (held-four h) g) m)
+      told-as (write-own (callOf r []) (stateIn st tb) i (rw (held-eight h) (p .low)) (rw (held-eight h) g) m)
       (record {
         answer = ea;
         did = record {
@@ -100,7 +100,7 @@ module _ {st : State} {tb : List ℕ} (h : Held st tb) (r : Request) where
               eb
               ∙ (ap (λ (x : List ℕ). splice tb (r .id * 23) x) (sym w)
               ∙ (ap (λ (x : List ℕ). splice x (r .id * 23) (writeEntry (getD (stateIn st tb .channels) i free .key))) (h .table)
-              ∙ back-table (stateIn st tb) i (r .id) (held-parts h) (rw (held-four h) g) b n));
+              ∙ back-table (stateIn st tb) i (r .id) (held-parts h) (rw (held-eight h) g) b n));
           list = sym (splice-none l 0);
           count = refl;
         };

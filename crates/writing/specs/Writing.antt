@@ -2,7 +2,7 @@
 --
 --   writeHead k       the numbers of a write's entry, of a caller with key k
 --   Joins i r s ..    the promise of `join`: the write at the back of channel i, and its entry in the table
---   placeOf k m cs    the place of the lowest channel that m names, where it has the key; 4 otherwise
+--   placeOf k m cs    the place of the lowest channel that m names, where it has the key; 8 otherwise
 use Prim.Native.Nat.{ℕ, _*_}
 use mathlib.Core.Path.{_≡_}
 use mathlib.Core.List.{List, _++_}
@@ -22,8 +22,8 @@ use Rattle.play.specs.Play.{withBack}
 
 unfoldable pub placeOf : ℕ → ℕ → List Channel → ℕ
 placeOf k m cs =
-    let i = lowestFrom 4 m in
-    if leb 4 i then 4 else if hasKey k (getD cs i (channelOf free)) then i else 4
+    let i = lowestFrom 8 m in
+    if leb 8 i then 8 else if hasKey k (getD cs i (channelOf free)) then i else 8
 
 abbrev pub writeHead : ℕ → Head
 writeHead k = record { command = 3; key = k; map = 0; prec = 0; impatient = 0; n = 0 }

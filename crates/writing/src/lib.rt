@@ -20,18 +20,18 @@ ghost use Rattle.store.specs.Work.{Ready};
 ghost use Rattle.answers.specs.Answers.{callOf, Does};
 ghost use Rattle.writing.specs.Writing.{placeOf, Joins};
 
-// Whether WRITE is for a channel of the caller's: its place, or 4.
+// Whether WRITE is for a channel of the caller's: its place, or 8.
 fn place(r: Request, s: State) -> usize
-    requires { ⌜ length (s .channels) ≡ 4 ⌝ }
+    requires { ⌜ length (s .channels) ≡ 8 ⌝ }
     ensures { λ i. ⌜ i ≡ placeOf (r .key) (r .map) (s .channels) ⌝ }
 {
     let i = channel::lowest(r.map);
-    if 4 <= i {
-        return 4;
+    if 8 <= i {
+        return 8;
     }
     let cs = s.channels;
     let c = cs[i];
-    if c.matches(r.key) { i } else { 4 }
+    if c.matches(r.key) { i } else { 8 }
 }
 
 pub fn write(r: Request, s: State, table: &mut [u8], replies: &mut [u8]) -> Outcome
@@ -39,7 +39,7 @@ pub fn write(r: Request, s: State, table: &mut [u8], replies: &mut [u8]) -> Outc
     ensures { λ d. ⌜ Does (doWrite (callOf r [])) s (now (table .entry)) (now (replies .entry)) d (now (table .exit)) (now (replies .exit)) ⌝ }
 {
     let i = place(r, s);
-    if 4 <= i {
+    if 8 <= i {
         let no = answers::done(246, 0, r.key, 255);
         return answers::finished(r, no, s, replies, 0);
     }
@@ -56,7 +56,7 @@ pub fn write(r: Request, s: State, table: &mut [u8], replies: &mut [u8]) -> Outc
 
 // The write joins the queue of channel i, and its entry is written.
 fn join(r: Request, s: State, table: &mut [u8], i: usize, c: Channel) -> State
-    requires { ⌜ Held s (now table) × (i < 4) × (c ≡ getD (s .channels) i (channelOf free)) × (r .id < 64) × T (not (among (r .id) (ids (stateIn s (now table))))) ⌝ }
+    requires { ⌜ Held s (now table) × (i < 8) × (c ≡ getD (s .channels) i (channelOf free)) × (r .id < 64) × T (not (among (r .id) (ids (stateIn s (now table))))) ⌝ }
     ensures { λ t. ⌜ Joins i r s (now (table .entry)) t (now (table .exit)) ⌝ }
 {
     table::put(

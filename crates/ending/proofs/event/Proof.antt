@@ -2,7 +2,7 @@
 use Prim.Native.Nat.{_<_}
 use mathlib.Core.Path.{sym, _∙_}
 use native.Mathlib.Omega.{arith}
-use lib.ListN.{length}
+use lib.ListN.{length, drop, length-set}
 use Rattle.play.proofs.Laws.{getD-any}
 use Rattle.ending.proofs.Steps.{event-quiet, event-off, event-idle, event-told}
 use borrow.Author.Needs.{needs}
@@ -44,7 +44,7 @@ returns-2 c =
     let s = c .before .before .before .before .before .before .before .before .before in
     let h = s .pre .held in
     let l = c .before .before .before .before .before .before .lowest in
-    let n : l .result < 4 = search needs in
+    let n : l .result < 8 = search needs in
     event-quiet h (s .args .r) (c .done2 .ensures) (event-idle h (s .args .r) _ _ (l .ensures) n (sym (c .before .if2 .taken) ∙ c .before .before .front .ensures))
 
 end-front-requires : tie.Need-end-front-requires
@@ -52,8 +52,8 @@ end-front-requires c κs =
     let s = c .before .before .before .before .before .before .before .before .before .before in
     let h = s .pre .held in
     let l = c .before .before .before .before .before .before .before .lowest in
-    let n : l .result < 4 = c .before .before .before .before .before .before .if1 .left in
-    let g : l .result < length (s .args .s .channels) = rw (h .four) n in
+    let n : l .result < 8 = c .before .before .before .before .before .before .if1 .left in
+    let g : l .result < length (s .args .s .channels) = rw (h .eight) n in
     let first = c .before .before .before .front in
     let z : first .result < 255 = omega (arith, c .before .before .if2 .left) in
     (s .pre, n, getD-any (s .args .s .channels) _ _ _ g, first .ensures, z)
@@ -69,8 +69,8 @@ returns-3 c =
     let s = c .before .before .before .before .before .before .before .before .before .before .before .before .before .before .before in
     let h = s .pre .held in
     let l = c .before .before .before .before .before .before .before .before .before .before .before .before .lowest in
-    let n : l .result < 4 = c .before .before .before .before .before .before .before .before .before .before .before .if1 .left in
-    let g : l .result < length (s .args .s .channels) = rw (h .four) n in
+    let n : l .result < 8 = c .before .before .before .before .before .before .before .before .before .before .before .if1 .left in
+    let g : l .result < length (s .args .s .channels) = rw (h .eight) n in
     let e = c .before .before .before .before .end-front .ensures in
     let first = c .before .before .before .before .before .before .before .before .front in
     let z : first .result < 255 = omega (arith, c .before .before .before .before .before .before .before .if2 .left) in

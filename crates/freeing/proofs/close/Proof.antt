@@ -1,4 +1,4 @@
--- `close` meets its contract: of all four channels those with the key are freed, and one opening goes. Assumes nothing.
+-- `close` meets its contract: of all channels those with the key are freed, and one opening goes. Assumes nothing.
 use native.Mathlib.Omega.{arith}
 use Rattle.sweep.proofs.Matching.{match-small}
 use Rattle.freeing.proofs.Release.{close-ready, close-opens, told-close}
@@ -20,7 +20,7 @@ freeing-requires c κs =
     let r = s .args .r in
     let p = s .pre .0 in
     let e = c .before .before .matching .ensures in
-    (close-ready r (p .held) e p, match-small (p .held) (r .key) 15 e)
+    (close-ready r (p .held) e p, match-small (p .held) (r .key) 255 e)
 
 sub-t : tie.Need-sub-t
 sub-t c =

@@ -1,57 +1,77 @@
--- `clean_all` meets its contract: each of the four is cleaned. Assumes nothing.
-use mathlib.Core.Path.{_≡_}
+-- `clean_all` meets its contract: the channels done and the cleaning of the rest make the cleaning of all. Assumes nothing.
+use Prim.Native.Nat.{_≤_, _<_, _-_}
+use mathlib.Core.Path.{_≡_, refl, sym, _∙_}
+use mathlib.Core.List.{map}
+use native.Mathlib.Numerals.{add-one}
 use native.Mathlib.Omega.{arith}
-use lib.ListN.{length}
+use lib.ListN.{length, drop, length-set}
 use Rattle.channel.specs.declared.Channel.{Channel}
+use Rattle.store.specs.Store.{Each}
 use Rattle.leaving.specs.Leaving.{Tidy, cleaned}
-use Rattle.leaving.proofs.Queues.{each-at, four}
+use Rattle.leaving.proofs.Queues.{each-at, each-more, doneTo, done-more, done-end}
 use borrow.Author.Needs.{needs}
 use Rattle.leaving.proofs.clean_all.Statement.{statement}
 use Rattle.leaving.proofs.clean_all.Tie as tie
-use Rattle.leaving.proofs.clean_all.Reads as reads
-use Rattle.leaving.proofs.clean_all.Lts as lts
-use Rattle.leaving.proofs.clean.Reads as clean-reads
 
-array-copy-out-clean : tie.Need-array-copy-out-clean
-array-copy-out-clean c = search needs
+abbrev Inv-loop : tie.InvT-loop
+Inv-loop id ds₀ i₀ ds i =
+    (i ≤ 8) × (length ds ≡ 8) × Each (λ (c : Channel). Tidy (c .writes)) (drop i ds) × (doneTo (cleaned id) i ds ≡ map (cleaned id) ds₀)
 
-clean-requires : tie.Need-clean-requires
-clean-requires c κs = let s = c .before in let z : length (s .args .t1) ≡ 4 = search needs in each-at (λ (x : Channel). Tidy (x .writes)) (s .args .t1) 0 _ (s .pre) (omega arith)
+abbrev μ-loop : tie.MeasureT-loop
+μ-loop id ds₀ i₀ ds i = 8 - i
 
-array-copy-out-clean-2 : tie.Need-array-copy-out-clean-2
-array-copy-out-clean-2 c = search needs
+loop-holds : tie.Need-loop-holds Inv-loop μ-loop
+loop-holds c = (omega arith, search needs, c .pre, refl)
 
-clean-requires-2 : tie.Need-clean-requires-2
-clean-requires-2 c κs = let s = c .before .before .before in let z : length (s .args .t1) ≡ 4 = search needs in each-at (λ (x : Channel). Tidy (x .writes)) (s .args .t1) 1 _ (s .pre) (omega arith)
+mul-c : tie.Need-mul-c Inv-loop μ-loop
+mul-c c = search needs
 
-array-copy-out-clean-3 : tie.Need-array-copy-out-clean-3
-array-copy-out-clean-3 c = search needs
+array-copy-out-c : tie.Need-array-copy-out-c Inv-loop μ-loop
+array-copy-out-c c = search needs
 
-clean-requires-3 : tie.Need-clean-requires-3
-clean-requires-3 c κs = let s = c .before .before .before .before .before in let z : length (s .args .t1) ≡ 4 = search needs in each-at (λ (x : Channel). Tidy (x .writes)) (s .args .t1) 2 _ (s .pre) (omega arith)
+clean-requires : tie.Need-clean-requires Inv-loop μ-loop
+clean-requires c κs =
+    let l = c .before .before .loop in
+    each-at (λ (x : Channel). Tidy (x .writes)) (l .ds) (l .i) _ (l .inv .2) (omega arith)
 
-array-copy-out-clean-4 : tie.Need-array-copy-out-clean-4
-array-copy-out-clean-4 c = search needs
+mul-ds : tie.Need-mul-ds Inv-loop μ-loop
+mul-ds c = search needs
 
-clean-requires-4 : tie.Need-clean-requires-4
-clean-requires-4 c κs = let s = c .before .before .before .before .before .before .before in let z : length (s .args .t1) ≡ 4 = search needs in each-at (λ (x : Channel). Tidy (x .writes)) (s .args .t1) 3 _ (s .pre) (omega arith)
+array-set-from-ds : tie.Need-array-set-from-ds Inv-loop μ-loop
+array-set-from-ds c = search needs
 
-returns : tie.Need-returns
-returns c =
-    let s = c .before .before .before .before .before .before .before .before in
-    let z : length (s .args .t1) ≡ 4 = search needs in
-    four (cleaned (s .args .id)) (s .args .t1) _ _ _ _ z (c .before .before .before .before .before .before .clean .ensures) (c .before .before .before .before .clean2 .ensures) (c .before .before .clean3 .ensures) (c .clean4 .ensures)
+add-i : tie.Need-add-i Inv-loop μ-loop
+add-i c = search needs
+
+loop-less : tie.Need-loop-less Inv-loop μ-loop
+loop-less c = search needs
+
+loop-again : tie.Need-loop-again Inv-loop μ-loop
+loop-again c =
+    let l = c .before .before .before .loop in
+    let h : l .i < length (l .ds) = omega arith in (
+      omega arith,
+      length-set (l .ds) _ _ ∙ l .inv .1,
+      rw (add-one (l .i)) (each-more (λ (x : Channel). Tidy (x .writes)) (l .ds) (l .i) _ (l .inv .2)),
+      rw (add-one (l .i)) (done-more _ (l .ds) (l .i) _ _ h (c .clean .ensures) ∙ l .inv .3),
+    )
+
+returns : tie.Need-returns Inv-loop μ-loop
+returns c = let l = c .before .loop in done-end _ (l .ds) (l .i) (omega arith) ∙ l .inv .3
 
 pub clean-all-spec : {M : Type 1} → statement M
 clean-all-spec =
     tie.close
     (tie.spec
-    array-copy-out-clean
+    Inv-loop
+    μ-loop
+    loop-holds
+    mul-c
+    array-copy-out-c
     clean-requires
-    array-copy-out-clean-2
-    clean-requires-2
-    array-copy-out-clean-3
-    clean-requires-3
-    array-copy-out-clean-4
-    clean-requires-4
+    mul-ds
+    array-set-from-ds
+    add-i
+    loop-less
+    loop-again
     returns)

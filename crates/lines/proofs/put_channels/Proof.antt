@@ -1,13 +1,13 @@
 -- `put_channels` meets its contract: after i turns the lines of the first i channels stand in front. Assumes nothing.
-use Prim.Native.Nat.{_≤_, _<_, _-_}
-use mathlib.Core.Path.{_≡_, refl, sym}
+use Prim.Native.Nat.{ℕ, _≤_, _<_, _-_}
+use mathlib.Core.Path.{_≡_, refl, ap, sym, _∙_}
 use native.Mathlib.Omega.{arith}
 use borrow.Author.Needs.{needs}
 use lib.ListN.{length, take}
 use Rattle.memory.specs.Splice.{splice}
 use Rattle.memory.proofs.Splice.{splice-none}
 use Rattle.lines.specs.ChannelLines.{channelLines}
-use Rattle.lines.proofs.ChannelLines.{channel-turn, channel-end}
+use Rattle.lines.proofs.ChannelLines.{channel-turn}
 use Rattle.lines.proofs.put_channels.Statement.{statement}
 use Rattle.lines.proofs.put_channels.Tie as tie
 use Rattle.lines.proofs.put_channels.Reads as reads
@@ -15,14 +15,14 @@ use Rattle.lines.proofs.put_channels.Lts as lts
 use Rattle.lines.proofs.put_channel.Reads as put-channel-reads
 
 abbrev Inv-loop : tie.InvT-loop
-Inv-loop out₀ cs i₀ out i = (i ≤ 4) × (length out ≡ length out₀) × (out ≡ splice out₀ 0 (channelLines 0 (take i cs)))
+Inv-loop out₀ n cs i₀ out i = (i ≤ n) × (n ≤ 8) × (length out₀ ≡ 120) × (length out ≡ length out₀) × (out ≡ splice out₀ 0 (channelLines 0 (take i cs)))
 
 abbrev μ-loop : tie.MeasureT-loop
-μ-loop out₀ cs i₀ out i = 4 - i
+μ-loop out₀ n cs i₀ out i = n - i
 
 loop-holds : tie.Need-loop-holds Inv-loop μ-loop
 unfolding channelLines
-loop-holds c = (omega arith, refl, sym (splice-none _ _))
+loop-holds c = (omega arith, search needs, search needs, refl, sym (splice-none _ _))
 
 mul-c : tie.Need-mul-c Inv-loop μ-loop
 mul-c c = search needs
@@ -45,7 +45,7 @@ loop-again c =
     let l = p .before .before .before .before .loop in
     let a = p .before .before .before .before .before .before .args in
     let h : l .i < length (a .t2) = search needs in
-    (omega arith, omega arith, rw (p .put-channel .ensures, l .inv .2) (channel-turn (a .out .now) (a .t2) (l .i) _ h (omega arith)))
+    (omega arith, l .inv .1, l .inv .2, omega arith, rw (p .put-channel .ensures, l .inv .4) (channel-turn (a .out .now) (a .t2) (l .i) _ h (omega arith)))
 
 same-length : tie.Need-same-length Inv-loop μ-loop
 same-length c = search needs
@@ -54,8 +54,9 @@ returns : tie.Need-returns Inv-loop μ-loop
 returns c =
     let l = c .before .loop in
     let a = c .before .before .before .args in
-    let h : length (a .t2) ≡ 4 = search needs in
-    rw (l .inv .2) (channel-end (a .out .now) (a .t2) (l .i) (omega arith) (omega arith))
+    let e : l .i ≡ a .n = omega arith in
+    let h : length (a .t2) ≡ 8 = search needs in
+    (h, l .inv .4 ∙ ap (λ (k : ℕ). splice (a .out .now) 0 (channelLines 0 (take k (a .t2)))) e)
 
 pub put-channels-spec : {M : Type 1} → statement M
 put-channels-spec =

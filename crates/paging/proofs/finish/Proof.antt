@@ -1,7 +1,7 @@
 -- `finish` meets its contract: without room nothing is done, and with it what `take_end` answered is put on the page. Assumes nothing.
 use mathlib.Core.Path.{_≡_, refl, sym, _∙_}
 use borrow.Author.Tests.{not-true, not-false, leb-true}
-use Rattle.paging.proofs.Laws.{end-few, end-size, end-four, end-put, full-stays}
+use Rattle.paging.proofs.Laws.{end-few, end-size, end-eight, end-put, full-stays}
 use borrow.Author.Needs.{needs}
 use Rattle.paging.proofs.finish.Statement.{statement}
 use Rattle.paging.proofs.finish.Tie as tie
@@ -40,7 +40,7 @@ put-requires c κs =
     let r = some .before in
     let held = r .before .before .before .before .pre .0 in
     let fits = sym (r .room .ensures) ∙ not-false (r .room .result) (some .if1 .left) in
-    (end-few (t .take-end .ensures) held, sym (end-size (t .take-end .ensures) held refl), end-four (t .take-end .ensures) held, leb-true _ _ fits)
+    (end-few (t .take-end .ensures) held, sym (end-size (t .take-end .ensures) held refl), end-eight (t .take-end .ensures) held, leb-true _ _ fits)
 
 same-length-2 : tie.Need-same-length-2
 same-length-2 c = search needs

@@ -1,13 +1,13 @@
 -- `put` meets its contract: the output is copied behind what stands, and the channels' lines behind the output. Assumes nothing.
 use Prim.Native.Nat.{_+_, _≤_}
-use mathlib.Core.Path.{_≡_, ap, sym, _∙_}
+use mathlib.Core.Path.{_≡_, refl, ap, sym, _∙_}
 use mathlib.Core.Bool.{true, false}
 use native.Mathlib.Omega.{arith}
 use borrow.Author.Tests.{not-true, not-false}
 use lib.ListN.{length}
 use lib.Seq.{length-take-le}
 use Rattle.taking.specs.Desk.{needed}
-use Rattle.paging.proofs.Laws.{needed-some, board-length, put-none, put-hidden, put-shown}
+use Rattle.paging.proofs.Laws.{needed-some, shown-few, shown-long, few-within, put-none, put-hidden, put-shown}
 use borrow.Author.Needs.{needs}
 use Rattle.paging.proofs.put.Statement.{statement}
 use Rattle.paging.proofs.put.Tie as tie
@@ -33,8 +33,8 @@ copy-requires c κs =
     let k : start .args .t .at ≤ length (start .args .out .now) = omega arith in
     rw (length-take-le _ _ k) (omega arith)
 
-add-t15 : tie.Need-add-t15
-add-t15 c = search needs
+add-t16 : tie.Need-add-t16
+add-t16 c = search needs
 
 same-length : tie.Need-same-length
 same-length c = search needs
@@ -53,11 +53,21 @@ channels-requires c κs = search needs
 add-copy : tie.Need-add-copy
 add-copy c = search needs
 
+array-share-prefix-board : tie.Need-array-share-prefix-board
+array-share-prefix-board c =
+    let shown = c .before in
+    let start = shown .before .before .before .before .before .before .before .before .before .before .before .before in
+    let few = shown-few (start .pre .2) (shown .channels .ensures) in
+    let n : length (shown .channels .last .1 .0) ≡ 120 = shown-long (start .pre .2) refl (shown .channels .ensures) in
+    omega arith
+
 slice-aggregate-copy-2 : tie.Need-slice-aggregate-copy-2
 slice-aggregate-copy-2 c =
     let shown = c .before .before in
     let start = shown .before .before .before .before .before .before .before .before .before .before .before .before in
-    board-length (start .args .t .state .channels) (start .pre .2) (shown .channels .ensures)
+    let few = shown-few (start .pre .2) (shown .channels .ensures) in
+    let n : length (shown .channels .last .1 .0) ≡ 120 = shown-long (start .pre .2) refl (shown .channels .ensures) in
+    sym (length-take-le _ _ (few-within few n))
 
 copy-requires-2 : tie.Need-copy-requires-2
 copy-requires-2 c κs =
@@ -65,18 +75,23 @@ copy-requires-2 c κs =
     let test = shown .before .before in
     let copied = test .before .before .before in
     let start = copied .before .before .before .before .before .before .before in
-    let b = board-length (start .args .t .state .channels) (start .pre .2) (shown .channels .ensures) in
+    let few = shown-few (start .pre .2) (shown .channels .ensures) in
+    let n : length (shown .channels .last .1 .0) ≡ 120 = shown-long (start .pre .2) refl (shown .channels .ensures) in
     let k = copied .copy .kept .0 in
     let p = start .pre .3 in
     let q = start .pre .0 in
-    let e : needed (start .args .show) ≡ 1033 = ap needed (not-false (start .args .show) (test .if2 .left)) in
-    omega arith
+    let e : needed (start .args .show) ≡ 1093 = ap needed (not-false (start .args .show) (test .if2 .left)) in
+    rw (length-take-le _ _ (few-within few n)) (omega arith)
 
-add-t19 : tie.Need-add-t19
-add-t19 c = search needs
+add-t20 : tie.Need-add-t20
+add-t20 c = search needs
 
-add-t22 : tie.Need-add-t22
-add-t22 c = search needs
+add-t23 : tie.Need-add-t23
+add-t23 c =
+    let shown = c .before .before .before .before .before in
+    let start = shown .before .before .before .before .before .before .before .before .before .before .before .before in
+    let few = shown-few (start .pre .2) (shown .channels .ensures) in
+    search needs
 
 same-length-2 : tie.Need-same-length-2
 same-length-2 c = search needs
@@ -96,7 +111,7 @@ returns-3 c =
     let k : a .t .at ≤ length (a .out .now) = omega arith in
     let e = needed-some (a .show) in
     let r : a .at + a .t .at ≤ length (a .page .now) = omega arith in
-    put-shown (some .if1 .left) k (not-false (a .show) (test .if2 .left)) (start .pre .2) r (copied .copy .ensures) (shown .channels .ensures) (told .copy2 .ensures)
+    put-shown (some .if1 .left) k (not-false (a .show) (test .if2 .left)) r (copied .copy .ensures) (shown .channels .ensures) (told .copy2 .ensures)
 
 pub put-spec : {M : Type 1} → statement M
 put-spec =
@@ -105,14 +120,15 @@ put-spec =
     returns
     slice-aggregate-copy
     copy-requires
-    add-t15
+    add-t16
     same-length
     returns-2
     channels-requires
     add-copy
+    array-share-prefix-board
     slice-aggregate-copy-2
     copy-requires-2
-    add-t19
-    add-t22
+    add-t20
+    add-t23
     same-length-2
     returns-3)

@@ -21,7 +21,7 @@ sub-result c = search needs
 returns-2 : tie.Need-returns-2
 returns-2 c =
     let a = c .before .before .args in
-    room-behind 1033 (a .at) (length (a .page .now)) (c .before .if1 .left)
+    room-behind 1093 (a .at) (length (a .page .now)) (c .before .if1 .left)
     ∙ ap (λ (b : Bool). leb (a .at + needed b) (length (a .page .now))) (sym (c .if2 .taken))
 
 sub-result-2 : tie.Need-sub-result-2

@@ -1,6 +1,6 @@
 -- `turn` meets its contract: what `take` answered in memory of its own is put on the page. Assumes nothing.
 use mathlib.Core.Path.{_≡_, refl, sym}
-use Rattle.paging.proofs.Laws.{take-few, take-size, take-four, take-put}
+use Rattle.paging.proofs.Laws.{take-few, take-size, take-eight, take-put}
 use borrow.Author.Needs.{needs}
 use Rattle.paging.proofs.turn.Statement.{statement}
 use Rattle.paging.proofs.turn.Tie as tie
@@ -21,7 +21,7 @@ put-requires : tie.Need-put-requires
 put-requires c κs =
     let t = c .before .before .before .before in
     let p = t .before .before .before .before .before .before .before .pre in
-    (take-few (t .take .ensures) (p .0), sym (take-size (t .take .ensures) (p .0) refl), take-four (t .take .ensures) (p .0), p .2)
+    (take-few (t .take .ensures) (p .0), sym (take-size (t .take .ensures) (p .0) refl), take-eight (t .take .ensures) (p .0), p .2)
 
 same-length : tie.Need-same-length
 same-length c = search needs

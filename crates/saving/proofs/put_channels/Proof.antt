@@ -10,10 +10,10 @@ use Rattle.saving.proofs.put_channels.Statement.{statement}
 use Rattle.saving.proofs.put_channels.Tie as tie
 
 abbrev Inv-loop : tie.InvT-loop
-Inv-loop bytes₀ cs i₀ bytes i = (i ≤ 4) × (280 ≤ length bytes₀) × (length bytes ≡ length bytes₀) × Wrote bytes₀ 0 (channelsBytes (take i cs)) (i * 70) bytes × AllFilled (take i cs)
+Inv-loop bytes₀ cs i₀ bytes i = (i ≤ 8) × (560 ≤ length bytes₀) × (length bytes ≡ length bytes₀) × Wrote bytes₀ 0 (channelsBytes (take i cs)) (i * 70) bytes × AllFilled (take i cs)
 
 abbrev μ-loop : tie.MeasureT-loop
-μ-loop bytes₀ cs i₀ bytes i = 4 - i
+μ-loop bytes₀ cs i₀ bytes i = 8 - i
 
 loop-holds : tie.Need-loop-holds Inv-loop μ-loop
 loop-holds c = let s = c .before in (search needs, search needs, refl, channels-start (s .args .bytes .now) (s .args .t2), tt)
@@ -41,7 +41,7 @@ loop-again c =
     let p = c .before .before in
     let l = p .before .before .before .before .loop in
     let a = p .before .before .before .before .before .before .args in
-    let four : length (a .t2) ≡ 4 = search needs in
+    let eight : length (a .t2) ≡ 8 = search needs in
     let e = l .inv .2 in
     let z = wrote-length (p .put-channel .ensures) (omega arith) in (
       omega arith,
@@ -58,9 +58,9 @@ returns : tie.Need-returns Inv-loop μ-loop
 returns c =
     let l = c .before .loop in
     let a = c .before .before .before .args in
-    let four : length (a .t2) ≡ 4 = search needs in
-    let e : l .i ≡ 4 = omega arith in
-    channels-entered (a .bytes .now) (a .t2) four (rw e at (l .inv .4)) (rw e at (l .inv .3))
+    let eight : length (a .t2) ≡ 8 = search needs in
+    let e : l .i ≡ 8 = omega arith in
+    channels-entered (a .bytes .now) (a .t2) eight (rw e at (l .inv .4)) (rw e at (l .inv .3))
 
 pub put-channels-spec : {M : Type 1} → statement M
 put-channels-spec =

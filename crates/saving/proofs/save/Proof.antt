@@ -1,4 +1,5 @@
 -- `save` meets its contract: part after part is written, and nothing is left. Assumes nothing.
+use mathlib.Core.Path.{_∙_}
 use Rattle.image.proofs.Laws.{state-wrote, queue-filled}
 use Rattle.image.proofs.Round.{saved}
 use borrow.Author.Needs.{needs}
@@ -20,20 +21,25 @@ put-key-requires c κs = search needs
 put-key-requires-2 : tie.Need-put-key-requires-2
 put-key-requires-2 c κs = search needs
 
+put-width-requires : tie.Need-put-width-requires
+put-width-requires c κs = search needs
+
 same-length : tie.Need-same-length
 same-length c = search needs
 
 returns : tie.Need-returns
 returns c =
-    let z = c .before .before in
+    let o = c .before .before in
+    let z = o .before .before .before .before in
     let y = z .before .before .before .before in
     let x = y .before .before .before .before in
     let w = x .before .before .before .before in
     let v = w .before .before .before .before in
-    let a = v .before .before .before .before .before .before .args in
-    let e = state-wrote (a .bytes .now) (a .s) (search needs) (v .put-channels .ensures .wrote) (w .put-queue .ensures) (x .put-queue2 .ensures) (y .put-key .ensures) (z .put-key2 .ensures) in
-    saved (a .s) record { four = v .put-channels .ensures .four; channels = v .put-channels .ensures .filled; locks = queue-filled (w .put-queue .ensures); waiting = queue-filled (x .put-queue2 .ensures) }
-    e (λ i. c .slice-known6 .given i .fits)
+    let s = v .before .before .before .before .before .before .before in
+    let a = s .args in
+    let e = state-wrote (a .bytes .now) (a .b) (s .pre) (v .put-channels .ensures .wrote) (w .put-queue .ensures) (x .put-queue2 .ensures) (y .put-key .ensures) (z .put-key2 .ensures) in
+    saved (a .b) record { eight = v .put-channels .ensures .eight; channels = v .put-channels .ensures .filled; locks = queue-filled (w .put-queue .ensures); waiting = queue-filled (x .put-queue2 .ensures) }
+    (o .put-width .ensures ∙ e) (λ i. c .slice-known7 .given i .fits)
 
 pub save-spec : {M : Type 1} → statement M
 save-spec =
@@ -44,5 +50,6 @@ save-spec =
     put-queue-requires-2
     put-key-requires
     put-key-requires-2
+    put-width-requires
     same-length
     returns)

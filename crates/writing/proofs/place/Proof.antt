@@ -1,7 +1,7 @@
 -- `place` meets its contract, case by case of its two tests. Assumes nothing.
 use Prim.Native.Nat.{_<_}
 use mathlib.Core.Path.{sym, _∙_}
-use lib.ListN.{length}
+use lib.ListN.{length, drop, length-set}
 use Rattle.writing.proofs.Places.{place-none, place-other, place-own, key-any}
 use borrow.Author.Needs.{needs}
 use Rattle.writing.proofs.place.Statement.{statement}
@@ -30,7 +30,7 @@ returns-2 : tie.Need-returns-2
 returns-2 c =
     let s = c .before .before .before .before .before .before in
     let l = c .before .before .before .before .before .lowest in
-    let n : l .result < 4 = search needs in
+    let n : l .result < 8 = search needs in
     let g : l .result < length (s .args .s .channels) = rw (s .pre) n in
     place-own _ _ _ _ (l .ensures) n (key-any _ (s .args .s .channels) _ _ _ g (sym (c .before .matches .ensures) ∙ c .if2 .taken))
 
@@ -38,7 +38,7 @@ returns-3 : tie.Need-returns-3
 returns-3 c =
     let s = c .before .before .before .before .before .before in
     let l = c .before .before .before .before .before .lowest in
-    let n : l .result < 4 = search needs in
+    let n : l .result < 8 = search needs in
     let g : l .result < length (s .args .s .channels) = rw (s .pre) n in
     place-other _ _ _ _ (l .ensures) n (key-any _ (s .args .s .channels) _ _ _ g (sym (c .before .matches .ensures) ∙ c .if2 .left))
 

@@ -3,7 +3,7 @@ use Prim.Native.Nat.{_≤_, _<_}
 use mathlib.Core.Path.{refl, sym}
 use mathlib.Core.List.{[]}
 use native.Mathlib.Omega.{arith}
-use lib.ListN.{length}
+use lib.ListN.{length, drop, length-set}
 use Rattle.memory.proofs.Splice.{splice-none}
 use Rattle.store.specs.Store.{stateIn}
 use Rattle.answers.proofs.Laws.{finished-of, finished-told, told-as}
@@ -21,7 +21,7 @@ use Rattle.writing.proofs.join.Reads as join-reads
 use Rattle.writing.proofs.place.Reads as place-reads
 
 place-requires : tie.Need-place-requires
-place-requires c κs = c .before .before .pre .0 .held .four
+place-requires c κs = c .before .before .pre .0 .held .eight
 
 done-requires : tie.Need-done-requires
 done-requires c κs = search needs
@@ -51,8 +51,8 @@ join-requires c κs =
     let s = c .before .before .before .before .before .before .before in
     let p = s .pre in
     let found = c .before .before .before .before .place in
-    let n : found .result < 4 = c .before .before .before .if1 .left in
-    let g : found .result < length (s .args .s .channels) = rw (p .0 .held .four) n in
+    let n : found .result < 8 = c .before .before .before .if1 .left in
+    let g : found .result < length (s .args .s .channels) = rw (p .0 .held .eight) n in
     (p .0 .held, n, getD-any (s .args .s .channels) _ _ _ g, p .2, p .3)
 
 pending-requires : tie.Need-pending-requires
@@ -67,7 +67,7 @@ returns-2 c =
     let p = s .pre in
     let j = c .before .before .before .join .ensures in
     let found = c .before .before .before .before .before .before .before .before .place in
-    let i : found .result < 4 = c .before .before .before .before .before .before .before .if1 .left in
+    let i : found .result < 8 = c .before .before .before .before .before .before .before .if1 .left in
     write-told (p .0 .held) (s .args .r) _ (found .ensures) i (p .2) (p .3) (c .pending .ensures) (j .0) (j .1)
 
 pub write-spec : {M : Type 1} → statement M

@@ -1,4 +1,5 @@
--- `fresh` meets its contract: four unused channels and empty queues. Assumes nothing.
+-- `fresh` meets its contract: eight unused channels and empty queues. Assumes nothing.
+use Rattle.machine.specs.State.{frees}
 use borrow.Author.Needs.{needs}
 use Rattle.store.proofs.State.fresh.Statement.{statement}
 use Rattle.store.proofs.State.fresh.Tie as tie
@@ -14,6 +15,7 @@ empty-requires : tie.Need-empty-requires
 empty-requires c κs = search needs
 
 returns : tie.Need-returns
+unfolding frees
 returns c = rw (c .empty .ensures, c .before .unused .ensures)
 
 pub fresh-spec : {M : Type 1} → statement M
