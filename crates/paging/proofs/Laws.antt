@@ -22,11 +22,11 @@ use Rattle.board.specs.declared.Board.{Board}
 use Rattle.store.specs.Store.{tableOf}
 use Rattle.board.specs.Board.{structOf, stateIn, Held}
 use Rattle.board.proofs.Laws.{held-eight}
-use Rattle.lines.specs.ChannelLines.{boardLines, Shows}
-use Rattle.lines.proofs.ChannelLines.{board-few}
+use Rattle.channel_lines.specs.ChannelLines.{boardLines, Shows}
+use Rattle.channel_lines.proofs.ChannelLines.{board-few}
 use Rattle.lines.proofs.Laws.{length-told}
-use Rattle.frames.specs.Frames.{LINE, ended, used, kept}
-use Rattle.frames.proofs.Lumps.{used-within}
+use Rattle.gathering.specs.Lumps.{LINE, ended, used, kept}
+use Rattle.gathering.proofs.Lumps.{used-within}
 use Rattle.feeding.proofs.Laws.{feed-few}
 use Rattle.taking.specs.declared.Taken.{Taken}
 use Rattle.taking.specs.Desk.{shownOf, fed, Desk, deskOf, gathered, answered, taken, needed, fits, takes, filled, closed, finished, Leaves, Takes, Ends}

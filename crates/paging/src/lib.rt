@@ -7,7 +7,7 @@ ghost use mathlib.Core.Path.{_≡_};
 ghost use lib.Dec.{leb};
 ghost use lib.ListN.{length};
 ghost use Rattle.board.specs.Board.{Held};
-ghost use Rattle.frames.specs.Frames.{LINE};
+ghost use Rattle.gathering.specs.Lumps.{LINE};
 ghost use Rattle.taking.specs.Desk.{needed};
 ghost use Rattle.paging.specs.Paging.{Puts, Turns, Fills, Finishes};
 
@@ -50,7 +50,7 @@ fn put(show: bool, t: Taken, out: &[u8], page: &mut [u8], at: usize) -> Taken
         };
     }
     let mut board = [0u8; 120];
-    let k = lines::channels(s, &mut board);
+    let k = channel_lines::channels(s, &mut board);
     memory::copy(page, at + n, &board[..k]);
     Taken {
         state: s,

@@ -14,7 +14,7 @@ use Rattle.machine.proofs.Tests.{if-elim, test-true}
 use Rattle.board.specs.declared.Board.{Board}
 use Rattle.store.specs.Store.{tableOf}
 use Rattle.board.specs.Board.{sized, structOf, stateIn, Held}
-use Rattle.frames.specs.Frames.{LINE}
+use Rattle.gathering.specs.Lumps.{LINE}
 use Rattle.taking.specs.declared.Taken.{Taken}
 use Rattle.taking.specs.Desk.{Desk, deskOf, needed, fits, filled, closed, finished, Leaves}
 use Rattle.taking.proofs.Kept.{held-fine}

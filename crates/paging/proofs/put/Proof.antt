@@ -13,7 +13,7 @@ use Rattle.paging.proofs.put.Statement.{statement}
 use Rattle.paging.proofs.put.Tie as tie
 use Rattle.paging.proofs.put.Reads as reads
 use Rattle.paging.proofs.put.Lts as lts
-use Rattle.lines.proofs.channels.Reads as channels-reads
+use Rattle.channel_lines.proofs.channels.Reads as channels-reads
 use Rattle.memory.proofs.copy.Reads as copy-reads
 
 returns : tie.Need-returns
