@@ -29,7 +29,8 @@ use Rattle.taking.specs.declared.Taken.{Taken}
 use Rattle.taking.specs.Desk.{shownOf, fed, Desk, deskOf, gathered, answered, taken, needed, fits, takes, filled, closed, finished, Leaves}
 use Rattle.taking.proofs.Kept.{Fine, held-fine, feed-fine, answered-fine, leaves-held}
 use Rattle.taking.proofs.Laws.{kept-few, taken-used, used-some}
-use Rattle.paging.specs.Paging.{Fills, Finishes}
+use Rattle.paging.specs.Paging.{Fills}
+use Rattle.finishing.specs.Finishing.{Finishes}
 use Rattle.paging.proofs.Laws.{takes-more}
 
 -- ---- a line's output has the room that is asked for it

@@ -27,7 +27,8 @@ use Rattle.taking.specs.declared.Taken.{Taken}
 use Rattle.taking.specs.Desk.{shownOf, fed, runShown, logShown, Desk, deskOf, gathered, answered, taken, fits, takes, filled, closed, finished, Leaves}
 use Rattle.taking.proofs.Kept.{leaves-state}
 use Rattle.taking.proofs.Laws.{fed-hidden, taken-open, taken-ended, taken-used, closed-none, closed-some}
-use Rattle.paging.specs.Paging.{Fills, Finishes}
+use Rattle.paging.specs.Paging.{Fills}
+use Rattle.finishing.specs.Finishing.{Finishes}
 use Rattle.whole_log.specs.Whole.{joined, Ran, fills, used-up, finishes, writes, over}
 use Rattle.whole_log.proofs.Progress.{Good, Went, desk-good, taken-went, filled-went, finished-went, left-held, left-inside}
 

@@ -1,18 +1,17 @@
 -- `put` meets its contract: the output is copied behind what stands, and the channels' lines behind the output. Assumes nothing.
 use Prim.Native.Nat.{_+_, _≤_}
-use mathlib.Core.Path.{_≡_, refl, ap, sym, _∙_}
-use mathlib.Core.Bool.{true, false}
+use mathlib.Core.Path.{_≡_, refl, ap, sym}
 use native.Mathlib.Omega.{arith}
 use borrow.Author.Tests.{not-true, not-false}
 use lib.ListN.{length}
 use lib.Seq.{length-take-le}
 use Rattle.taking.specs.Desk.{needed}
-use Rattle.paging.proofs.Laws.{needed-some, shown-few, shown-long, few-within, put-none, put-hidden, put-shown}
+use Rattle.putting.proofs.Laws.{needed-some, shown-few, shown-long, few-within, put-none, put-hidden, put-shown}
 use borrow.Author.Needs.{needs}
-use Rattle.paging.proofs.put.Statement.{statement}
-use Rattle.paging.proofs.put.Tie as tie
-use Rattle.paging.proofs.put.Reads as reads
-use Rattle.paging.proofs.put.Lts as lts
+use Rattle.putting.proofs.put.Statement.{statement}
+use Rattle.putting.proofs.put.Tie as tie
+use Rattle.putting.proofs.put.Reads as reads
+use Rattle.putting.proofs.put.Lts as lts
 use Rattle.channel_lines.proofs.channels.Reads as channels-reads
 use Rattle.memory.proofs.copy.Reads as copy-reads
 

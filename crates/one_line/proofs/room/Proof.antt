@@ -1,16 +1,16 @@
 -- `room` meets its contract: what is needed fits behind `at`, or does not. Assumes nothing.
 use Prim.Native.Nat.{_+_}
-use mathlib.Core.Path.{_≡_, ap, sym, _∙_}
+use mathlib.Core.Path.{ap, sym, _∙_}
 use mathlib.Core.Bool.{Bool}
 use native.Mathlib.Omega.{arith}
 use borrow.Author.Tests.{lt-leb}
 use lib.Dec.{leb}
 use lib.ListN.{length}
 use Rattle.taking.specs.Desk.{needed}
-use Rattle.paging.proofs.Laws.{room-behind}
+use Rattle.one_line.proofs.Laws.{room-behind}
 use borrow.Author.Needs.{needs}
-use Rattle.paging.proofs.room.Statement.{statement}
-use Rattle.paging.proofs.room.Tie as tie
+use Rattle.one_line.proofs.room.Statement.{statement}
+use Rattle.one_line.proofs.room.Tie as tie
 
 returns : tie.Need-returns
 returns c = let a = c .before .args in sym (lt-leb (a .at + needed (a .show)) (length (a .page .now)) (omega arith))

@@ -1,12 +1,12 @@
 -- `turn` meets its contract: what `take` answered in memory of its own is put on the page. Assumes nothing.
-use mathlib.Core.Path.{_≡_, refl, sym}
-use Rattle.paging.proofs.Laws.{take-few, take-size, take-eight, take-put}
+use mathlib.Core.Path.{refl, sym}
+use Rattle.one_line.proofs.Laws.{take-few, take-size, take-eight, take-put}
 use borrow.Author.Needs.{needs}
-use Rattle.paging.proofs.turn.Statement.{statement}
-use Rattle.paging.proofs.turn.Tie as tie
-use Rattle.paging.proofs.turn.Reads as reads
-use Rattle.paging.proofs.turn.Lts as lts
-use Rattle.paging.proofs.put.Reads as put-reads
+use Rattle.one_line.proofs.turn.Statement.{statement}
+use Rattle.one_line.proofs.turn.Tie as tie
+use Rattle.one_line.proofs.turn.Reads as reads
+use Rattle.one_line.proofs.turn.Lts as lts
+use Rattle.putting.proofs.put.Reads as put-reads
 use Rattle.taking.proofs.take.Reads as take-reads
 
 take-requires : tie.Need-take-requires

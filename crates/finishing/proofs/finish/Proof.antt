@@ -1,14 +1,14 @@
 -- `finish` meets its contract: without room nothing is done, and with it what `take_end` answered is put on the page. Assumes nothing.
-use mathlib.Core.Path.{_≡_, refl, sym, _∙_}
+use mathlib.Core.Path.{refl, sym, _∙_}
 use borrow.Author.Tests.{not-true, not-false, leb-true}
-use Rattle.paging.proofs.Laws.{end-few, end-size, end-eight, end-put, full-stays}
+use Rattle.finishing.proofs.Laws.{end-few, end-size, end-eight, end-put, full-stays}
 use borrow.Author.Needs.{needs}
-use Rattle.paging.proofs.finish.Statement.{statement}
-use Rattle.paging.proofs.finish.Tie as tie
-use Rattle.paging.proofs.finish.Reads as reads
-use Rattle.paging.proofs.finish.Lts as lts
-use Rattle.paging.proofs.put.Reads as put-reads
-use Rattle.paging.proofs.room.Reads as room-reads
+use Rattle.finishing.proofs.finish.Statement.{statement}
+use Rattle.finishing.proofs.finish.Tie as tie
+use Rattle.finishing.proofs.finish.Reads as reads
+use Rattle.finishing.proofs.finish.Lts as lts
+use Rattle.putting.proofs.put.Reads as put-reads
+use Rattle.one_line.proofs.room.Reads as room-reads
 use Rattle.taking.proofs.take_end.Reads as take-end-reads
 
 room-requires : tie.Need-room-requires
