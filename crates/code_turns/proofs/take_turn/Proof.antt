@@ -1,7 +1,7 @@
 -- `take_turn` meets its contract: the call's promise is the turn's, and the types give the two ranges. Assumes nothing.
 use borrow.Author.Needs.{needs}
-use Rattle.code_runs.proofs.take_turn.Statement.{statement}
-use Rattle.code_runs.proofs.take_turn.Tie as tie
+use Rattle.code_turns.proofs.take_turn.Statement.{statement}
+use Rattle.code_turns.proofs.take_turn.Tie as tie
 
 ranges-requires : tie.Need-ranges-requires
 ranges-requires c κs = search needs
