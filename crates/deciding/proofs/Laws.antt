@@ -15,10 +15,9 @@ use Rattle.machine.specs.Choosing.{look}
 use Rattle.machine.specs.Commands.{finished, silent, done}
 use Rattle.machine.specs.Allocating.{doOpen}
 use Rattle.machine.specs.Settling.{settle}
-use Rattle.machine.specs.Sound.{sound}
 use Rattle.machine.specs.Kinds.{kind}
 use Rattle.machine.specs.Refusals.{Refusal, accepted, refused, first, refusal, refuse}
-use Rattle.machine.specs.Call.{settling, openSettling, accept, answering, call, inRange, perform}
+use Rattle.machine.specs.Call.{settling, openSettling, accept, answering, call, inRange}
 use Rattle.machine.proofs.Tests.{by-test, test-true, test-false, and-right, and-both}
 use Rattle.machine_laws.proofs.Refusals.{first-past}
 use Rattle.machine.proofs.Steps.{first-none}
@@ -43,7 +42,7 @@ use Rattle.refusals.specs.declared.Op.the-variants.{Open, Close, Abort, Event, 
 use Rattle.refusals.specs.Refusals.{opIn, askedOf}
 use Rattle.steps.specs.Steps.{numberOf}
 use Rattle.operations.specs.Operations.{act, Allowed}
-use Rattle.arbiter.specs.Arbiter.{restsAt, decisionOf, Decided}
+use Rattle.deciding.specs.Deciding.{restsAt, decisionOf, Decided}
 use Rattle.refusing.specs.Refusing.{dueReplies, Refused}
 
 -- ---- the number of a refusal

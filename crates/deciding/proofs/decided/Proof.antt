@@ -1,9 +1,9 @@
 -- `decided` meets its contract: refused, or performed and then settled but for an OPEN answered -11. Assumes nothing.
 use mathlib.Core.Path.{sym, _∙_}
-use Rattle.arbiter.proofs.Laws.{refused-told, zero-allowed, resting-told, settle-ready, settled-told}
+use Rattle.deciding.proofs.Laws.{refused-told, zero-allowed, resting-told, settle-ready, settled-told}
 use borrow.Author.Needs.{needs}
-use Rattle.arbiter.proofs.decided.Statement.{statement}
-use Rattle.arbiter.proofs.decided.Tie as tie
+use Rattle.deciding.proofs.decided.Statement.{statement}
+use Rattle.deciding.proofs.decided.Tie as tie
 
 refuse-requires : tie.Need-refuse-requires
 refuse-requires c κs = let t = c .before in t .before .before .before .before .pre .room
