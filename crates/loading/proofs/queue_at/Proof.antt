@@ -1,11 +1,11 @@
 -- `queue_at` meets its contract: a copy over all of an array is what was copied. Assumes nothing.
 use Prim.Native.Nat.{_+_, _-_}
 use native.Mathlib.Omega.{arith}
 use Rattle.image.specs.Image.{queueAt}
 use Rattle.image.proofs.Laws.{queue-read}
 use borrow.Author.Needs.{needs}
-use Rattle.image.proofs.queue_at.Statement.{statement}
-use Rattle.image.proofs.queue_at.Tie as tie
+use Rattle.loading.proofs.queue_at.Statement.{statement}
+use Rattle.loading.proofs.queue_at.Tie as tie
 
 add-from : tie.Need-add-from
 add-from c = search needs

@@ -1,9 +1,9 @@
 -- `channel_at` meets its contract: each field is read at its place. Assumes nothing.
 use mathlib.Core.Path.{refl}
 use Rattle.image.proofs.Laws.{channel-read}
 use borrow.Author.Needs.{needs}
-use Rattle.image.proofs.channel_at.Statement.{statement}
-use Rattle.image.proofs.channel_at.Tie as tie
+use Rattle.loading.proofs.channel_at.Statement.{statement}
+use Rattle.loading.proofs.channel_at.Tie as tie
 
 add-queue-at : tie.Need-add-queue-at
 add-queue-at c = search needs
