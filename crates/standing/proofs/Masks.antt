@@ -1,6 +1,6 @@
 -- Why masks serve: bit by bit, a mask and a map share a channel exactly where the map names one that fails the test. Assumes
 -- nothing.
-use Prim.Native.Nat.{ℕ, zero, suc, _+_, _*_, _/_, _%_, _^_, _≤_, _<_, min, max}
+use Prim.Native.Nat.{ℕ, zero, suc, _+_, _*_, _/_, _%_, _^_, _≤_, _<_, min}
 use mathlib.Core.Path.{_≡_, refl, ap, sym, _∙_}
 use mathlib.Core.Bool.{Bool, true, false, not, _&&_, _||_}
 use mathlib.Core.List.{List, [], _∷_, map}
@@ -82,7 +82,7 @@ failing-and f g (x ∷ xs) =
     let a = bit (not (f x)) (failing f xs) in
     let b = bit (not (g x)) (failing g xs) in
     sym (bit-of (bitAnd a b))
-    ∙ (rw (and-odd a b, odd-bit, odd-bit, and-half a b, half-bit, half-bit, failing-and f g xs, nor (f x) (g x)))
+    ∙ (rw (and-odd a b, odd-bit (not (f x)) (failing f xs), odd-bit (not (g x)) (failing g xs), and-half a b, half-bit (not (f x)) (failing f xs), half-bit (not (g x)) (failing g xs), failing-and f g xs, nor (f x) (g x)))
   where
     nor : (p q : Bool) → (not p && not q) ≡ not (p || q)
     nor true q = refl

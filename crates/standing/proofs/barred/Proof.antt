@@ -1,14 +1,10 @@
 -- `barred` meets its contract: of the allocated channels, those that are not below the precedence. Assumes nothing.
-use mathlib.Core.Path.{sym, _∙_}
 use native.Mathlib.Omega.{arith}
 use lib.Dec.{ltb}
 use Rattle.standing.proofs.Turns.{at-least, barred-by, Masked, masked-start, masked-more, masked-end, masked-room}
 use borrow.Author.Needs.{needs}
 use Rattle.standing.proofs.barred.Statement.{statement}
 use Rattle.standing.proofs.barred.Tie as tie
-use Rattle.standing.proofs.barred.Reads as reads
-use Rattle.standing.proofs.barred.Lts as lts
-use Rattle.standing.proofs.bit.Reads as bit-reads
 
 abbrev Inv-loop : tie.InvT-loop
 Inv-loop t prec precs high₀ at₀ high at = Masked (λ p. ltb p prec) precs high at

@@ -1,15 +1,9 @@
 -- `of` meets its contract: the masks and the precedences of the channels read so far, from the last on. Assumes nothing.
-use mathlib.Core.Path.{sym, _∙_}
 use native.Mathlib.Omega.{arith}
-use Rattle.machine.specs.State.{free}
-use Rattle.channel.specs.Channel.{channelOf}
 use Rattle.standing.proofs.Turns.{Reading, reading-start, reading-more, reading-end, masked-room}
 use borrow.Author.Needs.{needs}
 use Rattle.standing.proofs.of.Statement.{statement}
 use Rattle.standing.proofs.of.Tie as tie
-use Rattle.standing.proofs.of.Reads as reads
-use Rattle.standing.proofs.of.Lts as lts
-use Rattle.standing.proofs.bit.Reads as bit-reads
 
 abbrev Inv-loop : tie.InvT-loop
 Inv-loop cs busy₀ locked₀ precs₀ i₀ busy locked precs i = Reading cs busy locked precs i

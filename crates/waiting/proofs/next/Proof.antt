@@ -8,13 +8,6 @@ use Rattle.waiting.proofs.Finding.{Passing, passing-start, passing-more
 use borrow.Author.Needs.{needs}
 use Rattle.waiting.proofs.next.Statement.{statement}
 use Rattle.waiting.proofs.next.Tie as tie
-use Rattle.waiting.proofs.next.Reads as reads
-use Rattle.waiting.proofs.next.Lts as lts
-use Rattle.choosing.proofs.look_by.Reads as look-by-reads
-use Rattle.table.proofs.combos.Reads as combos-reads
-use Rattle.table.proofs.impatient.Reads as impatient-reads
-use Rattle.table.proofs.prec.Reads as prec-reads
-use Rattle.waiting.proofs.stops.Reads as stops-reads
 
 abbrev Inv-loop : tie.InvT-loop
 Inv-loop t table from ids n i₀ i = Passing t (record { n = n; ids = ids }) table from i
