@@ -583,8 +583,10 @@ static struct Answer write_end(struct Arbiter *a, const struct Frame *f, struct 
 struct Answer arbiter_call(struct Arbiter *a, const struct Frame *f, struct Replies *r)
 {
     r->count = 0;
+#ifndef TRUSTING /* a build that takes every state for sound, for bench/run --trusting alone */
     if (!arbiter_sound(a))
         return refuse(f, REFUSED_UNSOUND);
+#endif
     if (r->capacity < REQUESTS)
         return refuse(f, REFUSED_REPLIES);
     switch (f->operation) {

@@ -1,3 +1,4 @@
 pub mod Stealing
 pub mod Steps
 pub mod Waiting
+pub mod Finding

@@ -1,33 +1,67 @@
-// What is done to one waiting request: looked at, dropped, granted, or held, which ends the locks over its map.
+// The next waiting request of which something comes, and what is done to it: dropped, granted, or held, which ends the locks over
+// its map.
 // A step is promised in the machine's words: the state it leaves and the replies it adds. Assumes nothing.
 use choosing::Look;
+use queue::Queue;
 use reply::Reply;
+use standing::Standing;
 use store::State;
 ghost use mathlib.Core.Path.{_≡_};
 ghost use Prim.Native.Nat.{_+_, _<_};
+ghost use mathlib.Core.List.{List};
 ghost use lib.ListN.{length};
+ghost use Rattle.machine.specs.State.{Channel as ChannelM};
 ghost use Rattle.machine.specs.Granting.{abortedIn};
-ghost use Rattle.choosing.specs.Choosing.{lookOf};
+ghost use Rattle.standing.specs.Standing.{Stood};
+ghost use Rattle.choosing.specs.Choosing.{lookIn};
 ghost use Rattle.store.specs.Store.{stateIn, Held};
 ghost use Rattle.store.specs.Work.{Stands, Ready};
-ghost use Rattle.waiting.specs.Waiting.{outAt, lookAt, droppedReplies, grantedAt, grantedReplies, stolen, withoutLocks, Makes};
+ghost use Rattle.waiting.specs.Waiting.{comes, Readable, Finds, outAt, droppedReplies, grantedAt, grantedReplies, stolen, withoutLocks, Makes};
 
 pub struct Settled {
     pub state: State,
     pub n: usize,
 }
 
-// What the waiting request at place i comes to.
-pub fn look_at(s: State, table: &[u8], i: usize) -> Look
-    requires { ⌜ Held s (now table) × (i < s .waiting .n) ⌝ }
-    ensures { λ r. ⌜ r ≡ lookOf (lookAt i (stateIn s (now (table .entry)))) ⌝ }
+// Where a walk stops: a place, and what the request there comes to.
+pub struct Found {
+    pub at: usize,
+    pub look: Look,
+}
+
+// Something comes of a look: all but a failure of one that can wait.
+fn stops(l: Look, impatient: bool) -> bool
+    ensures { λ r. ⌜ r ≡ comes (lookIn l) impatient ⌝ }
 {
-    let q = s.waiting;
-    let id = q.at(i);
-    let cs = s.channels;
-    let prec = table::prec(table, id);
-    let list = table::combos(table, id);
-    choosing::look_at(cs, prec, list)
+    match l {
+        Look::Fails => impatient,
+        Look::Held(_) => true,
+        Look::Grants(_) => true,
+    }
+}
+
+// The first waiting request, from a place on, of which something comes; the end where there is none. No state is in hand, since
+// none changes on the way.
+pub fn next(t: Standing, q: Queue, table: &[u8], from: usize) -> Found
+    requires { ⌜ Readable q (now table) ⌝ }
+    ensures { λ r. ⌜ ((cs : List ChannelM) → Stood cs t → Finds cs q (now (table .entry)) from r) ⌝ }
+{
+    let ids = q.ids;
+    let n = q.n as usize;
+    let mut i = from;
+    while i < n {
+        let id = ids[i];
+        let prec = table::prec(table, id);
+        let l = choosing::look_by(t, prec, table::combos(table, id));
+        if stops(l, table::impatient(table, id)) {
+            return Found { at: i, look: l };
+        }
+        i += 1;
+    }
+    Found {
+        at: i,
+        look: Look::Fails,
+    }
 }
 
 // The waiting request at place i is gone, and its id idle.

@@ -9,7 +9,7 @@ use lib.Pow.{pow-pos}
 use Rattle.machine.specs.Lists.{if_then_else_, all}
 use Rattle.machine.specs.State.{Channel, isFree}
 use Rattle.machine.specs.Maps.{named}
-use Rattle.machine.specs.Choosing.{Choice, none, chosen, Look, fails, held, grants, takeable, eligible, allFree, highest, stolen, costsLess, firstFree, cheaper, cheapest, orElse, choose, standing, look}
+use Rattle.machine.specs.Choosing.{Choice, none, chosen, Look, fails, held, grants, takeable, eligible, allFree, costsLess, firstFree, cheaper, cheapest, orElse, choose, standing, look}
 use Rattle.machine.proofs.Tests.{if-elim, and-left, and-right}
 use Rattle.widening.specs.Widening.{wider, smallList}
 use Rattle.widening.proofs.Maps.{named-wide, highest-wide, stolen-wide}
