@@ -1,7 +1,7 @@
 // The log program: a log on standard input, its output on standard output, in constant memory. Its first argument is the number of
 // channels, 4 or 8, and 4 where it is anything else or left out; with a second it also tells the board's channels after each
-// line. It reads, calls `paging` and `finishing`, and writes: what is read and written is the C library's to say, and that each page is passed to
-// `write` as it was handed back stands in `lump` and `last` to be read.
+// line. It reads, calls `paging` and `finishing`, and writes: what is read and written is the C library's to say, and that each
+// page is passed to `write` as it was handed back stands in `lump` and `last` to be read.
 use board::Board;
 ghost use lib.Dec.{T};
 ghost use Prim.Native.Nat.{_≤_};
