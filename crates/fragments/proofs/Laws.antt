@@ -1,0 +1,118 @@
+-- How the calls meet their promises, case by case; no second outcome fits; what is refused moves nothing, nor does an empty fragment;
+-- what a call counts stays within what was lent. Assumes nothing.
+use Prim.Native.Nat.{ℕ, _+_, _-_, _≤_}
+use mathlib.Core.Path.{_≡_, refl, ap, sym, subst, _∙_}
+use mathlib.Core.Bool.{Bool, true, false}
+use mathlib.Core.List.{List, [], _++_}
+use mathlib.Core.Option.{Option, none, some}
+use native.Mathlib.Omega.{arith}
+use native.Mathlib.Nat.{add-zero}
+use borrow.Author.Tests.{eqb-true, eqb-false, eq-eqb, ne-eqb}
+use lib.Dec.{eqb}
+use lib.ListN.{length, take, drop, length-take, length-drop}
+use lib.Seq.{take-at}
+use Rattle.machine.specs.Lists.{if_then_else_}
+use Rattle.memory.specs.Splice.{splice}
+use Rattle.memory.proofs.Splice.{splice-none, length-splice}
+use Rattle.frames.specs.declared.Gathered.{Gathered}
+use Rattle.frames.specs.Frames.{LINE, front, ended, used, kept, Gathers}
+use Rattle.frames.proofs.Lumps.{used-within}
+use Rattle.port.specs.Port.{startedIn, lineIn, portOf, refusal}
+use Rattle.port.proofs.Laws.{Proper, allowed, port-again}
+use Rattle.hearing.specs.Hearing.{Tells}
+use Rattle.hearing.proofs.Laws.{Same, one-telling, hears-few}
+use Rattle.fragments.specs.Fragments.{grown, lineWith, lineFed, portFed, lineLast, portLast, Silent, Answers, Still, Moves, Ported, Feeds, Ends}
+
+-- ---- a line's output
+
+-- the bytes that are counted are the output
+pub told-front : {l st tb out : List ℕ} {n : ℕ} {st′ tb′ out′ : List ℕ} (t : Tells l st tb out n st′ tb′ out′) → take n out′ ≡ t .text
+unfolding splice
+told-front {out = out} t = rw (t .count, t .bytes) (take-at (t .text) (drop (0 + length (t .text)) out) (length (t .text)) refl)
+
+pub told-few : {l st tb out : List ℕ} {n : ℕ} {st′ tb′ out′ : List ℕ} → Tells l st tb out n st′ tb′ out′ → n ≤ 973
+told-few t = let e = t .count in let f = hears-few (t .heard) in omega arith
+
+pub told-length : {l st tb out : List ℕ} {n : ℕ} {st′ tb′ out′ : List ℕ} → 973 ≤ length out → Tells l st tb out n st′ tb′ out′ → length out′ ≡ length out
+told-length {out = out} h t = let f = hears-few (t .heard) in ap length (t .bytes) ∙ length-splice out 0 (t .text) (omega arith)
+
+-- copied into another room
+pub poured : {l st tb z out : List ℕ} {n : ℕ} {st′ tb′ z′ out′ : List ℕ} → Tells l st tb z n st′ tb′ z′ → out′ ≡ splice out 0 (take n z′) → Tells l st tb out n st′ tb′ out′
+poured {out = out} t e = record { text = t .text; heard = t .heard; count = t .count; bytes = e ∙ ap (splice out 0) (told-front t) }
+
+-- ---- refused or served
+
+module _ {o : Option (List ℕ)} {q : List ℕ} {v : ℕ} {p st tb out : List ℕ} {e : ℕ} (h : e ≡ refusal p (length out)) where
+  pub is-refused : (e ≡ 0 → ⊥) → Ported o q v p st tb out e 0 0 p st tb out
+  is-refused n =
+      record {
+        error = h;
+        refused = λ _. record { used = refl; port = refl; silent = record { count = refl; state = refl; table = refl; bytes = refl } };
+        served = λ z. absurd (n (h ∙ z));
+      }
+
+  pub is-served : e ≡ 0 → {u n : ℕ} {p′ st′ tb′ out′ : List ℕ} → Moves o q v st tb out u n p′ st′ tb′ out′ → Ported o q v p st tb out 0 u n p′ st′ tb′ out′
+  is-served z m = record { error = sym z ∙ h; refused = λ n. absurd (n (sym h ∙ z)); served = λ _. m }
+
+-- ---- a fragment
+
+module _ (p bs : List ℕ) {l : List ℕ} {n : ℕ} {g : Gathered} {l′ : List ℕ} (el : l ≡ lineIn p) (en : n ≡ startedIn p) (w : Gathers l n bs g l′) where
+  the-line : l′ ≡ lineWith p bs
+  the-line = w .filled ∙ rw (el, en)
+
+  the-count : g .n ≡ grown p bs
+  the-count = ap (λ (x : Gathered). x .n) (w .answer) ∙ rw en
+
+  pub gathered-within : startedIn p ≤ LINE → g .n ≤ LINE
+  gathered-within h = let e = the-count in let k = length-take (LINE - startedIn p) (front bs) in omega arith
+
+  pub gathered-length : Proper p → length l′ ≡ LINE
+  gathered-length h =
+      let e = h .long in
+      let f = h .few in
+      let d = length-drop 2 p in
+      let k = length-take (LINE - startedIn p) (front bs) in
+      ap length the-line ∙ length-splice (lineIn p) (startedIn p) (kept (startedIn p) bs) (omega arith) ∙ omega arith
+
+  the-used : g .used ≡ used bs
+  the-used = ap (λ (x : Gathered). x .used) (w .answer)
+
+  the-ended : ended bs ≡ g .ended
+  the-ended = sym (ap (λ (x : Gathered). x .ended) (w .answer))
+
+  -- the line goes on
+  pub open-moves : {p′ st tb out : List ℕ} → g .ended ≡ false → p′ ≡ portOf (g .n) l′
+      → Moves (lineFed p bs) (portFed p bs) (used bs) st tb out (g .used) 0 p′ st tb out
+  unfolding lineFed portFed
+  open-moves z k =
+      rw (the-ended ∙ z)
+      (record {
+        used = the-used;
+        port = k ∙ rw (the-count, the-line);
+        answers = record { count = refl; state = refl; table = refl; bytes = refl };
+      })
+
+  -- it has ended
+  pub ended-moves : {p′ st tb out : List ℕ} {k : ℕ} {st′ tb′ out′ : List ℕ} → g .ended ≡ true → p′ ≡ portOf 0 l′ → Tells (take (g .n) l′) st tb out k st′ tb′ out′
+      → Moves (lineFed p bs) (portFed p bs) (used bs) st tb out (g .used) k p′ st′ tb′ out′
+  unfolding lineFed portFed
+  ended-moves z k t =
+      rw (the-ended ∙ z)
+      (record { used = the-used; port = k ∙ rw the-line; answers = rw (the-count, the-line) at t })
+
+-- ---- the end
+
+pub none-moves : (p : List ℕ) {st tb out : List ℕ} → Proper p → startedIn p ≡ 0 → Moves (lineLast p) (portLast p) 0 st tb out 0 0 p st tb out
+unfolding lineLast
+none-moves p h z =
+    rw (eq-eqb (startedIn p) 0 z)
+    (record {
+      used = refl;
+      port = sym (port-again p h) ∙ ap (λ (x : ℕ). portOf x (lineIn p)) z;
+      answers = record { count = refl; state = refl; table = refl; bytes = refl };
+    })
+
+pub last-moves : (p : List ℕ) {l st tb out : List ℕ} {n k : ℕ} {p′ st′ tb′ out′ : List ℕ} → l ≡ lineIn p → n ≡ startedIn p → (startedIn p ≡ 0 → ⊥) → p′ ≡ portOf 0 l
+    → Tells (take n l) st tb out k st′ tb′ out′ → Moves (lineLast p) (portLast p) 0 st tb out 0 k p′ st′ tb′ out′
+unfolding lineLast
+last-moves p el en h q t = rw (ne-eqb (startedIn p) 0 h) (record { used = refl; port = q ∙ rw el; answers = rw (en, el) at t })
