@@ -1,7 +1,7 @@
 -- How the calls meet their promises, case by case; no second outcome fits; what is refused moves nothing, nor does an empty fragment;
 -- what a call counts stays within what was lent. Assumes nothing.
 use Prim.Native.Nat.{ℕ, _+_, _-_, _≤_}
-use mathlib.Core.Path.{_≡_, refl, ap, sym, subst, _∙_}
+use mathlib.Core.Path.{_≡_, refl, ap, ap₂, sym, _∙_}
 use mathlib.Core.Bool.{Bool, true, false}
 use mathlib.Core.List.{List, [], _++_}
 use mathlib.Core.Option.{Option, none, some}
@@ -10,13 +10,14 @@ use native.Mathlib.Nat.{add-zero}
 use borrow.Author.Tests.{eqb-true, eqb-false, eq-eqb, ne-eqb}
 use lib.Dec.{eqb}
 use lib.ListN.{length, take, drop, length-take, length-drop}
-use lib.Seq.{take-at}
+use lib.Seq.{take-at, take-nil}
 use Rattle.machine.specs.Lists.{if_then_else_}
 use Rattle.memory.specs.Splice.{splice}
 use Rattle.memory.proofs.Splice.{splice-none, length-splice}
 use Rattle.frames.specs.declared.Gathered.{Gathered}
 use Rattle.frames.specs.Frames.{LINE, front, ended, used, kept, Gathers}
 use Rattle.frames.proofs.Lumps.{used-within}
+use Rattle.sizes.specs.Sizes.{ROOM}
 use Rattle.port.specs.Port.{startedIn, lineIn, portOf, refusal}
 use Rattle.port.proofs.Laws.{Proper, allowed, port-again}
 use Rattle.hearing.specs.Hearing.{Tells}
@@ -116,3 +117,109 @@ pub last-moves : (p : List ℕ) {l st tb out : List ℕ} {n k : ℕ} {p′ st′
     → Tells (take n l) st tb out k st′ tb′ out′ → Moves (lineLast p) (portLast p) 0 st tb out 0 k p′ st′ tb′ out′
 unfolding lineLast
 last-moves p el en h q t = rw (ne-eqb (startedIn p) 0 h) (record { used = refl; port = q ∙ rw el; answers = rw (en, el) at t })
+
+-- ---- refused, or not
+
+-- a number is 0, or not
+none-or-not {ℓ} : {R : Type ℓ} (n : ℕ) → (n ≡ 0 → R) → ((n ≡ 0 → ⊥) → R) → R
+none-or-not {R = R} n y z = go (eqb n 0) refl
+  where
+    go : (b : Bool) → eqb n 0 ≡ b → R
+    go true e = y (eqb-true n 0 e)
+    go false e = z (eqb-false n 0 e)
+
+-- ---- no second outcome fits
+
+-- the same answer, the same numbers and the same bytes
+pub record SameCall (e e₂ u u₂ n n₂ : ℕ) (p p₂ st st₂ tb tb₂ out out₂ : List ℕ) : Type 0 where
+  pub error : e ≡ e₂
+  pub used : u ≡ u₂
+  pub written : n ≡ n₂
+  pub port : p ≡ p₂
+  pub state : st ≡ st₂
+  pub table : tb ≡ tb₂
+  pub output : out ≡ out₂
+
+one-silence : {st tb out : List ℕ} {n n₂ : ℕ} {st₁ st₂ tb₁ tb₂ out₁ out₂ : List ℕ} → Silent st tb out n st₁ tb₁ out₁ → Silent st tb out n₂ st₂ tb₂ out₂
+    → Same n n₂ st₁ st₂ tb₁ tb₂ out₁ out₂
+one-silence a b =
+    record {
+      count = a .count ∙ sym (b .count);
+      state = a .state ∙ sym (b .state);
+      table = a .table ∙ sym (b .table);
+      output = a .bytes ∙ sym (b .bytes);
+    }
+
+one-answering : (o : Option (List ℕ)) (st tb out : List ℕ) {n n₂ : ℕ} {st₁ st₂ tb₁ tb₂ out₁ out₂ : List ℕ} → Answers o st tb out n st₁ tb₁ out₁
+    → Answers o st tb out n₂ st₂ tb₂ out₂ → Same n n₂ st₁ st₂ tb₁ tb₂ out₁ out₂
+one-answering none st tb out a b = one-silence a b
+one-answering (some l) st tb out a b = one-telling a b
+
+module _ {p st tb out : List ℕ} {e e₂ u u₂ n n₂ : ℕ} {p₁ p₂ st₁ st₂ tb₁ tb₂ out₁ out₂ : List ℕ} where
+  one-porting : {o : Option (List ℕ)} {q : List ℕ} {v : ℕ} → Ported o q v p st tb out e u n p₁ st₁ tb₁ out₁ → Ported o q v p st tb out e₂ u₂ n₂ p₂ st₂ tb₂ out₂
+      → SameCall e e₂ u u₂ n n₂ p₁ p₂ st₁ st₂ tb₁ tb₂ out₁ out₂
+  one-porting {o} c d =
+      none-or-not (refusal p (length out))
+      (λ z. let x = c .served z in let y = d .served z in same (x .used ∙ sym (y .used)) (x .port ∙ sym (y .port)) (one-answering o st tb out (x .answers) (y .answers)))
+      (λ z. let x = c .refused z in let y = d .refused z in same (x .used ∙ sym (y .used)) (x .port ∙ sym (y .port)) (one-silence (x .silent) (y .silent)))
+    where
+      same : u ≡ u₂ → p₁ ≡ p₂ → Same n n₂ st₁ st₂ tb₁ tb₂ out₁ out₂ → SameCall e e₂ u u₂ n n₂ p₁ p₂ st₁ st₂ tb₁ tb₂ out₁ out₂
+      same a b s =
+          record { error = c .error ∙ sym (d .error); used = a; written = s .count; port = b; state = s .state; table = s .table; output = s .output }
+
+-- of a fragment
+pub one-feed : (bs p : List ℕ) {st tb out : List ℕ} {e e₂ u u₂ n n₂ : ℕ} {p₁ p₂ st₁ st₂ tb₁ tb₂ out₁ out₂ : List ℕ} → Feeds bs p st tb out e u n p₁ st₁ tb₁ out₁
+    → Feeds bs p st tb out e₂ u₂ n₂ p₂ st₂ tb₂ out₂ → SameCall e e₂ u u₂ n n₂ p₁ p₂ st₁ st₂ tb₁ tb₂ out₁ out₂
+one-feed bs p c d = one-porting c d
+
+-- of the end
+pub one-feed-end : (p : List ℕ) {st tb out : List ℕ} {e e₂ n n₂ : ℕ} {p₁ p₂ st₁ st₂ tb₁ tb₂ out₁ out₂ : List ℕ} → Ends p st tb out e n p₁ st₁ tb₁ out₁
+    → Ends p st tb out e₂ n₂ p₂ st₂ tb₂ out₂ → SameCall e e₂ 0 0 n n₂ p₁ p₂ st₁ st₂ tb₁ tb₂ out₁ out₂
+one-feed-end p c d = one-porting c d
+
+-- ---- what is refused moves nothing
+
+module _ {o : Option (List ℕ)} {q : List ℕ} {v : ℕ} {p st tb out : List ℕ} {e u n : ℕ} {p′ st′ tb′ out′ : List ℕ} (c : Ported o q v p st tb out e u n p′ st′ tb′ out′) where
+  pub refused-still : (e ≡ 0 → ⊥) → Still p st tb out u n p′ st′ tb′ out′
+  refused-still h = c .refused (λ z. h (c .error ∙ z))
+
+  -- what is not refused had a port and room
+  pub served-lent : e ≡ 0 → Proper p × (ROOM ≤ length out)
+  served-lent z = allowed p (length out) (sym (c .error) ∙ z)
+
+  -- the output of a line at most: it has its room
+  pub few-written : n ≤ ROOM
+  few-written =
+      none-or-not (refusal p (length out))
+      (λ z. go o (c .served z .answers))
+      (λ z. let k = c .refused z .silent .count in omega arith)
+    where
+      go : (o : Option (List ℕ)) → Answers o st tb out n st′ tb′ out′ → n ≤ ROOM
+      go none a = let k = a .count in omega arith
+      go (some l) a = told-few a
+
+none-kept : (n : ℕ) → kept n [] ≡ []
+unfolding front
+none-kept n = take-nil (LINE - n)
+
+none-more : (p : List ℕ) → grown p [] ≡ startedIn p
+none-more p = ap (λ (x : List ℕ). startedIn p + length x) (none-kept (startedIn p)) ∙ add-zero (startedIn p)
+
+none-put : (p : List ℕ) → lineWith p [] ≡ lineIn p
+none-put p = ap (splice (lineIn p) (startedIn p)) (none-kept (startedIn p)) ∙ splice-none (lineIn p) (startedIn p)
+
+-- "some of them with no bytes": an empty fragment changes nothing
+pub empty-still : (p : List ℕ) {st tb out : List ℕ} {e u n : ℕ} {p′ st′ tb′ out′ : List ℕ} → Feeds [] p st tb out e u n p′ st′ tb′ out′ → Still p st tb out u n p′ st′ tb′ out′
+unfolding lineFed portFed ended used front
+empty-still p {out = out} c =
+    none-or-not (refusal p (length out))
+    (λ z. let m = c .served z in
+    let h = allowed p (length out) z .0 in
+    record { used = m .used; port = m .port ∙ ap₂ portOf (none-more p) (none-put p) ∙ port-again p h; silent = m .answers })
+    (λ z. c .refused z)
+
+-- no more than the fragment is used
+pub few-used : (bs p : List ℕ) {st tb out : List ℕ} {e u n : ℕ} {p′ st′ tb′ out′ : List ℕ} → Feeds bs p st tb out e u n p′ st′ tb′ out′ → u ≤ length bs
+few-used bs p {out = out} c =
+    let k = used-within bs in
+    none-or-not (refusal p (length out)) (λ z. let m = c .served z .used in omega arith) (λ z. let m = c .refused z .used in omega arith)

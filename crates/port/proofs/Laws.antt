@@ -87,9 +87,12 @@ module _ (p : List ℕ) (room : ℕ) where
   unfolding refusal
   allowed e =
       by-test (isPort p)
-      (λ t. (proper p t, by-test (ltb room ROOM)
-      (λ u. absurd (let z : _≡_ {A = ℕ} 12 0 = rw (test-true (isPort p) t, test-true (ltb room ROOM) u) at e in omega arith))
-      (λ u. ltb-false room ROOM (test-false (ltb room ROOM) u))))
+      (λ t. (
+        proper p t,
+        by-test (ltb room ROOM)
+            (λ u. absurd (let z : _≡_ {A = ℕ} 12 0 = rw (test-true (isPort p) t, test-true (ltb room ROOM) u) at e in omega arith))
+            (λ u. ltb-false room ROOM (test-false (ltb room ROOM) u)),
+      ))
       (λ t. absurd (let z : _≡_ {A = ℕ} 1 0 = rw (test-false (isPort p) t) at e in omega arith))
 
 -- a port is the port of its parts
