@@ -121,7 +121,7 @@ last-moves p el en h q t = rw (ne-eqb (startedIn p) 0 h) (record { used = refl; 
 -- ---- refused, or not
 
 -- a number is 0, or not
-none-or-not {ℓ} : {R : Type ℓ} (n : ℕ) → (n ≡ 0 → R) → ((n ≡ 0 → ⊥) → R) → R
+pub none-or-not {ℓ} : {R : Type ℓ} (n : ℕ) → (n ≡ 0 → R) → ((n ≡ 0 → ⊥) → R) → R
 none-or-not {R = R} n y z = go (eqb n 0) refl
   where
     go : (b : Bool) → eqb n 0 ≡ b → R
