@@ -3,7 +3,7 @@
 use Prim.Native.Nat.{ℕ, _+_, _-_, _≤_}
 use mathlib.Core.Path.{_≡_, refl, ap, ap₂, sym, _∙_}
 use mathlib.Core.Bool.{Bool, true, false}
-use mathlib.Core.List.{List, [], _++_}
+use mathlib.Core.List.{List, [], _∷_}
 use mathlib.Core.Option.{Option, none, some}
 use native.Mathlib.Omega.{arith}
 use native.Mathlib.Nat.{add-zero}
@@ -11,18 +11,17 @@ use borrow.Author.Tests.{eqb-true, eqb-false, eq-eqb, ne-eqb}
 use lib.Dec.{eqb}
 use lib.ListN.{length, take, drop, length-take, length-drop}
 use lib.Seq.{take-at, take-nil}
-use Rattle.machine.specs.Lists.{if_then_else_}
 use Rattle.memory.specs.Splice.{splice}
 use Rattle.memory.proofs.Splice.{splice-none, length-splice}
 use Rattle.frames.specs.declared.Gathered.{Gathered}
 use Rattle.frames.specs.Frames.{LINE, front, ended, used, kept, Gathers}
-use Rattle.frames.proofs.Lumps.{used-within}
+use Rattle.frames.proofs.Lumps.{used-within, used-open}
 use Rattle.sizes.specs.Sizes.{ROOM}
 use Rattle.port.specs.Port.{startedIn, lineIn, portOf, refusal}
 use Rattle.port.proofs.Laws.{Proper, allowed, port-again}
 use Rattle.hearing.specs.Hearing.{Tells}
 use Rattle.hearing.proofs.Laws.{Same, one-telling, hears-few}
-use Rattle.fragments.specs.Fragments.{grown, lineWith, lineFed, portFed, lineLast, portLast, Silent, Answers, Still, Moves, Ported, Feeds, Ends}
+use Rattle.fragments.specs.Fragments.{grown, lineWith, lineFed, portFed, lineLast, portLast, Silent, Pours, Says, Answers, Still, Moves, Ported, Feeds, Ends}
 
 -- ---- a line's output
 
@@ -38,24 +37,31 @@ pub told-length : {l st tb out : List ℕ} {n : ℕ} {st′ tb′ out′ : List 
 told-length {out = out} h t = let f = hears-few (t .heard) in ap length (t .bytes) ∙ length-splice out 0 (t .text) (omega arith)
 
 -- copied into another room
-pub poured : {l st tb z out : List ℕ} {n : ℕ} {st′ tb′ z′ out′ : List ℕ} → Tells l st tb z n st′ tb′ z′ → out′ ≡ splice out 0 (take n z′) → Tells l st tb out n st′ tb′ out′
-poured {out = out} t e = record { text = t .text; heard = t .heard; count = t .count; bytes = e ∙ ap (splice out 0) (told-front t) }
+pub poured : (l : List ℕ) (m : ℕ) {st tb z out : List ℕ} {n k : ℕ} {st′ tb′ z′ out′ : List ℕ} → Tells (take m l) st tb z n st′ tb′ z′ → Pours z′ k out out′ → k ≡ n
+    → Says l m st tb out n st′ tb′ out′
+poured l m {out = out} {z′ = z′} t e h =
+    record {
+      tells = record { text = t .text; heard = t .heard; count = t .count; bytes = e .bytes ∙ ap (λ (x : ℕ). splice out 0 (take x z′)) h ∙ ap (splice out 0) (told-front t) };
+    }
 
 -- ---- refused or served
 
 module _ {o : Option (List ℕ)} {q : List ℕ} {v : ℕ} {p st tb out : List ℕ} {e : ℕ} (h : e ≡ refusal p (length out)) where
-  pub is-refused : (e ≡ 0 → ⊥) → Ported o q v p st tb out e 0 0 p st tb out
-  is-refused n =
+  pub is-refused : (e ≡ 0 → ⊥) → {x u w : ℕ} → x ≡ e → u ≡ 0 → w ≡ 0 → Ported o q v p st tb out x u w p st tb out
+  is-refused n y u w =
       record {
-        error = h;
-        refused = λ _. record { used = refl; port = refl; silent = record { count = refl; state = refl; table = refl; bytes = refl } };
+        error = y ∙ h;
+        refused = λ _. record { used = u; port = refl; silent = record { count = w; state = refl; table = refl; bytes = refl } };
         served = λ z. absurd (n (h ∙ z));
       }
 
-  pub is-served : e ≡ 0 → {u n : ℕ} {p′ st′ tb′ out′ : List ℕ} → Moves o q v st tb out u n p′ st′ tb′ out′ → Ported o q v p st tb out 0 u n p′ st′ tb′ out′
-  is-served z m = record { error = sym z ∙ h; refused = λ n. absurd (n (sym h ∙ z)); served = λ _. m }
+  pub is-served : e ≡ 0 → {x u n : ℕ} {p′ st′ tb′ out′ : List ℕ} → x ≡ 0 → Moves o q v st tb out u n p′ st′ tb′ out′ → Ported o q v p st tb out x u n p′ st′ tb′ out′
+  is-served z y m = record { error = y ∙ sym z ∙ h; refused = λ n. absurd (n (sym h ∙ z)); served = λ _. m }
 
 -- ---- a fragment
+
+cons-cons : {a a₂ b b₂ : ℕ} {l l₂ : List ℕ} → a ≡ a₂ → b ≡ b₂ → l ≡ l₂ → a ∷ b ∷ l ≡ a₂ ∷ b₂ ∷ l₂
+cons-cons e f g i = e i ∷ f i ∷ g i
 
 module _ (p bs : List ℕ) {l : List ℕ} {n : ℕ} {g : Gathered} {l′ : List ℕ} (el : l ≡ lineIn p) (en : n ≡ startedIn p) (w : Gathers l n bs g l′) where
   the-line : l′ ≡ lineWith p bs
@@ -75,48 +81,51 @@ module _ (p bs : List ℕ) {l : List ℕ} {n : ℕ} {g : Gathered} {l′ : List 
       let k = length-take (LINE - startedIn p) (front bs) in
       ap length the-line ∙ length-splice (lineIn p) (startedIn p) (kept (startedIn p) bs) (omega arith) ∙ omega arith
 
-  the-used : g .used ≡ used bs
-  the-used = ap (λ (x : Gathered). x .used) (w .answer)
+  pub gathered-used : g .used ≡ used bs
+  gathered-used = ap (λ (x : Gathered). x .used) (w .answer)
 
   the-ended : ended bs ≡ g .ended
   the-ended = sym (ap (λ (x : Gathered). x .ended) (w .answer))
 
   -- the line goes on
-  pub open-moves : {p′ st tb out : List ℕ} → g .ended ≡ false → p′ ≡ portOf (g .n) l′
-      → Moves (lineFed p bs) (portFed p bs) (used bs) st tb out (g .used) 0 p′ st tb out
+  pub open-moves : {p′ st tb out : List ℕ} {u w : ℕ} (m : ℕ) → g .ended ≡ false → u ≡ used bs → w ≡ 0 → m ≡ g .n → p′ ≡ portOf m l′
+      → Moves (lineFed p bs) (portFed p bs) (used bs) st tb out u w p′ st tb out
   unfolding lineFed portFed
-  open-moves z k =
+  open-moves m z u w e k =
       rw (the-ended ∙ z)
       (record {
-        used = the-used;
-        port = k ∙ rw (the-count, the-line);
-        answers = record { count = refl; state = refl; table = refl; bytes = refl };
+        used = u;
+        port = k ∙ ap₂ portOf (e ∙ the-count) the-line;
+        answers = record { count = w; state = refl; table = refl; bytes = refl };
       })
 
+  -- without an LF all of it is used
+  pub open-used : g .ended ≡ false → used bs ≡ length bs
+  open-used z = used-open bs (the-ended ∙ z)
+
   -- it has ended
-  pub ended-moves : {p′ st tb out : List ℕ} {k : ℕ} {st′ tb′ out′ : List ℕ} → g .ended ≡ true → p′ ≡ portOf 0 l′ → Tells (take (g .n) l′) st tb out k st′ tb′ out′
-      → Moves (lineFed p bs) (portFed p bs) (used bs) st tb out (g .used) k p′ st′ tb′ out′
+  pub ended-moves : {p′ st tb out : List ℕ} {u w k a b : ℕ} {st′ tb′ out′ : List ℕ} → g .ended ≡ true → u ≡ used bs → w ≡ k
+      → p′ ≡ a ∷ b ∷ l′ → a ≡ 0 → b ≡ 0 → {j : ℕ} → j ≡ g .n → Says l′ j st tb out k st′ tb′ out′ → Moves (lineFed p bs) (portFed p bs) (used bs) st tb out u w p′ st′ tb′ out′
   unfolding lineFed portFed
-  ended-moves z k t =
-      rw (the-ended ∙ z)
-      (record { used = the-used; port = k ∙ rw the-line; answers = rw (the-count, the-line) at t })
+  ended-moves z u w k ea eb ej t =
+      rw (the-ended ∙ z, w) (record { used = u; port = k ∙ cons-cons ea eb the-line; answers = rw (ej, the-count, the-line) at (t .tells) })
 
 -- ---- the end
 
-pub none-moves : (p : List ℕ) {st tb out : List ℕ} → Proper p → startedIn p ≡ 0 → Moves (lineLast p) (portLast p) 0 st tb out 0 0 p st tb out
+pub none-moves : (p : List ℕ) {st tb out : List ℕ} {w : ℕ} → Proper p → startedIn p ≡ 0 → w ≡ 0 → Moves (lineLast p) (portLast p) 0 st tb out 0 w p st tb out
 unfolding lineLast
-none-moves p h z =
+none-moves p h z w =
     rw (eq-eqb (startedIn p) 0 z)
     (record {
       used = refl;
       port = sym (port-again p h) ∙ ap (λ (x : ℕ). portOf x (lineIn p)) z;
-      answers = record { count = refl; state = refl; table = refl; bytes = refl };
+      answers = record { count = w; state = refl; table = refl; bytes = refl };
     })
 
-pub last-moves : (p : List ℕ) {l st tb out : List ℕ} {n k : ℕ} {p′ st′ tb′ out′ : List ℕ} → l ≡ lineIn p → n ≡ startedIn p → (startedIn p ≡ 0 → ⊥) → p′ ≡ portOf 0 l
-    → Tells (take n l) st tb out k st′ tb′ out′ → Moves (lineLast p) (portLast p) 0 st tb out 0 k p′ st′ tb′ out′
+pub last-moves : (p : List ℕ) {l st tb out : List ℕ} {w k a b : ℕ} {n : ℕ} {p′ st′ tb′ out′ : List ℕ} → l ≡ lineIn p → (startedIn p ≡ 0 → ⊥) → w ≡ k
+    → p′ ≡ a ∷ b ∷ l → a ≡ 0 → b ≡ 0 → n ≡ startedIn p → Says l n st tb out k st′ tb′ out′ → Moves (lineLast p) (portLast p) 0 st tb out 0 w p′ st′ tb′ out′
 unfolding lineLast
-last-moves p el en h q t = rw (ne-eqb (startedIn p) 0 h) (record { used = refl; port = q ∙ rw el; answers = rw (en, el) at t })
+last-moves p el h w q ea eb en t = rw (ne-eqb (startedIn p) 0 h, w) (record { used = refl; port = q ∙ cons-cons ea eb el; answers = rw (en, el) at (t .tells) })
 
 -- ---- refused, or not
 

@@ -4,13 +4,15 @@
 --   grown p bs, lineWith p bs     the started line with a fragment behind it: how many bytes stand, and the bytes
 --   lineFed p bs, portFed p bs    the line that ends in the fragment, if one does; the port after it
 --   lineLast p, portLast p        the last line, if one has started; the port after the end: nothing stands
+--   Pours text k out out′          the first k bytes of a text stand in front of `out`
+--   Says l n ..                   the first n bytes of l are answered, as a line
 --   Answers o ..                  the line o is answered; where there is none, nothing is written and nothing moves
 --   Still ..                      what a refused call leaves: everything as it was, and both numbers 0
 --   Moves o q u ..                what a call leaves that is not refused: the line o answered, the port q, u bytes used
 --   Ported o q u ..               a call by a line, a port and a number of bytes; Feeds, Ends: the promises of `feed` and `feed_end`
 use Prim.Native.Nat.{ℕ, _+_}
 use mathlib.Core.Path.{_≡_}
-use mathlib.Core.List.{List, []}
+use mathlib.Core.List.{List}
 use mathlib.Core.Option.{Option, none, some}
 use lib.Dec.{eqb}
 use lib.ListN.{length, take}
@@ -49,6 +51,12 @@ pub record Silent (st tb out : List ℕ) (n : ℕ) (st′ tb′ out′ : List �
   pub state : st′ ≡ st
   pub table : tb′ ≡ tb
   pub bytes : out′ ≡ out
+
+pub record Pours (text : List ℕ) (k : ℕ) (out out′ : List ℕ) : Type 0 where
+  pub bytes : out′ ≡ splice out 0 (take k text)
+
+pub record Says (l : List ℕ) (n : ℕ) (st tb out : List ℕ) (k : ℕ) (st′ tb′ out′ : List ℕ) : Type 0 where
+  pub tells : Tells (take n l) st tb out k st′ tb′ out′
 
 abbrev pub Answers : Option (List ℕ) → List ℕ → List ℕ → List ℕ → ℕ → List ℕ → List ℕ → List ℕ → Type 0
 Answers none st tb out n st′ tb′ out′ = Silent st tb out n st′ tb′ out′

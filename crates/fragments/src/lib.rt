@@ -1,11 +1,9 @@
 // A log over a slow line: fed a fragment at a time, of any length, in the memory of one line. State, table, port and room are bytes
 // that the caller keeps and lends; nothing is kept here. A call answers one line at most. Neither function asks anything: whatever
 // the bytes are, the answer and every byte lent are determined (specs/Fragments.antt). Assumes nothing.
-ghost use mathlib.Core.Path.{_≡_};
 ghost use Prim.Native.Nat.{_≤_};
-ghost use lib.ListN.{length, take};
-ghost use Rattle.hearing.specs.Hearing.{Tells};
-ghost use Rattle.fragments.specs.Fragments.{Feeds, Ends};
+ghost use lib.ListN.{length};
+ghost use Rattle.fragments.specs.Fragments.{Pours, Says, Feeds, Ends};
 
 // The refusal, or 0; how much of the fragment is used; how much output stands in front of the room.
 pub struct Fed {
@@ -20,15 +18,23 @@ pub struct Ended {
     pub written: usize,
 }
 
+// The first k bytes of a line's output, at the front of the room.
+fn pour(text: &[u8], k: usize, out: &mut [u8])
+    requires { ⌜ (k ≤ length (now text)) × (k ≤ length (now out)) ⌝ }
+    ensures { λ _. ⌜ Pours (now (text .entry)) k (now (out .entry)) (now (out .exit)) ⌝ }
+{
+    memory::copy(out, 0, &text[..k]);
+}
+
 // The first n bytes of the line, as a line.
 fn answer(line: &[u8], n: usize, state: &mut [u8], table: &mut [u8], out: &mut [u8]) -> usize
     requires { ⌜ (n ≤ length (now line)) × (973 ≤ length (now out)) ⌝ }
-    ensures { λ k. ⌜ Tells (take n (now (line .entry))) (now (state .entry)) (now (table .entry)) (now (out .entry))
+    ensures { λ k. ⌜ Says (now (line .entry)) n (now (state .entry)) (now (table .entry)) (now (out .entry))
         k (now (state .exit)) (now (table .exit)) (now (out .exit)) ⌝ }
 {
     let mut text = [0u8; 973];
     let k = hearing::hear(&line[..n], state, table, &mut text);
-    memory::copy(out, 0, &text[..k]);
+    pour(&text, k, out);
     k
 }
 
@@ -78,9 +84,12 @@ pub fn feed_end(port: &mut [u8], state: &mut [u8], table: &mut [u8], out: &mut [
     ensures { λ r. ⌜ Ends (now (port .entry)) (now (state .entry)) (now (table .entry)) (now (out .entry))
         (r .error) (r .written) (now (port .exit)) (now (state .exit)) (now (table .exit)) (now (out .exit)) ⌝ }
 {
-    let error = port::refusal(port, out.len());
-    if error != 0 {
-        return Ended { error, written: 0 };
+    let refused = port::refusal(port, out.len());
+    if refused != 0 {
+        return Ended {
+            error: refused,
+            written: 0,
+        };
     }
     let n = port::started(port);
     if n == 0 {
@@ -89,8 +98,11 @@ pub fn feed_end(port: &mut [u8], state: &mut [u8], table: &mut [u8], out: &mut [
             written: 0,
         };
     }
-    let line = port::line_in(port);
-    port::keep(port, 0, &line);
-    let written = answer(&line, n, state, table, out);
-    Ended { error: 0, written }
+    let last = port::line_in(port);
+    port::keep(port, 0, &last);
+    let told = answer(&last, n, state, table, out);
+    Ended {
+        error: 0,
+        written: told,
+    }
 }

@@ -3,7 +3,7 @@
 use Prim.Native.Nat.{ℕ, _≤_}
 use mathlib.Core.Path.{_≡_, refl, ap, sym, subst, _∙_}
 use mathlib.Core.Bool.{Bool, true, false}
-use mathlib.Core.List.{List, [], _∷_}
+use mathlib.Core.List.{List}
 use mathlib.Core.Option.{Option, none, some}
 use native.Mathlib.Omega.{arith}
 use lib.Dec.{T}
@@ -12,14 +12,14 @@ use Rattle.machine.specs.State.{Call as CallM}
 use Rattle.machine.specs.Log.{line, answerLine, unhex, frame, feed}
 use Rattle.memory.specs.Splice.{splice}
 use Rattle.board.specs.declared.Board.{Board}
-use Rattle.board.specs.Board.{stateIn, Held}
+use Rattle.board.specs.Board.{Held}
 use Rattle.image.specs.Image.{imageOf, stateOf, isWhole, Whole, Saved}
 use Rattle.image.proofs.Round.{imageOf-stateOf, one-image}
 use Rattle.arbiter.proofs.Outcome.{held-or-not}
 use Rattle.feeding.specs.declared.Fed.{Fed}
 use Rattle.feeding.specs.Feeding.{Feeds, unheard, Unheard, FeedsAny}
 use Rattle.feeding.proofs.Laws.{feed-few}
-use Rattle.hearing.specs.Hearing.{Kept, heldIn, Served, Unserved, Hears, Tells}
+use Rattle.hearing.specs.Hearing.{Kept, heldIn, Hears, Tells}
 
 -- ---- whether the bytes hold a sound state
 
@@ -39,17 +39,17 @@ kept-or-not st tb y z =
 -- ---- a line
 
 -- on bytes that hold no struct
-pub unread-tells : {st tb l out : List ℕ} {s : Board} {f : Fed} {out′ : List ℕ} → (Whole st → ⊥) → Unheard s l out f out′ → Tells l st tb out (f .n) st tb out′
-unread-tells {l = l} n u =
+pub unread-tells : {st tb l out : List ℕ} {s : Board} {f : Fed} {out′ : List ℕ} {w : ℕ} → (Whole st → ⊥) → Unheard s l out f out′ → w ≡ f .n → Tells l st tb out w st tb out′
+unread-tells {l = l} n u e =
     record {
       text = unheard (frame (unhex l));
       heard = record { sound = λ k. absurd (n (k .whole)); unsound = λ _. record { output = refl; state = refl; table = refl } };
-      count = u .count;
+      count = e ∙ u .count;
       bytes = u .bytes;
     }
 
-module _ {st tb l out : List ℕ} {f : Fed} {st′ tb′ out′ : List ℕ} (w : Whole st) (v : Saved (f .state) st′) where
-  heard-tells : Held (stateOf st) tb → Feeds (stateOf st) tb l out f tb′ out′ → Tells l st tb out (f .n) st′ tb′ out′
+module _ {st tb l out : List ℕ} {f : Fed} {st′ tb′ out′ : List ℕ} {r : ℕ} (w : Whole st) (v : Saved (f .state) st′) (e : r ≡ f .n) where
+  heard-tells : Held (stateOf st) tb → Feeds (stateOf st) tb l out f tb′ out′ → Tells l st tb out r st′ tb′ out′
   heard-tells h t =
       record {
         text = feed (heldIn st tb) l .output;
@@ -58,11 +58,11 @@ module _ {st tb l out : List ℕ} {f : Fed} {st′ tb′ out′ : List ℕ} (w :
               sound = λ _. record { output = refl; state = subst (λ (b : Board). Saved b st′) (t .struct) v; table = t .table };
               unsound = λ n. absurd (n (record { whole = w; held = h }));
             };
-        count = t .count;
+        count = e ∙ t .count;
         bytes = t .bytes;
       }
 
-  unheard-tells : (Held (stateOf st) tb → ⊥) → Unheard (stateOf st) l out f out′ × (tb′ ≡ tb) → Tells l st tb out (f .n) st′ tb′ out′
+  unheard-tells : (Held (stateOf st) tb → ⊥) → Unheard (stateOf st) l out f out′ × (tb′ ≡ tb) → Tells l st tb out r st′ tb′ out′
   unheard-tells n u =
       record {
         text = unheard (frame (unhex l));
@@ -71,12 +71,12 @@ module _ {st tb l out : List ℕ} {f : Fed} {st′ tb′ out′ : List ℕ} (w :
               sound = λ k. absurd (n (k .held));
               unsound = λ _. record { output = refl; state = v .bytes ∙ ap imageOf (u .0 .state) ∙ imageOf-stateOf st w; table = u .1 };
             };
-        count = u .0 .count;
+        count = e ∙ u .0 .count;
         bytes = u .0 .bytes;
       }
 
   -- on the struct that they hold
-  pub read-tells : FeedsAny (stateOf st) tb l out f tb′ out′ → Tells l st tb out (f .n) st′ tb′ out′
+  pub read-tells : FeedsAny (stateOf st) tb l out f tb′ out′ → Tells l st tb out r st′ tb′ out′
   read-tells t = held-or-not (stateOf st) tb (λ h. heard-tells h (t .sound h)) (λ n. unheard-tells n (t .unsound n))
 
 -- ---- no second outcome fits

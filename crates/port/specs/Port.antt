@@ -6,13 +6,13 @@
 --   portOf n l         the port of a line of which n bytes stand
 --   isPort p           529 bytes, each below 256, of which at most 527 stand
 --   BADPORT, TOOSMALL  1 and 12
---   refusal p room     why a call with this port and so much room is refused, or 0
+--   refusalFor, refusal p room   why a call with this port and so much room is refused, or 0
 use Prim.Native.Nat.{ℕ}
-use mathlib.Core.Bool.{Bool, _&&_}
+use mathlib.Core.Bool.{Bool, true, false, _&&_}
 use mathlib.Core.List.{List, _++_}
-use lib.Dec.{eqb, leb, ltb}
+use lib.Dec.{eqb, leb}
 use lib.ListN.{length, drop}
-use Rattle.machine.specs.Lists.{if_then_else_, all}
+use Rattle.machine.specs.Lists.{all}
 use Rattle.image.specs.Image.{keyBytes, keyAt, isByte}
 use Rattle.frames.specs.Frames.{LINE}
 use Rattle.sizes.specs.Sizes.{PORT, ROOM}
@@ -36,6 +36,12 @@ BADPORT = 1
 abbrev pub TOOSMALL : ℕ
 TOOSMALL = 12
 
--- no port, then no room for one line's output
+-- by whether it is a port, and whether the room is enough for one line's output: no port comes first
+abbrev pub refusalFor : Bool → Bool → ℕ
+refusalFor true true = 0
+refusalFor true false = TOOSMALL
+refusalFor false true = BADPORT
+refusalFor false false = BADPORT
+
 unfoldable pub refusal : List ℕ → ℕ → ℕ
-refusal p room = if isPort p then (if ltb room ROOM then TOOSMALL else 0) else BADPORT
+refusal p room = refusalFor (isPort p) (leb ROOM room)

@@ -1,12 +1,12 @@
 -- Every sound state has its bytes: each number of it fits, and no queue of it has more than 64 ids. Assumes nothing.
 use Prim.Native.Nat.{ℕ, zero, suc, _+_, _-_, _/_, _%_, _≤_, _<_}
-use mathlib.Core.Path.{_≡_, refl, ap, sym, _∙_}
+use mathlib.Core.Path.{refl, ap, _∙_}
 use mathlib.Core.Bool.{Bool, true, false, not, _&&_}
 use mathlib.Core.List.{List, [], _∷_, _++_, map}
 use native.Mathlib.Omega.{arith}
 use lib.Dec.{T, eqb, leb, ltb, eqb→eq, leb→le, ltb→lt, lt→ltb}
 use lib.ListN.{length, replicate, length-append, length-map}
-use Rattle.machine.specs.Lists.{if_then_else_, all}
+use Rattle.machine.specs.Lists.{all}
 use Rattle.machine.specs.State.{State as StateM, Channel as ChannelM, Lock, Request, isFree}
 use Rattle.machine.specs.Sound.{soundChannel, writesOf, ids}
 use Rattle.machine.proofs.Tests.{by-test, test-true, test-false, and-left, and-right, and-both}

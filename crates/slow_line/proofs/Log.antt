@@ -1,21 +1,19 @@
 -- From a sound state a log taken in one is the machine's `run`, since a sound state is followed by a sound one; so a log over a slow
 -- line is the machine's log. A line of more than 526 characters is malformed however it was cut. Assumes nothing.
-use Prim.Native.Nat.{ℕ, _≤_, _<_}
+use Prim.Native.Nat.{ℕ, _<_}
 use mathlib.Core.Path.{_≡_, refl, ap, ap₂, sym, subst, _∙_}
 use mathlib.Core.Bool.{false}
 use mathlib.Core.List.{List, [], _∷_, _++_}
 use mathlib.Core.Option.{none}
-use native.Mathlib.Omega.{arith}
 use lib.Dec.{T}
 use lib.ListN.{length, take}
 use Rattle.machine.specs.State.{State as StateM, frees, freshOn}
-use Rattle.machine.specs.Log.{Fed as FedM, lines, unhex, frame, feed, outcomeOf, told, run, log}
+use Rattle.machine.specs.Log.{Fed as FedM, lines, feed, run, log}
 use Rattle.machine_laws.proofs.Sound.{parts}
 use Rattle.store.specs.Store.{tableOf}
-use Rattle.board.specs.declared.Board.{Board}
-use Rattle.board.specs.Board.{sized, structOf, stateIn, Held}
+use Rattle.board.specs.Board.{sized, structOf}
 use Rattle.board.proofs.Laws.{held-next}
-use Rattle.image.specs.Image.{STATE, imageOf, stateOf, Whole, Saved}
+use Rattle.image.specs.Image.{STATE, imageOf, stateOf}
 use Rattle.image.proofs.Round.{imageOf-stateOf, stateOf-imageOf}
 use Rattle.frames.proofs.Laws.{long-line-malformed}
 use Rattle.frames.proofs.Lumps.{Stands}
@@ -25,7 +23,7 @@ use Rattle.taking.specs.Desk.{logShown}
 use Rattle.taking.proofs.Kept.{held-fine, feed-fine}
 use Rattle.whole_log.specs.Whole.{joined}
 use Rattle.whole_log.proofs.Whole.{log-hidden}
-use Rattle.sizes.specs.Sizes.{TABLE, PORT, ROOM}
+use Rattle.sizes.specs.Sizes.{TABLE}
 use Rattle.starting.specs.Starting.{Started}
 use Rattle.boundary.proofs.Crossing.{fresh-after}
 use Rattle.port.specs.Port.{startedIn}

@@ -1,8 +1,7 @@
 -- For every log, and every cut of it into fragments, there is a run, and it ends: each call with a room for one line's output uses some of
 -- the fragment. Assumes nothing.
 use Prim.Native.Nat.{ℕ, zero, suc, _+_, _-_, _≤_, _<_}
-use mathlib.Core.Path.{_≡_, refl, ap, sym, subst, _∙_}
-use mathlib.Core.Bool.{Bool, true, false}
+use mathlib.Core.Path.{_≡_, refl, ap, sym, _∙_}
 use mathlib.Core.List.{List, [], _∷_, _++_}
 use mathlib.Core.Option.{Option, none, some}
 use native.Mathlib.Omega.{arith}
@@ -129,10 +128,10 @@ room-long = let e = length-replicate {A = ℕ} ROOM 0 in omega arith
 
 module _ (p st tb : List ℕ) (h : Proper p) where
   feed-made : (bs : List ℕ) (a : Answered (lineFed p bs) st tb room₀) → Feeds bs p st tb room₀ 0 (used bs) (a .n) (portFed p bs) (a .st′) (a .tb′) (a .room′)
-  feed-made bs a = is-served (no-refusal p (length room₀) h room-long) refl (record { used = refl; port = refl; answers = a .answers })
+  feed-made bs a = is-served (no-refusal p (length room₀) h room-long) refl refl (record { used = refl; port = refl; answers = a .answers })
 
   end-made : (a : Answered (lineLast p) st tb room₀) → Ends p st tb room₀ 0 (a .n) (portLast p) (a .st′) (a .tb′) (a .room′)
-  end-made a = is-served (no-refusal p (length room₀) h room-long) refl (record { used = refl; port = refl; answers = a .answers })
+  end-made a = is-served (no-refusal p (length room₀) h room-long) refl refl (record { used = refl; port = refl; answers = a .answers })
 
 -- a call that is not refused uses some of a fragment that has any bytes
 pub progress : (bs p : List ℕ) {st tb room : List ℕ} {u n : ℕ} {p′ st′ tb′ room′ : List ℕ} → Feeds bs p st tb room 0 u n p′ st′ tb′ room′ → 0 < length bs → 0 < u

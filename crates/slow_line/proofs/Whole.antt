@@ -1,32 +1,31 @@
 -- However a log is cut, a line is answered as it stands whole: what is kept of it in the port reads as the line itself. So a run of
 -- calls is the log taken in one, and that has one outcome. Assumes nothing.
-use Prim.Native.Nat.{ℕ, _+_, _≤_, _<_}
+use Prim.Native.Nat.{ℕ, _≤_}
 use mathlib.Core.Path.{_≡_, refl, ap, ap₂, sym, subst, _∙_}
-use mathlib.Core.Bool.{Bool, true, false}
-use mathlib.Core.List.{List, [], _∷_, _++_, append-assoc, append-nil}
+use mathlib.Core.Bool.{true, false}
+use mathlib.Core.List.{List, [], _∷_, _++_, append-nil}
 use mathlib.Core.Option.{Option, none, some}
 use native.Mathlib.Omega.{arith}
-use borrow.Author.Tests.{eqb-true, eqb-false, eq-eqb, ne-eqb}
+use borrow.Author.Tests.{eq-eqb, ne-eqb}
 use lib.Dec.{T, eqb}
 use lib.ListN.{length, take, drop, drop-of-length-le}
-use Rattle.machine.specs.Lists.{if_then_else_}
 use Rattle.machine.specs.State.{State as StateM}
-use Rattle.machine.specs.Log.{Fed as FedM, lines, unhex, frame, feed, run}
+use Rattle.machine.specs.Log.{Fed as FedM, lines, unhex, frame, feed}
 use Rattle.machine.proofs.Tests.{by-test, test-true, test-false}
 use Rattle.board.specs.Board.{structOf}
 use Rattle.store.specs.Store.{tableOf}
 use Rattle.image.specs.Image.{Saved}
-use Rattle.frames.specs.Frames.{LINE, front, ended, used, kept, gatheredOf, Gathers}
-use Rattle.frames.proofs.Lumps.{Stands, stands-none, stands-more, stands-frame, stands-feed, stands-within, front-open, used-open, lines-none, lines-last, lines-step, lines-on}
+use Rattle.frames.specs.Frames.{LINE, front, ended, used, gatheredOf, Gathers}
+use Rattle.frames.proofs.Lumps.{Stands, stands-none, stands-more, stands-frame, stands-feed, front-open, used-open, lines-none, lines-last, lines-step, lines-on}
 use Rattle.feeding.specs.Feeding.{unheard}
 use Rattle.port.specs.Port.{startedIn, lineIn, portOf, refusal}
-use Rattle.port.proofs.Laws.{started-back, line-back}
-use Rattle.hearing.specs.Hearing.{Kept, heldIn, Served, Unserved, Hears, Tells}
+use Rattle.port.proofs.Laws.{started-back}
+use Rattle.hearing.specs.Hearing.{heldIn, Hears, Tells}
 use Rattle.hearing.proofs.Laws.{one-hearing}
-use Rattle.fragments.specs.Fragments.{grown, lineWith, lineFed, portFed, lineLast, portLast, Silent, Answers, Still, Moves, Ported, Feeds, Ends}
+use Rattle.fragments.specs.Fragments.{grown, lineWith, lineFed, portFed, lineLast, portLast, Silent, Answers, Still, Moves, Feeds, Ends}
 use Rattle.fragments.proofs.Laws.{told-front, none-or-not}
 use Rattle.whole_log.specs.Whole.{joined}
-use Rattle.slow_line.specs.Slow.{Heard, none as no-line, more, Ran, feeds, used-up, ends, over, Came}
+use Rattle.slow_line.specs.Slow.{Heard, none as no-line, more, Ran, feeds, used-up, ends, over}
 
 -- ---- a line that is cut is heard as it is whole
 

@@ -1,16 +1,11 @@
--- `answer` meets its contract: the line's output, as far as it is counted, is copied into the room. Assumes nothing.
+-- `answer` meets its contract: the line's output, as far as it is counted, is put into the room. Assumes nothing.
 use mathlib.Core.Path.{sym}
 use native.Mathlib.Omega.{arith}
-use lib.ListN.{length-take}
 use lib.Seq.{length-take-le}
 use Rattle.fragments.proofs.Laws.{told-few, told-length, poured}
 use borrow.Author.Needs.{needs}
 use Rattle.fragments.proofs.answer.Statement.{statement}
 use Rattle.fragments.proofs.answer.Tie as tie
-use Rattle.fragments.proofs.answer.Reads as reads
-use Rattle.fragments.proofs.answer.Lts as lts
-use Rattle.hearing.proofs.hear.Reads as hear-reads
-use Rattle.memory.proofs.copy.Reads as copy-reads
 
 slice-aggregate-hear : tie.Need-slice-aggregate-hear
 slice-aggregate-hear c = sym (length-take-le _ _ (c .before .before .before .before .before .pre .0))
@@ -18,27 +13,16 @@ slice-aggregate-hear c = sym (length-take-le _ _ (c .before .before .before .bef
 hear-requires : tie.Need-hear-requires
 hear-requires c κs = search needs
 
-array-share-prefix-text : tie.Need-array-share-prefix-text
-array-share-prefix-text c =
-    let t = c .before .before .before .before .before .hear .ensures in
-    let k = told-few t in
-    let g = told-length (omega arith) t in
-    omega arith
+slice-aggregate-pour : tie.Need-slice-aggregate-pour
+slice-aggregate-pour c = sym (told-length (omega arith) (c .before .before .before .before .before .hear .ensures))
 
-slice-aggregate-copy : tie.Need-slice-aggregate-copy
-slice-aggregate-copy c =
+pour-requires : tie.Need-pour-requires
+pour-requires c κs =
     let t = c .before .before .before .before .before .before .hear .ensures in
     let k = told-few t in
     let g = told-length (omega arith) t in
-    sym (length-take-le _ _ (omega arith))
-
-copy-requires : tie.Need-copy-requires
-copy-requires c κs =
-    let t = c .before .before .before .before .before .before .hear in
-    let k = told-few (t .ensures) in
-    let l = length-take (t .result) (t .last .1 .1 .1 .0) in
     let r = c .before .before .before .before .before .before .before .before .before .before .before .before .before .before .before .pre .1 in
-    omega arith
+    (omega arith, omega arith)
 
 same-length : tie.Need-same-length
 same-length c = search needs
@@ -50,7 +34,11 @@ same-length-3 : tie.Need-same-length-3
 same-length-3 c = search needs
 
 returns : tie.Need-returns
-returns c = poured (c .before .before .before .before .before .before .before .before .before .hear .ensures) (c .before .before .copy .ensures)
+returns c =
+    let a = c .before .before .before .before .before .before .before .before .before .before .before .before .before .before .before .before .before .before .args in
+    let t = c .before .before .before .before .before .before .before .before .before .hear .ensures in
+    let k = told-few t in
+    poured (a .line .now) (a .n) t (c .before .before .pour .ensures) (omega arith)
 
 pub answer-spec : {M : Type 1} → statement M
 answer-spec =
@@ -58,9 +46,8 @@ answer-spec =
     (tie.spec
     slice-aggregate-hear
     hear-requires
-    array-share-prefix-text
-    slice-aggregate-copy
-    copy-requires
+    slice-aggregate-pour
+    pour-requires
     same-length
     same-length-2
     same-length-3

@@ -7,18 +7,10 @@ use lib.ListN.{length}
 use Rattle.frames.specs.Frames.{LINE}
 use Rattle.sizes.specs.Sizes.{ROOM}
 use Rattle.port.proofs.Laws.{Proper, allowed}
-use Rattle.fragments.proofs.Laws.{is-refused, is-served, open-moves, ended-moves, gathered-within, gathered-length}
+use Rattle.fragments.proofs.Laws.{is-refused, is-served, open-moves, ended-moves, gathered-within, gathered-length, gathered-used, open-used}
 use borrow.Author.Needs.{needs}
 use Rattle.fragments.proofs.feed.Statement.{statement}
 use Rattle.fragments.proofs.feed.Tie as tie
-use Rattle.fragments.proofs.feed.Reads as reads
-use Rattle.fragments.proofs.feed.Lts as lts
-use Rattle.fragments.proofs.answer.Reads as answer-reads
-use Rattle.frames.proofs.gather.Reads as gather-reads
-use Rattle.port.proofs.keep.Reads as keep-reads
-use Rattle.port.proofs.line_in.Reads as line-in-reads
-use Rattle.port.proofs.refusal.Reads as refusal-reads
-use Rattle.port.proofs.started.Reads as started-reads
 
 refusal-requires : tie.Need-refusal-requires
 refusal-requires c κs = search needs
@@ -27,7 +19,7 @@ same-length : tie.Need-same-length
 same-length c = search needs
 
 returns : tie.Need-returns
-returns c = is-refused (c .before .refusal .ensures) (c .if1 .taken)
+returns c = is-refused (c .before .refusal .ensures) (c .if1 .taken) (omega arith) (omega arith) (omega arith)
 
 -- the test passed: a port, and room
 lent : (c : tie.Else1) → Proper (c .before .before .before .before .before .before .before .before .args .port .now) × (ROOM ≤ length (c .before .before .before .before .before .before .before .before .args .out .now))
@@ -59,7 +51,7 @@ gather-requires : tie.Need-gather-requires
 gather-requires c κs = search needs
 
 keep-requires : tie.Need-keep-requires
-keep-requires c κs = (lent (c .before .before .before .before .before .before .before .before .before .before) .0 .long, within (c .before .before .before))
+keep-requires c κs = let w = within (c .before .before .before) in let q = lent (c .before .before .before .before .before .before .before .before .before .before) .0 in let f = q .few in let s = c .before .before .before .before .before .before .before .before .started .ensures in (q .long, omega arith)
 
 same-length-2 : tie.Need-same-length-2
 same-length-2 c = search needs
@@ -71,11 +63,16 @@ returns-2 c =
     let l = g .before .before in
     let s = l .before .before in
     let e = s .before .before in
-    is-served (e .before .refusal .ensures) (e .if1 .left)
-    (open-moves _ _ (l .line-in .ensures) (s .started .ensures) (g .gather .ensures) (not-true _ (k .before .before .before .if2 .taken)) (k .keep .ensures))
+    let a = e .before .before .before .before .before .before .before .before .args in
+    let n = not-true _ (k .before .before .before .if2 .taken) in
+    let u = gathered-used (a .port .now) (a .fragment .now) (l .line-in .ensures) (s .started .ensures) (g .gather .ensures) in
+    let v = open-used (a .port .now) (a .fragment .now) (l .line-in .ensures) (s .started .ensures) (g .gather .ensures) n in
+    let m = within (k .before .before .before .before) in
+    is-served (e .before .refusal .ensures) (e .if1 .left) (omega arith)
+    (open-moves (a .port .now) (a .fragment .now) (l .line-in .ensures) (s .started .ensures) (g .gather .ensures) _ n (omega arith) (omega arith) (omega arith) (k .keep .ensures))
 
 keep-requires-2 : tie.Need-keep-requires-2
-keep-requires-2 c κs = (lent (c .before .before .before .before .before .before .before .before .before .before) .0 .long, omega arith)
+keep-requires-2 c κs = let w = within (c .before .before .before) in (lent (c .before .before .before .before .before .before .before .before .before .before) .0 .long, omega arith)
 
 slice-aggregate-answer : tie.Need-slice-aggregate-answer
 slice-aggregate-answer c = sym (as-long (c .before .before .before .before .before .before .before))
@@ -103,8 +100,11 @@ returns-3 c =
     let l = g .before .before in
     let s = l .before .before in
     let e = s .before .before in
-    is-served (e .before .refusal .ensures) (e .if1 .left)
-    (ended-moves _ _ (l .line-in .ensures) (s .started .ensures) (g .gather .ensures) (not-false _ (k .before .before .before .if2 .left)) (k .keep2 .ensures) (t .answer .ensures))
+    let a = e .before .before .before .before .before .before .before .before .args in
+    let u = gathered-used (a .port .now) (a .fragment .now) (l .line-in .ensures) (s .started .ensures) (g .gather .ensures) in
+    let m = within (k .before .before .before .before) in
+    is-served (e .before .refusal .ensures) (e .if1 .left) (omega arith)
+    (ended-moves (a .port .now) (a .fragment .now) (l .line-in .ensures) (s .started .ensures) (g .gather .ensures) (not-false _ (k .before .before .before .if2 .left)) (omega arith) (omega arith) (k .keep2 .ensures) (omega arith) (omega arith) (omega arith) (t .answer .ensures))
 
 pub feed-spec : {M : Type 1} → statement M
 feed-spec =

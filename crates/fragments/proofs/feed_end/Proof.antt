@@ -1,6 +1,6 @@
 -- `feed_end` meets its contract: what stands is answered, and nothing where nothing stands. Assumes nothing.
 use Prim.Native.Nat.{_≤_}
-use mathlib.Core.Path.{ap, sym, _∙_}
+use mathlib.Core.Path.{refl, ap, sym, _∙_}
 use native.Mathlib.Omega.{arith}
 use lib.ListN.{length, length-drop}
 use Rattle.sizes.specs.Sizes.{ROOM}
@@ -9,13 +9,6 @@ use Rattle.fragments.proofs.Laws.{is-refused, is-served, none-moves, la
 use borrow.Author.Needs.{needs}
 use Rattle.fragments.proofs.feed_end.Statement.{statement}
 use Rattle.fragments.proofs.feed_end.Tie as tie
-use Rattle.fragments.proofs.feed_end.Reads as reads
-use Rattle.fragments.proofs.feed_end.Lts as lts
-use Rattle.fragments.proofs.answer.Reads as answer-reads
-use Rattle.port.proofs.keep.Reads as keep-reads
-use Rattle.port.proofs.line_in.Reads as line-in-reads
-use Rattle.port.proofs.refusal.Reads as refusal-reads
-use Rattle.port.proofs.started.Reads as started-reads
 
 refusal-requires : tie.Need-refusal-requires
 refusal-requires c κs = search needs
@@ -24,7 +17,7 @@ same-length : tie.Need-same-length
 same-length c = search needs
 
 returns : tie.Need-returns
-returns c = is-refused (c .before .refusal .ensures) (c .if1 .taken)
+returns c = is-refused (c .before .refusal .ensures) (c .if1 .taken) (omega arith) refl (omega arith)
 
 -- the test passed: a port, and room
 lent : (c : tie.Else1) → Proper (c .before .before .before .before .before .before .before .args .port .now) × (ROOM ≤ length (c .before .before .before .before .before .before .before .args .out .now))
@@ -40,13 +33,13 @@ returns-2 : tie.Need-returns-2
 returns-2 c =
     let e = c .before .before .before in
     let s = c .before .started .ensures in
-    is-served (e .before .refusal .ensures) (e .if1 .left) (none-moves _ (lent e .0) (omega arith))
+    is-served (e .before .refusal .ensures) (e .if1 .left) (omega arith) (none-moves _ (lent e .0) (omega arith) (omega arith))
 
 line-in-requires : tie.Need-line-in-requires
 line-in-requires c κs = lent (c .before .before .before .before) .0 .long
 
 keep-requires : tie.Need-keep-requires
-keep-requires c κs = (lent (c .before .before .before .before .before .before .before) .0 .long, omega arith)
+keep-requires c κs = let q = lent (c .before .before .before .before .before .before .before) .0 in let f = q .few in let s = c .before .before .before .before .before .started .ensures in (q .long, omega arith)
 
 slice-aggregate-answer : tie.Need-slice-aggregate-answer
 slice-aggregate-answer c = search needs
@@ -82,8 +75,11 @@ returns-3 c =
     let n = l .before .before in
     let s = n .before in
     let e = s .before .before in
-    is-served (e .before .refusal .ensures) (e .if1 .left)
-    (last-moves _ (l .line-in .ensures) (s .started .ensures) (λ z. n .if2 .left (s .started .ensures ∙ z)) (k .keep .ensures) (t .answer .ensures))
+    let a = e .before .before .before .before .before .before .before .args in
+    let v = s .started .ensures in
+    let f = lent e .0 .few in
+    is-served (e .before .refusal .ensures) (e .if1 .left) (omega arith)
+    (last-moves (a .port .now) (l .line-in .ensures) (λ z. n .if2 .left (omega arith)) (omega arith) (k .keep .ensures) (omega arith) (omega arith) (omega arith) (t .answer .ensures))
 
 pub feed-end-spec : {M : Type 1} → statement M
 feed-end-spec =

@@ -6,31 +6,22 @@ use Rattle.port.proofs.Laws.{line-copied}
 use borrow.Author.Needs.{needs}
 use Rattle.port.proofs.line_in.Statement.{statement}
 use Rattle.port.proofs.line_in.Tie as tie
-use Rattle.port.proofs.line_in.Reads as reads
-use Rattle.port.proofs.line_in.Lts as lts
-use Rattle.memory.proofs.copy.Reads as copy-reads
 
--- src/lib.rt:47:18
 slice-aggregate-copy : tie.Need-slice-aggregate-copy
 slice-aggregate-copy c = search needs
 
--- src/lib.rt:47:32
 sub-copy : tie.Need-sub-copy
 sub-copy c = search needs
 
--- src/lib.rt:47:32
 part-copy-start : tie.Need-part-copy-start
 part-copy-start c = search needs
 
--- src/lib.rt:47:32
 part-copy-end : tie.Need-part-copy-end
 part-copy-end c = search needs
 
--- src/lib.rt:47:5
 copy-requires : tie.Need-copy-requires
 copy-requires c κs = search needs
 
--- src/lib.rt:41:1
 returns : tie.Need-returns
 returns c =
     let s = c .before .before .before .before .before in
