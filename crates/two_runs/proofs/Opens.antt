@@ -23,7 +23,7 @@ use Rattle.machine.specs.Refusals.{Refusal, accepted, first, refusal, refuse, r
 use Rattle.machine.proofs.Tests.{if-elim}
 use Rattle.machine_laws.proofs.Refusals.{refuse-same}
 use Rattle.machine_laws.proofs.Opens.{settling-opens}
-use Rattle.two_runs.specs.TwoRuns.{Party, balance, mayClose, maySend}
+use Rattle.two_runs.specs.TwoRuns.{balance, mayClose, maySend}
 use Rattle.two_runs.proofs.Part.{Theirs}
 
 -- ---- settling and the commands leave the open count
@@ -87,16 +87,16 @@ open-opened n c s (grants m) h =
     let o : Outcome = record { answer = done 0 m (keyFor (c .key) s) 255; replies = abortedIn m (s .channels); next = withOpens (suc (s .opens)) (granted m (c .key) (c .prec) s) } in
     rw (settling-opens o) (let z : suc (suc n) ≤ suc (s .opens) = omega arith in z)
 
-accept-opened : (p : Party) (n : ℕ) (o : Op) (c : Call) (s : State) → suc n ≤ s .opens → Theirs p n s o c
+accept-opened : (n : ℕ) (o : Op) (c : Call) (s : State) → suc n ≤ s .opens → T (mayClose n o)
     → suc (balance o (accept o c s .answer) n) ≤ accept o c s .next .opens
 unfolding accept mayClose balance doClose silent done freeing doOpen
-accept-opened p n OPEN c s h t = open-opened n c s (look (c .prec) (c .combos) (s .channels)) h
-accept-opened p n CLOSE c s h t =
+accept-opened n OPEN c s h t = open-opened n c s (look (c .prec) (c .combos) (s .channels)) h
+accept-opened n CLOSE c s h t =
     unfold settling in
-    rw (settling-opens (doClose c s)) (let k = ltb→lt 0 n (t .closes) in let z : suc (pred n) ≤ pred (s .opens) = omega arith in z)
-accept-opened p n ABORT c s h t = unfold balance in rw (settling-opens (doAbort c s), abort-opens c s) h
-accept-opened p n EVENT c s h t = unfold balance in rw (settling-opens (doEvent c s), event-opens c s) h
-accept-opened p n (COMMAND k) c s h t = unfold balance in rw (settling-opens (perform (kind k) c s), perform-opens (kind k) c s) h
+    rw (settling-opens (doClose c s)) (let k = ltb→lt 0 n t in let z : suc (pred n) ≤ pred (s .opens) = omega arith in z)
+accept-opened n ABORT c s h t = unfold balance in rw (settling-opens (doAbort c s), abort-opens c s) h
+accept-opened n EVENT c s h t = unfold balance in rw (settling-opens (doEvent c s), event-opens c s) h
+accept-opened n (COMMAND k) c s h t = unfold balance in rw (settling-opens (perform (kind k) c s), perform-opens (kind k) c s) h
 
 -- a refused call has an error that is not 0, so it has neither opened nor closed
 refuse-opened : (n : ℕ) (o : Op) (x : ℕ) (c : Call) (s : State) → suc n ≤ s .opens → refusal o c s ≡ refused x
@@ -112,20 +112,20 @@ refuse-opened n ABORT x c s h e = rw (refuse-same ABORT x c s) h
 refuse-opened n EVENT x c s h e = rw (refuse-same EVENT x c s) h
 refuse-opened n (COMMAND k) x c s h e = rw (refuse-same (COMMAND k) x c s) h
 
-pub theirs-opened : (p : Party) (n : ℕ) (s : State) (c : Call) → suc n ≤ s .opens → Theirs p n s (c .op) c
+pub theirs-opened : (n : ℕ) (s : State) (c : Call) → suc n ≤ s .opens → T (mayClose n (c .op))
     → suc (balance (c .op) (call s c .answer) n) ≤ call s c .next .opens
 unfolding call answering
-theirs-opened p n s c h t = go (refusal (c .op) c s) refl
+theirs-opened n s c h t = go (refusal (c .op) c s) refl
   where
     go : (f : Refusal) → refusal (c .op) c s ≡ f → suc (balance (c .op) (answering f c s .answer) n) ≤ answering f c s .next .opens
-    go accepted e = accept-opened p n (c .op) c s h t
+    go accepted e = accept-opened n (c .op) c s h t
     go (refused x) e = refuse-opened n (c .op) x c s h e
 
 -- ---- the K party neither opens nor closes
 
-pub ours-opened : (p : Party) (n : ℕ) (s : State) (c : Call) → suc n ≤ s .opens → T (maySend (c .op)) → suc n ≤ call s c .next .opens
+pub ours-opened : (n : ℕ) (s : State) (c : Call) → suc n ≤ s .opens → T (maySend (c .op)) → suc n ≤ call s c .next .opens
 unfolding call answering
-ours-opened p n s c h t = go (refusal (c .op) c s)
+ours-opened n s c h t = go (refusal (c .op) c s)
   where
     acc : (o : Op) → T (maySend o) → suc n ≤ accept o c s .next .opens
     acc OPEN u = absurd (unfold maySend in u)

@@ -20,13 +20,15 @@ use lib.Dec.{T, T-not, eqb, eqb→eq, leb}
 use Rattle.machine.specs.Numbers.{ADCMD·ALLOCATE, ADCMD·FREE, ADCMD·SETPREC}
 use Rattle.machine.specs.Lists.{all, any, if_then_else_, keep}
 use Rattle.machine.specs.State.{COMMAND, Call, Channel, Lock, Op, Outcome, Reply, Request, State, free}
-use Rattle.machine.specs.Commands.{matching}
+use Rattle.machine.specs.Commands.{freed, matching}
+use Rattle.machine.specs.Maps.{change}
 use Rattle.machine.specs.Kinds.{ALLOCATE, CLEAR, FLUSH, FREE, Kind, LOCK, READ, RESET, SETPREC, START, STOP, UNKNOWN, UPDATE, WRITE, kind}
 use Rattle.machine.specs.Refusals.{accepted, refusal}
 use Rattle.machine.specs.Sound.{sound}
 use Rattle.machine.proofs.Tests.{and-left, and-right, by-test, if-elim, or-named, test-false, test-true}
 use Rattle.machine_laws.proofs.Lists.{keep-twice}
-use Rattle.two_runs.specs.TwoRuns.{ByK, ByOthers, Party, avoids, holds, keepsFloor, mask, mayClose, maySend, modest, ofK, ownReplies, selected, sets, view}
+use Rattle.two_runs.specs.TwoRuns.{Party, avoids, holds, keepsFloor, mask, maySend, modest, ownReplies, selected, sets, view}
+use Rattle.two_runs.specs.Core.{OfK, OfOthers, mayAlso, ofParty, openFor, staysOn}
 
 -- ---- the part
 
@@ -50,9 +52,8 @@ fittingLock p l = if eqb (l .key) (p .key) then p .mine (l .id) else not (p .min
 unfoldable pub lower : Party → Request → Bool
 lower p r = leb (r .prec) (p .floor) && not (eqb (r .key) (p .key)) && not (p .mine (r .id))
 
-pub record Ready (p : Party) (n : ℕ) (s : State) : Type 0 where
+pub record Ready (p : Party) (s : State) : Type 0 where
   pub sane : T (sound s)
-  pub opened : suc n ≤ s .opens
   pub real : T (not (eqb (p .key) 0))
   pub present : T (any (holds p) (s .channels))
   pub fit : T (all (fitting p) (s .channels))
@@ -62,20 +63,21 @@ pub record Ready (p : Party) (n : ℕ) (s : State) : Type 0 where
 -- ---- one call
 
 pub record Ours (p : Party) (s : State) (o : Op) (c : Call) : Type 0 where
-  pub party : T (ofK p o c s)
-  pub sends : T (maySend o)
+  pub party : T (ofParty p o c s)
+  pub opened : T (openFor o s)
+  pub sends : T (mayAlso o || maySend o)
+  pub stays : T (staysOn p o c s)
   pub high : T (keepsFloor p o c s)
 
-pub record Theirs (p : Party) (n : ℕ) (s : State) (o : Op) (c : Call) : Type 0 where
+pub record Theirs (p : Party) (s : State) (o : Op) (c : Call) : Type 0 where
   pub apart : T (avoids p o c s)
   pub low : T (modest p o c)
-  pub closes : T (mayClose n o)
 
-pub ours-of : (p : Party) (s : State) (c : Call) → ByK p s c → Ours p s (c .op) c
-ours-of p s c k = record { party = k .party; sends = k .sends; high = k .high }
+pub ours-of : (p : Party) (s : State) (c : Call) → OfK p s c → Ours p s (c .op) c
+ours-of p s c k = record { party = k .party; opened = k .opened; sends = k .sends; stays = k .stays; high = k .high }
 
-pub theirs-of : (p : Party) (n : ℕ) (s : State) (c : Call) → ByOthers p n s c → Theirs p n s (c .op) c
-theirs-of p n s c k = record { apart = k .apart; low = k .low; closes = k .closes }
+pub theirs-of : (p : Party) (s : State) (c : Call) → OfOthers p s c → Theirs p s (c .op) c
+theirs-of p s c k = record { apart = k .apart; low = k .low }
 
 unfoldable pub allowed : Party → Kind → Call → State → Bool
 allowed p RESET c s = true
@@ -86,7 +88,7 @@ allowed p CLEAR c s = true
 allowed p STOP c s = true
 allowed p START c s = true
 allowed p FLUSH c s = true
-allowed p FREE c s = false
+allowed p FREE c s = any (holds p) (change freed (matching (c .key) (c .map) (s .channels)) (s .channels))
 allowed p SETPREC c s = leb (p .floor) (c .prec) || eqb (matching (c .key) (c .map) (s .channels)) 0
 allowed p LOCK c s = true
 allowed p ALLOCATE c s = false
@@ -122,15 +124,21 @@ setprec-sets : (n : ℕ) (c : Call) (s : State) → T (eqb n ADCMD·SETPREC) →
 unfolding sets selected
 setprec-sets n c s t e = rw (subst (λ (x : ℕ). refusal (COMMAND x) c s ≡ accepted) (eqb→eq n ADCMD·SETPREC t) e)
 
+no-allocate : (n : ℕ) → T (eqb n ADCMD·FREE || (not (eqb n ADCMD·ALLOCATE) && not (eqb n ADCMD·FREE))) → T (eqb n ADCMD·ALLOCATE) → ⊥
+no-allocate n t u = go (subst (λ (x : ℕ). T (eqb x ADCMD·FREE || (not (eqb x ADCMD·ALLOCATE) && not (eqb x ADCMD·FREE)))) (eqb→eq n ADCMD·ALLOCATE u) t)
+  where
+    go : T (eqb 32 9 || (not (eqb 32 32) && not (eqb 32 9))) → ⊥
+    go v = v
+
 pub allowed-kind : (p : Party) (s : State) (n : ℕ) (c : Call) → Ours p s (COMMAND n) c → refusal (COMMAND n) c s ≡ accepted → T (allowed p (kind n) c s)
-unfolding allowed maySend keepsFloor
+unfolding allowed maySend mayAlso staysOn keepsFloor
 allowed-kind p s n c k e =
     kind-elim (λ x. T (allowed p x c s)) n tt tt tt tt tt tt tt tt
-    (λ t. T-not (eqb n ADCMD·FREE) (and-right (not (eqb n ADCMD·ALLOCATE)) (not (eqb n ADCMD·FREE)) (k .sends)) t)
+    (λ t. or-named (eqb n ADCMD·FREE) (any (holds p) (change freed (matching (c .key) (c .map) (s .channels)) (s .channels))) (k .stays) t)
     (λ t. subst (λ (x : ℕ). T (leb (p .floor) (c .prec) || eqb x 0)) (setprec-sets n c s t e)
     (or-named (eqb n ADCMD·SETPREC) (leb (p .floor) (c .prec) || eqb (sets c s) 0) (k .high) t))
     tt
-    (λ t. T-not (eqb n ADCMD·ALLOCATE) (and-left (not (eqb n ADCMD·ALLOCATE)) (not (eqb n ADCMD·FREE)) (k .sends)) t)
+    (λ t. no-allocate n (k .sends) t)
     tt
 
 pub modest-kind : (p : Party) (n : ℕ) (c : Call) → T (modest p (COMMAND n) c) → T (modestly p (kind n) c)

@@ -332,8 +332,8 @@ ready-locks p cs (l ∷ ls) f t =
     (ready-lock p cs l (and-left (fittingLock p l) (all (fittingLock p) ls) f) (and-left (soundLock cs l) (all (soundLock cs) ls) t))
     (ready-locks p cs ls (and-right (fittingLock p l) (all (fittingLock p) ls) f) (and-right (soundLock cs l) (all (soundLock cs) ls) t))
 
-pub ready-loop : (p : Party) (n : ℕ) (s : State) → Ready p n s → Loop p s
-ready-loop p n s r =
+pub ready-loop : (p : Party) (s : State) → Ready p s → Loop p s
+ready-loop p s r =
     let q = parts s (r .sane) in
     record {
       real = r .real;
