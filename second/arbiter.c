@@ -172,31 +172,57 @@ static enum Look held_or_granted(const struct Arbiter *a, unsigned chosen)
     return LOOK_GRANTED;
 }
 
+/* What a combination costs: "the highest precedence among its allocated channels", and,
+   since request #104, how many allocated channels it names. Of free channels alone the
+   highest is FREE_OF_COST. */
+enum { FREE_OF_COST = -129, DEAREST = 128 };        /* beside every precedence */
+struct Cost {
+    int highest;
+    unsigned stolen;
+};
+
+static struct Cost cost_of(const struct Arbiter *a, unsigned combination)
+{
+    struct Cost cost = {FREE_OF_COST, 0};
+
+    for (unsigned c = 0; c < a->channels; c++)
+        if (names(combination, c) && a->channel[c].key != 0) {
+            cost.stolen++;
+            if (a->channel[c].precedence > cost.highest)
+                cost.highest = a->channel[c].precedence;
+        }
+    return cost;
+}
+
+/* "Where two combinations cost the same highest precedence, the one stealing fewer
+   allocated channels now wins." */
+static int costs_less(struct Cost one, struct Cost other)
+{
+    if (one.highest != other.highest)
+        return one.highest < other.highest;
+    return one.stolen < other.stolen;
+}
+
 enum Look arbiter_look(const struct Arbiter *a, int precedence,
                        const uint8_t *combination, unsigned length, uint8_t *chosen)
 {
-    const int nothing = -129, everything = 128;     /* beside every precedence */
-    int least = everything;
+    struct Cost least = {DEAREST, MOST_CHANNELS + 1};
 
     *chosen = 0;
     if (length == 0)
         return LOOK_GRANTED;                        /* "The empty list is granted map 0." */
     for (unsigned i = 0; i < length; i++) {
-        int cost = nothing;                         /* so far it names only free channels */
+        struct Cost cost = cost_of(a, combination[i]);
 
-        for (unsigned c = 0; c < a->channels; c++)
-            if (names(combination[i], c) && a->channel[c].key != 0
-                && a->channel[c].precedence > cost)
-                cost = a->channel[c].precedence;
-        /* Eligible if "strictly below the request's"; "the earliest on a tie". The first
-           combination of free channels costs less than every steal and every
+        /* Eligible if "strictly below the request's"; "and only then the earliest". The
+           first combination of free channels costs less than every steal and every
            precedence, so it is eligible and wins wherever it stands. */
-        if (cost < precedence && cost < least) {
+        if (cost.highest < precedence && costs_less(cost, least)) {
             least = cost;
             *chosen = combination[i];
         }
     }
-    return least == everything ? LOOK_FAILS : held_or_granted(a, *chosen);
+    return least.highest == DEAREST ? LOOK_FAILS : held_or_granted(a, *chosen);
 }
 
 /* "Granting resets each channel ..., then sets key and precedence." The new key is

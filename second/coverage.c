@@ -97,6 +97,9 @@ static struct CallRow {
     {"ALLOCATE held with NOWAIT", 0, 0},
     {"lock freed in part", 0, 0},
     {"grant of more than one request in a call", 0, 0},
+    {"fewer stolen beat an earlier combination", 0, 0},
+    {"the same by a waiting request, held", 0, 0},
+    {"equal in both costs: the earliest", 0, 0},
     {"full list of sixteen accepted", 0, 0},
     {"seventeen entries, one of them 10", 0, 0},
     {"ten replies or more in a call", 0, 0},
@@ -107,8 +110,8 @@ static struct CallRow {
 };
 enum {
     OPEN_LIST, OPEN_PLAIN, OPEN_FAILED, EVENT_ENDED, EVENT_NOTHING, ABORTED, NOT_ABORTED,
-    READ_ID, READ_NONE, HELD, HELD_NOWAIT, PARTIAL, MANY_GRANTS, SIXTEEN, SEVENTEEN,
-    TEN_REPLIES, NEARLY_FULL, PASSES, ROUND, ROUND_PASSES
+    READ_ID, READ_NONE, HELD, HELD_NOWAIT, PARTIAL, MANY_GRANTS, FEWER, FEWER_HELD, TIED,
+    SIXTEEN, SEVENTEEN, TEN_REPLIES, NEARLY_FULL, PASSES, ROUND, ROUND_PASSES
 };
 
 #define COUNT_OF(array) (sizeof (array) / sizeof *(array))
@@ -180,6 +183,43 @@ static int cause_of(const struct Arbiter *before, const struct Frame *f,
     }
 }
 
+/* How many allocated channels a combination names; in highest their highest precedence,
+   -129 where there are none. */
+static unsigned weighed(const struct Arbiter *a, unsigned map, int *highest)
+{
+    unsigned allocated = 0;
+
+    *highest = -129;
+    for (unsigned c = 0; c < a->channels; c++)
+        if ((map >> c & 1) != 0 && a->channel[c].key != 0) {
+            allocated++;
+            if (a->channel[c].precedence > *highest)
+                *highest = a->channel[c].precedence;
+        }
+    return allocated;
+}
+
+/* How the chosen combination won: FEWER where one before it in the list has the same
+   highest precedence, so that its number of channels decided; TIED where another behind
+   it is equal in both; else -1. */
+static int how_won(const struct Arbiter *a, const uint8_t *list, unsigned length, unsigned chosen)
+{
+    int highest, other, won = -1;
+    unsigned stolen = weighed(a, chosen, &highest), place = 0;
+
+    while (place < length && list[place] != chosen)
+        place++;
+    for (unsigned i = 0; i < length && stolen > 0; i++) {
+        unsigned count = weighed(a, list[i], &other);
+
+        if (i < place && other == highest)
+            return FEWER;
+        if (i > place && other == highest && count == stolen && list[i] != chosen)
+            won = TIED;
+    }
+    return won;
+}
+
 static void count_call(const struct Arbiter *before, const struct Arbiter *after,
                        const struct Frame *f, const struct Answer *answer,
                        const struct Replies *replies)
@@ -223,6 +263,18 @@ static void count_call(const struct Arbiter *before, const struct Arbiter *after
             && answer->error != IOERR_BADADDRESS;
         call_rows[SEVENTEEN].count += f->length == 17 && sixteens > 0
             && answer->error == IOERR_BADLENGTH;
+        if (done && !answer->outstanding) {
+            int won = how_won(before, f->combination, f->length, answer->map);
+
+            if (won >= 0)
+                call_rows[won].count++;
+        }
+    }
+    for (unsigned at = 0; at < after->waiting.count; at++) {
+        const struct Request *q = &after->request[after->waiting.id[at]];
+
+        if (arbiter_look(after, q->precedence, q->combination, q->length, &chosen) == LOOK_HELD)
+            call_rows[FEWER_HELD].count += how_won(after, q->combination, q->length, chosen) == FEWER;
     }
     for (unsigned id = 0; id < REQUESTS; id++) {
         outstanding += after->request[id].command != 0;

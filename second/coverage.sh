@@ -11,17 +11,17 @@ echo "Seeds 1 to 20, 1000 lines each"
 ./coverage-count SHORT "$work"/short.* || exit 1
 
 for seed in 1 2 3 4 5 6 7 8 9 10 11 12 13 14 15 16 17 18 19 20; do
-    ./generate $seed 1000 0 8 >"$work/eight.$seed"
+    ./generate $seed 1000 mix 8 >"$work/eight.$seed"
 done
 echo
 echo "The same on eight channels"
 ./coverage-count EIGHT "$work"/eight.* || exit 1
 
 for seed in 1 2 3 4 5 6; do
-    ./generate $seed 70000 11 >"$work/long.opens.$seed"
-    ./generate $seed 70000 12 >"$work/long.keys.$seed"
+    ./generate $seed 70000 opens >"$work/long.opens.$seed"
+    ./generate $seed 70000 keys >"$work/long.keys.$seed"
     ./generate $seed 72000 >"$work/long.mix.$seed"
 done
 echo
-echo "Seeds 1 to 6: styles 11 and 12 at 70,000 lines, the mix at 72,000"
+echo "Seeds 1 to 6: styles opens and keys at 70,000 lines, the mix at 72,000"
 ./coverage-count LONG "$work"/long.*

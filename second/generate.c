@@ -1,5 +1,6 @@
 /* Writes a hard random log to standard output: generate SEED LINES [STYLE [CHANNELS]].
-   CHANNELS is 4, where it is left out, or 8.
+   STYLE is a style's name, or its number; mix where it is left out. CHANNELS is 4, where
+   it is left out, or 8.
    It plays its own log on an arbiter, so that it knows live keys, idle ids and waiting
    requests. Same arguments, same bytes, on every machine. */
 #include "chance.h"
@@ -34,9 +35,9 @@ struct Style {
 
 enum {
     MIX, LOCKS, NOWAIT, QUEUES, FULL, ABORTS, PRECEDENCES, REFUSALS, MALFORMED, LISTS,
-    BYTES, OPENS, KEYS, MANY_LOCKS, MANY_STEALS, MANY_ENTRIES, MANY_WAITING, STYLES
+    BYTES, TIES, OPENS, KEYS, MANY_LOCKS, MANY_STEALS, MANY_ENTRIES, MANY_WAITING, STYLES
 };
-#define SHORT_STYLES OPENS      /* 1 to 10 take part in the mix */
+#define SHORT_STYLES OPENS      /* 1 to 11 take part in the mix */
 #define LONG_STRETCH 67500ul    /* lines in which the count or the keys reach their end */
 #define LONG_LOG 70000ul        /* a mix this long begins with such a stretch */
 
@@ -53,6 +54,7 @@ static const struct Style styles[STYLES] = {
     {"malformed",   {6, 4, 4, 6, 3, 4,12, 3, 3, 4, 4, 3, 8, 6, 8,20, 2}, 40, 5, 10, 50, 40},
     {"lists",       {14,8, 3, 2, 1, 1, 6, 0, 0, 1, 1, 1,12, 6, 8,46, 0}, 40,12, 60,  1, 40},
     {"bytes",       {1, 1, 1, 1, 1, 1, 1, 1, 1, 1, 1, 1, 1, 1, 1, 1, 1}, 50,30, 20,  5, 50},
+    {"ties",        {2, 1, 3, 1, 1, 1, 4, 0, 0, 1, 1, 1, 4,30, 1,50, 0}, 70, 2,  8,  1, 30},
     {"opens",       {8,10, 4, 4, 2, 2, 8, 1, 1, 2, 2, 2, 8, 8, 6,20, 1}, 40, 3, 10,  1, 40},
     {"keys",        {9, 6, 2, 2, 1, 1, 4, 1, 1, 1, 1, 1, 4, 6, 4,40, 1}, 20, 2, 10,  1, 40},
     /* One kind of work each, for measuring: good frames, and hardly a refusal. */
@@ -196,6 +198,9 @@ static void pick_list(struct Frame *f, const struct Style *s)
 {
     unsigned odds = below(100);
 
+    /* More than one combination, or none could tie with another. */
+    if (s == &styles[TIES] && odds < 40)
+        odds = 85;
     if (percent(s->full))
         f->length = COMBINATIONS;
     else if (odds < 4)
@@ -206,6 +211,13 @@ static void pick_list(struct Frame *f, const struct Style *s)
         f->length = (uint8_t)(4 + below(12));
     for (unsigned i = 0; i < f->length; i++)
         f->combination[i] = (uint8_t)pick_combination();
+    /* Each names some of the channels that the one before it names. */
+    for (unsigned i = 1; i < f->length && s == &styles[TIES]; i++) {
+        unsigned some = f->combination[i - 1] & below(all_channels() + 1);
+
+        if (some != 0 && percent(60))
+            f->combination[i] = (uint8_t)some;
+    }
     /* As in M10, only the last entry differs. */
     if (f->length == COMBINATIONS && percent(40))
         memset(f->combination, f->combination[0], COMBINATIONS - 1);
@@ -306,6 +318,9 @@ static void make_frame(struct Frame *f, enum Kind kind, const struct Style *s)
         /* Lowered, so that the next request steals. */
         if (s == &styles[MANY_STEALS])
             f->precedence = (int8_t)((int)below(20) - 128);
+        /* All holders at one precedence or the other. */
+        if (s == &styles[TIES])
+            f->precedence = (int8_t)(percent(80) ? 0 : 1);
         break;
     case ALLOCATE:
         if (percent(50))
@@ -318,6 +333,9 @@ static void make_frame(struct Frame *f, enum Kind kind, const struct Style *s)
         /* The first holders stay above all who come after them. */
         if (s == &styles[MANY_WAITING])
             f->precedence = (int8_t)(count_outstanding() < 4 ? 127 : (int)below(60) - 100);
+        /* Half of them are holders for the others to steal from. */
+        if (s == &styles[TIES])
+            f->precedence = (int8_t)(percent(35) ? 0 : 2 + (int)below(2));
         break;
     case UNKNOWN:
         f->operation = (uint8_t)pick_unknown();
@@ -522,6 +540,18 @@ static void follow_line(void)
         arbiter_call(&state, &f, &replies);
 }
 
+/* The style of this name or number; STYLES where there is none. */
+static unsigned style_of(const char *word)
+{
+    unsigned style = 0;
+
+    if (word[0] >= '0' && word[0] <= '9')
+        return (unsigned)strtoul(word, NULL, 10);
+    while (style < STYLES && strcmp(styles[style].name, word) != 0)
+        style++;
+    return style;
+}
+
 int main(int count, char **argument)
 {
     unsigned long lines, left = 0;
@@ -536,7 +566,7 @@ int main(int count, char **argument)
     chance_seed(strtoull(argument[1], NULL, 10));
     lines = strtoul(argument[2], NULL, 10);
     if (count > 3)
-        chosen = (unsigned)strtoul(argument[3], NULL, 10);
+        chosen = style_of(argument[3]);
     if (count > 4)
         channels = (unsigned)strtoul(argument[4], NULL, 10);
     if (chosen >= STYLES || (channels != 4 && channels != 8)) {

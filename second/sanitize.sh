@@ -26,7 +26,8 @@ play() {
 seed=0
 while [ $seed -lt "$SEEDS" ]; do
     seed=$((seed + 1))
-    for style in 0 1 2 3 4 5 6 7 8 9 10 11 12 13 14 15 16; do
+    for style in mix locks nowait queues full aborts precedences refusals malformed lists bytes ties opens keys \
+        many-locks many-steals many-entries many-waiting; do
         "$work/generate" $seed 2000 $style >"$work/log" || exit 1
         ./generate $seed 2000 $style | cmp - "$work/log" || exit 1
         play "style $style, seed $seed"
@@ -37,7 +38,7 @@ while [ $seed -lt "$SEEDS" ]; do
         done
     done
 done
-for style in 0 11 12; do
+for style in mix opens keys; do
     "$work/generate" 1 72000 $style >"$work/log" || exit 1
     play "style $style, long"
 done

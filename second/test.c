@@ -1,4 +1,4 @@
-/* Tests of the arbiter's C functions: the marked examples M1 to M13, what a log cannot
+/* Tests of the arbiter's C functions: the marked examples M1 to M14, what a log cannot
    reach (refusals 1 and 5, states not settled) and the sound test; then the stereo lists. */
 #include "arbiter.h"
 #include "stereo.h"
@@ -87,7 +87,8 @@ static void test_marked(void)
         {"M8", -128, 1, {0x02}, LOOK_GRANTED, 0x02},
         {"M9", 0, 1, {0x00}, LOOK_GRANTED, 0x00},
         {"M10", 0, 16, {1, 1, 1, 1, 1, 1, 1, 1, 1, 1, 1, 1, 1, 1, 1, 2}, LOOK_GRANTED, 0x02},
-        {"M13", 0, 0, {0}, LOOK_GRANTED, 0x00}
+        {"M13", 0, 0, {0}, LOOK_GRANTED, 0x00},
+        {"M14, of request #104", 11, 2, {0x0C, 0x04}, LOOK_GRANTED, 0x04}
     };
     struct Arbiter a;
 
@@ -121,6 +122,59 @@ static void test_marked(void)
     check(arbiter_new_key(&a) == 3, "M12");
     check(same_answer(call(&a, CALL_OPEN, 0, 0, 0, 11, 0, "\1"), 0, 0, 1, 3, 255)
           && a.last_key == 3, "M12 by OPEN, stealing key 1's channel");
+}
+
+/* Request #104: the highest precedence first, then the number of allocated channels, one's
+   own and locked ones too, then the place in the list. Free channels do not count. */
+static void test_fewer_stolen(void)
+{
+    static const struct {
+        const char *name;
+        uint8_t list[3];
+        unsigned chosen;
+    } lists[] = {
+        {"one rather than two", {0x0C, 0x04}, 0x04},
+        {"one rather than two, last of three", {0x0C, 0x0D, 0x04}, 0x04},
+        {"the highest precedence first: two at 3 before one at 10", {0x01, 0x0C}, 0x0C},
+        {"two at 3 before one at 10, in the other order", {0x0C, 0x01}, 0x0C},
+        {"a free channel does not count", {0x06, 0x04}, 0x06},
+        {"nor before the other", {0x04, 0x06}, 0x04},
+        {"a locked one counts like another: the earliest", {0x0A, 0x04}, 0x0A},
+        {"with a free one beside it", {0x0E, 0x06}, 0x06},
+        {"equal in both: the earliest", {0x0D, 0x0F}, 0x0D},
+        {"two of three, the highest alike", {0x0F, 0x09}, 0x09},
+        {"all free wins, last or not", {0x04, 0x02}, 0x02}
+    };
+    struct Arbiter a;
+
+    marked_state(&a);
+    for (size_t i = 0; i < sizeof lists / sizeof *lists; i++)
+        for (int own = 0; own < 2; own++) {
+            struct Arbiter b = a;
+            unsigned key = own ? 6 : 9;
+            char list[4];
+            struct Answer got;
+            int held = (lists[i].chosen & 8) != 0;
+
+            memcpy(list, lists[i].list, 3);
+            list[3] = 0;
+            got = call(&b, ADCMD_ALLOCATE, 9, IOF_QUICK, 0, 11, key, list);
+            check(held ? same_answer(got, 1, 0, 0, key, 255)
+                       : same_answer(got, 0, 0, lists[i].chosen, key, 255), lists[i].name);
+            b = a;
+            got = call(&b, CALL_OPEN, 9, 0, 0, 11, key, list);
+            check(held ? same_answer(got, 0, ADIOERR_ALLOCFAILED, 0, key, 255)
+                       : same_answer(got, 0, 0, lists[i].chosen, key, 255), lists[i].name);
+        }
+    /* Settling chooses by the same rule: at first all is above it, then SETPREC lowers. */
+    arbiter_fresh(&a, 4);
+    a.open_count = 1;
+    call(&a, ADCMD_ALLOCATE, 0, IOF_QUICK, 0, 20, 5, "\17");
+    check(same_answer(call(&a, ADCMD_ALLOCATE, 1, 0, 0, 4, 7, "\7\3\14"), 1, 0, 0, 7, 255),
+          "the request waits");
+    call(&a, ADCMD_SETPREC, 2, IOF_QUICK, 15, 3, 5, "");
+    check(replies.count == 1 && same_reply(0, 1, ADCMD_ALLOCATE, 0, 3, 7),
+          "settling: the first of those that steal two, and not the one before that steals three");
 }
 
 /* Keys used by waiting requests are skipped: at most 69 candidates. */
@@ -433,6 +487,7 @@ static void test_eight(void)
 int main(void)
 {
     test_marked();
+    test_fewer_stolen();
     test_eight();
     test_most_candidates();
     test_most_replies();

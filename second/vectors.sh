@@ -79,18 +79,19 @@ HEAD
 log() {
     ./generate "$2" 36 "$3" | ./vectors log "$1" || exit 1
 }
-log mixed 1 0
-log mixed-again 2 0
-log of-locks 3 1
-log of-nowait 4 2
-log of-queues 5 3
-log of-many-writes 6 4
-log of-aborts 7 5
-log of-precedences 8 6
-log of-refusals 9 7
-log of-malformed-lines 10 8
-log of-lists 11 9
-log of-bytes 12 10
+log mixed 1 mix
+log mixed-again 2 mix
+log of-locks 3 locks
+log of-nowait 4 nowait
+log of-queues 5 queues
+log of-many-writes 6 full
+log of-aborts 7 aborts
+log of-precedences 8 precedences
+log of-refusals 9 refusals
+log of-malformed-lines 10 malformed
+log of-lists 11 lists
+log of-bytes 12 bytes
+log of-ties 14 ties
 
 printf '\n%s\n' '-- ---- Calls on a board of four channels'
 ./vectors calls 1 || exit 1

@@ -24,7 +24,8 @@ trap 'rm -rf "$work"' EXIT
 trap 'exit 2' HUP INT TERM
 cd "$root" || exit 2
 
-styles='0 1 2 3 4 5 6 7 8 9 10 13 14 15 16'
+styles='mix locks nowait queues full aborts precedences refusals malformed lists bytes ties'
+styles="$styles many-locks many-steals many-entries many-waiting"
 lines=150
 tries=8
 passed=0
@@ -196,8 +197,12 @@ play_wrong() {
     done
     limit 60
     arbiter=second/arbiter.c
-    wrong "equal precedence steals" $arbiter 'cost < precedence && cost < least' 'cost <= precedence && cost < least'
-    wrong "the last of equal costs wins" $arbiter 'cost < precedence && cost < least' 'cost < precedence && cost <= least'
+    wrong "equal precedence steals" $arbiter 'cost.highest < precedence' 'cost.highest <= precedence'
+    wrong "the last of equal costs wins" $arbiter 'costs_less(cost, least)) {' '!costs_less(least, cost)) {'
+    wrong "the number stolen is ignored" $arbiter 'return one.stolen < other.stolen;' 'return 0;'
+    wrong "more stolen win" $arbiter 'return one.stolen < other.stolen;' 'return one.stolen > other.stolen;'
+    wrong "the number weighs before the precedence" $arbiter 'if (one.highest != other.highest)' 'if (one.stolen == other.stolen)'
+    wrong "free channels are counted" $arbiter 'cost.stolen++;' 'cost.stolen = (unsigned)__builtin_popcount(combination);'
     wrong "a stolen lock unlocks" $arbiter 'if ((map & chosen) != 0)' 'if ((map & chosen) != 0 && (a->channel[lowest_channel(map)].locked = 0, 1))'
     wrong "65,535 is followed by 2" $arbiter 'LAST_OF_KEYS ? 1' 'LAST_OF_KEYS ? 2'
     wrong "63 records are enough" $arbiter 'r->capacity < REQUESTS' 'r->capacity < REQUESTS - 1'

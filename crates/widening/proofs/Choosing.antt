@@ -9,10 +9,10 @@ use lib.Pow.{pow-pos}
 use Rattle.machine.specs.Lists.{if_then_else_, all}
 use Rattle.machine.specs.State.{Channel, isFree}
 use Rattle.machine.specs.Maps.{named}
-use Rattle.machine.specs.Choosing.{Choice, none, chosen, Look, fails, held, grants, takeable, eligible, allFree, cost, firstFree, cheaper, cheapest, orElse, choose, standing, look}
+use Rattle.machine.specs.Choosing.{Choice, none, chosen, Look, fails, held, grants, takeable, eligible, allFree, highest, stolen, costsLess, firstFree, cheaper, cheapest, orElse, choose, standing, look}
 use Rattle.machine.proofs.Tests.{if-elim, and-left, and-right}
 use Rattle.widening.specs.Widening.{wider, smallList}
-use Rattle.widening.proofs.Maps.{named-wide, cost-wide}
+use Rattle.widening.proofs.Maps.{named-wide, highest-wide, stolen-wide}
 
 -- ---- what is chosen is on the board
 
@@ -34,7 +34,7 @@ first-below b p (m ∷ ms) cs t =
 cheaper-below : (b m : ℕ) (o : Choice) (cs : List Channel) → m < b → Below b o → Below b (cheaper m o cs)
 unfolding cheaper
 cheaper-below b m none cs h k = h
-cheaper-below b m (chosen o) cs h k = if-elim (Below b) (ltb (cost o cs) (cost m cs)) (λ _. k) (λ _. h)
+cheaper-below b m (chosen o) cs h k = if-elim (Below b) (costsLess o m cs) (λ _. k) (λ _. h)
 
 cheapest-below : (b p : ℕ) (ms : List ℕ) (cs : List Channel) → T (all (λ m. ltb m b) ms) → Below b (cheapest p ms cs)
 unfolding cheapest all
@@ -86,10 +86,14 @@ module _ (p k : ℕ) (cs : List Channel) where
       let h = small-head m ms t in
       rw (eligible-wide m h, free-wide m h, first-wide ms (small-tail m ms t))
 
+  less-wide : (m o : ℕ) → costsLess m o (wider k cs) ≡ costsLess m o cs
+  unfolding costsLess
+  less-wide m o = rw (highest-wide k m cs, highest-wide k o cs, stolen-wide k m cs, stolen-wide k o cs)
+
   cheaper-wide : (m : ℕ) (o : Choice) → cheaper m o (wider k cs) ≡ cheaper m o cs
   unfolding cheaper
   cheaper-wide m none = refl
-  cheaper-wide m (chosen o) = rw (cost-wide k o cs, cost-wide k m cs)
+  cheaper-wide m (chosen o) = rw (less-wide o m)
 
   cheapest-wide : (ms : List ℕ) → T (smallList (length cs) ms) → cheapest p ms (wider k cs) ≡ cheapest p ms cs
   unfolding cheapest

@@ -10,7 +10,7 @@ use lib.ListN.{length, length-append}
 use Rattle.machine.specs.Lists.{if_then_else_}
 use Rattle.machine.specs.State.{Channel, Reply, free, isFree, frees}
 use Rattle.machine.specs.Maps.{odd, half, bit, minus, meets, lowest, named, change, at}
-use Rattle.machine.specs.Choosing.{cost}
+use Rattle.machine.specs.Choosing.{highest, stolen}
 use Rattle.machine.specs.Granting.{aborted, abortedIn}
 use Rattle.machine.specs.Commands.{matches, matching, owned, without, abortedWrites}
 use Rattle.machine.specs.Sound.{writesOf}
@@ -60,7 +60,7 @@ unfolding change
 change-wide f k m [] h = rw (none m h) (change-frees f k)
 change-wide f k m (c ∷ cs) h = ap (λ (x : List Channel). (if odd m then f c else c) ∷ x) (change-wide f k (half m) cs (half-small (length cs) m h))
 
--- ---- at, cost, matching, owned, replies: a free channel adds nothing, named or not
+-- ---- at, highest, stolen, matching, owned, replies: a free channel adds nothing, named or not
 
 at-frees : (k m : ℕ) → at m (frees k) ≡ free
 unfolding at frees
@@ -80,15 +80,25 @@ and-no : (b : Bool) → b && false ≡ false
 and-no true = refl
 and-no false = refl
 
-cost-frees : (k m : ℕ) → cost m (frees k) ≡ 0
-unfolding cost frees
-cost-frees zero m = refl
-cost-frees (suc k) m = rw (and-no (odd m)) (cost-frees k (half m))
+highest-frees : (k m : ℕ) → highest m (frees k) ≡ 0
+unfolding highest frees
+highest-frees zero m = refl
+highest-frees (suc k) m = rw (and-no (odd m)) (highest-frees k (half m))
 
-pub cost-wide : (k m : ℕ) (cs : List Channel) → cost m (wider k cs) ≡ cost m cs
-unfolding cost
-cost-wide k m [] = cost-frees k m
-cost-wide k m (c ∷ cs) = rw (cost-wide k (half m) cs)
+pub highest-wide : (k m : ℕ) (cs : List Channel) → highest m (wider k cs) ≡ highest m cs
+unfolding highest
+highest-wide k m [] = highest-frees k m
+highest-wide k m (c ∷ cs) = rw (highest-wide k (half m) cs)
+
+stolen-frees : (k m : ℕ) → stolen m (frees k) ≡ 0
+unfolding stolen frees
+stolen-frees zero m = refl
+stolen-frees (suc k) m = rw (and-no (odd m)) (stolen-frees k (half m))
+
+pub stolen-wide : (k m : ℕ) (cs : List Channel) → stolen m (wider k cs) ≡ stolen m cs
+unfolding stolen
+stolen-wide k m [] = stolen-frees k m
+stolen-wide k m (c ∷ cs) = rw (stolen-wide k (half m) cs)
 
 matches-free : (key : ℕ) → matches key free ≡ false
 unfolding matches
