@@ -85,15 +85,19 @@ error-told w h k = ap (λ (x : List ℕ). getD x 1 0) (k .crossed .carried (k .s
 keepsC : (p : Party) (n : ℕ) (st tb : List ℕ) (ms : List Move) (w : Whole st) (h : Held (stateOf st) tb) (c : Chained st tb ms) → Keeps p n st tb ms → KeepsC p n (stateOf st) tb (movesC st tb ms w h c)
 unfolding movesC
 keepsC p n st tb [] w h c k = tt
-keepsC p n st tb (ours t ∷ ms) w h c k =
-    (k .0, subst (λ (x : Board). KeepsC p n x (t .table) (movesC (t .state) (t .table) ms (next-whole w h (c .0)) (next-held w h (c .0)) (c .1))) (sym (next-state w h (c .0)))
-    (keepsC p n (t .state) (t .table) ms (next-whole w h (c .0)) (next-held w h (c .0)) (c .1) (k .1)))
+keepsC p n st tb (ours t ∷ ms) w h c k = (
+  k .0,
+  subst (λ (x : Board). KeepsC p n x (t .table) (movesC (t .state) (t .table) ms (next-whole w h (c .0)) (next-held w h (c .0)) (c .1))) (sym (next-state w h (c .0)))
+      (keepsC p n (t .state) (t .table) ms (next-whole w h (c .0)) (next-held w h (c .0)) (c .1) (k .1)),
+)
 keepsC p n st tb (others t ∷ ms) w h c k =
     let v = movesC (t .state) (t .table) ms (next-whole w h (c .0)) (next-held w h (c .0)) (c .1) in
     let i = keepsC p (balance (asked t .op) (answerAt (t .answer)) n) (t .state) (t .table) ms (next-whole w h (c .0)) (next-held w h (c .0)) (c .1) (k .1) in
-    let e = balance-error (asked t .op) (answerAt (t .answer)) (answerIn (turnC w h (c .0) .outcome .answer)) n (error-told w h (c .0)) in
-    (k .0, subst (λ (x : Board). KeepsC p (balance (asked t .op) (answerIn (turnC w h (c .0) .outcome .answer)) n) x (t .table) v) (sym (next-state w h (c .0)))
-    (subst (λ (m : ℕ). KeepsC p m (stateOf (t .state)) (t .table) v) e i))
+    let e = balance-error (asked t .op) (answerAt (t .answer)) (answerIn (turnC w h (c .0) .outcome .answer)) n (error-told w h (c .0)) in (
+      k .0,
+      subst (λ (x : Board). KeepsC p (balance (asked t .op) (answerIn (turnC w h (c .0) .outcome .answer)) n) x (t .table) v) (sym (next-state w h (c .0)))
+          (subst (λ (m : ℕ). KeepsC p m (stateOf (t .state)) (t .table) v) e i),
+    )
 
 fullC : (st tb : List ℕ) (ms : List Move) (w : Whole st) (h : Held (stateOf st) tb) (c : Chained st tb ms) → Full ms → FullC (movesC st tb ms w h c)
 unfolding movesC

@@ -1,6 +1,7 @@
 -- Any call of the K party does to its part what it does to the state, refused or accepted: the tests that refuse it come out the
 -- same, since part and state are both sound and open, are of one length and have the same ids of the party's outstanding.
 -- Assumes nothing.
+use Rattle.machine_laws.proofs.OpenKeys.{not-empty}
 use Prim.Native.Nat.{_^_, _≤_, suc, zero, ℕ}
 use mathlib.Core.Path.{_∙_, _≡_, refl, sym}
 use mathlib.Core.Bool.{Bool, false, not, true}
@@ -8,7 +9,7 @@ use mathlib.Core.List.{[]}
 use native.Mathlib.Omega.{arith}
 use lib.Dec.{T, eqb, eqb→eq, leb, leb→le, ltb}
 use lib.ListN.{length, length-map}
-use Rattle.machine.specs.Lists.{all, if_then_else_}
+use Rattle.machine.specs.Lists.{all, if_then_else_, among}
 use Rattle.machine.specs.State.{ABORT, CLOSE, COMMAND, Call, EVENT, OPEN, Op, State}
 use Rattle.machine.specs.Maps.{at, lowest}
 use Rattle.machine.specs.Commands.{doAbort, doEvent, done, finished, flushed, reset, same, setStop, silent}
@@ -19,8 +20,8 @@ use Rattle.machine.specs.Sound.{sound}
 use Rattle.machine.proofs.Tests.{and-left, and-right, by-test, test-false, test-true}
 use Rattle.machine_laws.proofs.Refusals.{refuse-same}
 use Rattle.machine.proofs.Steps.{first-none}
-use Rattle.two_runs.specs.TwoRuns.{Party, holds, isOpen, mask, maySend, onK}
-use Rattle.two_runs.specs.Core.{mayAlso, ofParty, openFor}
+use Rattle.two_runs.specs.TwoRuns.{Party, holds, mask, maySend, onK}
+use Rattle.two_runs.specs.Core.{mayAlso, ofParty}
 use Rattle.two_runs.proofs.Part.{Ours, Ready, allowed, allowed-kind, project, projectOut}
 use Rattle.two_runs.proofs.Settle.{Loop, ready-loop, settle-calm}
 use Rattle.two_runs.proofs.OursPart.{Tame, finished-own, fit-own, none-own, own-floor, own-writes, settling-own, silent-own}
@@ -45,7 +46,7 @@ module _ (p : Party) (real : T (not (eqb (p .key) 0))) where
   perform-tame STOP c s k m a u b lp = each-tame p real 6 (setStop true) (λ d. refl) false c s k m lp (λ d h f. fit-own p real (setStop true d) h (own-floor p real d h f) (own-writes p real d h f))
   perform-tame START c s k m a u b lp = each-tame p real 7 (setStop false) (λ d. refl) false c s k m lp (λ d h f. fit-own p real (setStop false d) h (own-floor p real d h f) (own-writes p real d h f))
   perform-tame FLUSH c s k m a u b lp = each-tame p real 8 flushed (λ d. refl) true c s k m lp (λ d h f. fit-own p real (flushed d) h (own-floor p real d h f) tt)
-  perform-tame FREE c s k m a u b lp = record { alike = free-own p real c s k m lp; loop = free-loop p real c s lp a }
+  perform-tame FREE c s k m a u b lp = record { alike = free-own p real c s k m lp; loop = free-loop p real c s lp }
   perform-tame SETPREC c s k m a u b lp = setprec-tame p real c s k m a lp
   perform-tame LOCK c s k m a u b lp = record { alike = lock-own p real c s k m; loop = lock-loop p real c s k m b lp }
   perform-tame ALLOCATE c s k m a u b lp = absurd a
@@ -84,14 +85,14 @@ module _ (p : Party) (s : State) (r : Ready p s) where
   badMaps-same c = rw (length-map (s .channels) (mask p))
 
   sound-same : sound (project p s) ≡ sound s
-  sound-same = test-true (sound (project p s)) (project-sound p (r .real) s (r .sane)) ∙ sym (test-true (sound s) (r .sane))
+  sound-same = test-true (sound (project p s)) (project-sound p (r .real) s (r .sane) (r .entered)) ∙ sym (test-true (sound s) (r .sane))
 
-  opens-same : T (isOpen s) → eqb (project p s .opens) 0 ≡ eqb (s .opens) 0
-  unfolding project isOpen
-  opens-same h = sym (not-zero 0 (s .opens) (leb→le 1 (s .opens) h))
+  opens-same : eqb (length (project p s .opens)) 0 ≡ eqb (length (s .opens)) 0
+  unfolding project
+  opens-same = sym (not-empty (p .key) (s .opens) (r .entered))
 
   refusal-same : (o : Op) (c : Call) → Ours p s o c → refusal o c (project p s) ≡ refusal o c s
-  unfolding refusal ofParty maySend mayAlso openFor
+  unfolding refusal ofParty maySend mayAlso
   refusal-same OPEN c t = absurd (t .sends)
   refusal-same CLOSE c t = absurd (t .sends)
   refusal-same ABORT c t = rw sound-same
@@ -100,7 +101,7 @@ module _ (p : Party) (s : State) (r : Ready p s) where
       rw (
         sound-same,
         among-ids p (r .real) (c .id) (and-right (eqb (c .key) (p .key)) (p .mine (c .id)) (t .party)) s (r .fit) (r .fitLocks) (r .low),
-        opens-same (t .opened),
+        opens-same,
         badMap-same c,
         badMaps-same c,
       )

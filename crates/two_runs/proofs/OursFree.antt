@@ -1,4 +1,4 @@
--- FREE of the K party does to its part what it does to the state, and leaves what settling needs if K stays on a channel.
+-- FREE of the K party does to its part what it does to the state, and leaves what settling needs.
 use Prim.Native.Nat.{_^_, _<_, ℕ}
 use mathlib.Core.Path.{_∙_, _≡_, ap, ap₂, refl, subst, sym}
 use mathlib.Core.Bool.{Bool, _&&_, _||_, false, not, true}
@@ -138,13 +138,13 @@ module _ (p : Party) (real : T (not (eqb (p .key) 0))) where
       f : ℕ
       f = matching (c .key) (c .map) (s .channels)
 
-  pub free-loop : (c : Call) (s : State) → Loop p s → T (any (holds p) (change freed (matching (c .key) (c .map) (s .channels)) (s .channels))) → Loop p (doFree c s .next)
+  pub free-loop : (c : Call) (s : State) → Loop p s → Loop p (doFree c s .next)
   unfolding doFree each finished freeing
-  free-loop c s lp st =
+  free-loop c s lp =
       let f = matching (c .key) (c .map) (s .channels) in
       record {
         real = lp .real;
-        present = st;
+        entered = lp .entered;
         fit = fit-freed f (s .channels) (lp .fit);
         locksOK = locks-ok f (s .channels) (s .locks) (lp .locksOK);
         low = lp .low;

@@ -21,7 +21,7 @@ use Rattle.machine.specs.Settling.{settle}
 use Rattle.machine.proofs.Tests.{and-left, and-right, if-elim}
 use Rattle.machine_laws.proofs.Choosing.{look-spares}
 use Rattle.machine.proofs.Steps.{first-none}
-use Rattle.machine_laws.proofs.Sound.{parts, waiting-few}
+use Rattle.machine_laws.proofs.Sound.{parts, in-use-few}
 use Rattle.two_runs.specs.TwoRuns.{Party, avoids, holds, modest, onK, ownReplies, peeks}
 use Rattle.two_runs.proofs.Part.{Ready, Theirs, modest-kind, modestly}
 use Rattle.two_runs.proofs.Away.{own-append}
@@ -49,7 +49,7 @@ module _ (p : Party) (c : Call) (s : State) (u : T (not (p .mine (c .id)))) (lp 
   unfolding eachChange each
   peek-same n = rw (change-same (matching (c .key) (c .map) (s .channels)) (s .channels)) (finished-mild p c s u lp n _)
 
-  perform-mild : (k : Kind) → T (peeks k || not (eqb (c .key) (p .key))) → length (s .channels) + length (s .waiting) ≤ 72 → T (modestly p k c) → Mild p s (perform k c s)
+  perform-mild : (k : Kind) → T (peeks k || not (eqb (c .key) (p .key))) → length (s .channels) + length (s .waiting) + length (s .opens) ≤ 104 → T (modestly p k c) → Mild p s (perform k c s)
   unfolding perform modestly all silent peeks
   perform-mild RESET t few m = eachChange-mild p reset (λ d. refl) (λ d _. tt) 1 true c s t u lp
   perform-mild READ t few m = peek-read
@@ -90,7 +90,7 @@ accept-mild : (p : Party) (s : State) (o : Op) (c : Call) → Ready p s → Thei
 unfolding accept avoids modest openSettling doOpen
 accept-mild p s OPEN c r t e =
     let l = look (c .prec) (c .combos) (s .channels) in
-    let m = open-mild p c s l (ready-loop p s r) (t .apart) (look-spares (p .floor) (c .prec) (c .combos) (s .channels) (leb→le (c .prec) (p .floor) (t .low))) in
+    let m = open-mild p c s l (ready-loop p s r) (in-use-few s (parts s (r .sane))) (t .apart) (look-spares (p .floor) (c .prec) (c .combos) (s .channels) (leb→le (c .prec) (p .floor) (t .low))) in
     if-elim (Mild p s) (eqb (opening l c s .answer .error) ALLOCFAILED) (λ _. m) (λ _. settling-mild p s (opening l c s) m)
 accept-mild p s CLOSE c r t e = settling-mild p s (doClose c s) (close-mild p c s (ready-loop p s r) (t .apart))
 accept-mild p s ABORT c r t e = settling-mild p s (doAbort c s) (abort-mild p c s (t .apart) (ready-loop p s r))
@@ -99,7 +99,7 @@ accept-mild p s (COMMAND k) c r t e =
     let a = peeks (kind k) || not (eqb (c .key) (p .key)) in
     let b = not (p .mine (c .id)) in
     settling-mild p s (perform (kind k) c s)
-    (perform-mild p c s (and-right a b (t .apart)) (ready-loop p s r) (kind k) (and-left a b (t .apart)) (waiting-few s (parts s (r .sane))) (modest-kind p k c (t .low)))
+    (perform-mild p c s (and-right a b (t .apart)) (ready-loop p s r) (kind k) (and-left a b (t .apart)) (in-use-few s (parts s (r .sane))) (modest-kind p k c (t .low)))
 
 -- ---- refusals
 

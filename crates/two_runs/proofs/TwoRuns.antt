@@ -22,15 +22,14 @@ use Rattle.machine.specs.Refusals.{Refusal, accepted, badList, badMap, badMaps,
 use Rattle.machine.specs.Sound.{sound}
 use Rattle.machine.proofs.Tests.{and-both, and-left, and-right, test-false}
 use Rattle.machine_laws.proofs.KeepingCalls.{call-sound}
-use Rattle.two_runs.specs.TwoRuns.{ByK, ByOthers, Demand3, Keeps, Party, Run, Start, Step, maySend, ofK, isOpen, balance, calls, lends, our, own, mask, ownReplies, reached, said, seen, their, view}
+use Rattle.two_runs.specs.TwoRuns.{ByK, ByOthers, Demand3, Keeps, Party, Run, Start, Step, maySend, ofK, calls, lends, our, own, mask, ownReplies, reached, said, seen, their, view}
 use Rattle.two_runs.proofs.Part.{Ready, fittingLock, ours-of, ownReplies-twice, project, projectOut, theirs-of, view-part}
-use Rattle.two_runs.proofs.Opens.{ours-opened, theirs-opened}
 use Rattle.two_runs.proofs.Settle.{Loop, lockFits, ownLock}
 use Rattle.two_runs.proofs.TheirsEach.{Mild}
 use Rattle.two_runs.proofs.TheirsCall.{theirs-mild}
 use Rattle.two_runs.proofs.OursCall.{ours-loop, ours-same}
 use Rattle.two_runs.proofs.Begin.{start-ready}
-use Rattle.two_runs.specs.Core.{Begins, Demand3·core, Goes, OfK, OfOthers, mayAlso, ofParty, openFor, staysOn}
+use Rattle.two_runs.specs.Core.{Begins, Demand3·core, Goes, OfK, OfOthers, mayAlso, ofParty}
 
 -- ---- the same call with another list lent
 
@@ -118,7 +117,7 @@ ready-from p s t lp =
     record {
       sane = t;
       real = lp .real;
-      present = lp .present;
+      entered = lp .entered;
       fit = lp .fit;
       fitLocks = locks-ready p (s .channels) (s .locks) (lp .locksOK);
       low = lp .low;
@@ -163,15 +162,7 @@ core p s xs ys a h k e = part-sees-the-same p s s xs ys a a refl h k e
 
 begins-of : (p : Party) (s : State) → Start p s → Begins p s
 begins-of p s a =
-    record { sane = a .sane; real = a .real; present = a .present; high = a .high; low = a .low; none = a .none; owns = a .owns; idle = a .idle }
-
-open-for : (n : ℕ) (s : State) (o : Op) → suc n ≤ s .opens → T (openFor o s)
-unfolding openFor isOpen
-open-for n s OPEN h = tt
-open-for n s CLOSE h = tt
-open-for n s ABORT h = tt
-open-for n s EVENT h = tt
-open-for n s (COMMAND k) h = le→leb 1 (s .opens) (omega arith)
+    record { sane = a .sane; real = a .real; entered = a .entered; high = a .high; low = a .low; none = a .none; owns = a .owns; idle = a .idle }
 
 party-of : (p : Party) (o : Op) (c : Call) (s : State) → T (ofK p o c s) → T (ofParty p o c s)
 unfolding ofK ofParty
@@ -193,44 +184,31 @@ also (COMMAND n) t = go (eqb n 9) t
     go true u = tt
     go false u = u
 
-stays-of : (p : Party) (o : Op) (c : Call) (s : State) → T (maySend o) → T (staysOn p o c s)
-unfolding maySend staysOn
-stays-of p OPEN c s t = tt
-stays-of p CLOSE c s t = tt
-stays-of p ABORT c s t = tt
-stays-of p EVENT c s t = tt
-stays-of p (COMMAND n) c s t = Rattle.machine.proofs.Tests.or-from (eqb n 9) _ (λ u. absurd (lib.Dec.T-not (eqb n 9) (and-right (not (eqb n 32)) (not (eqb n 9)) t) u))
-
--- with n openings of the others to begin with: any number below the open count
-goes-of : (p : Party) (n : ℕ) (s : State) (xs : List Step) → suc n ≤ s .opens → Keeps p n s xs → T (all lends (calls xs)) → T (all inRange (calls xs)) → Goes p s xs
+goes-of : (p : Party) (s : State) (xs : List Step) → Keeps p s xs → T (all lends (calls xs)) → T (all inRange (calls xs)) → Goes p s xs
 unfolding calls all
-goes-of p n s [] h k l f = tt
-goes-of p n s (our c ∷ xs) h k l f =
-    let b = k .0 in
-    (record {
-      party = party-of p (c .op) c s (b .party);
-      sends = also (c .op) (b .sends);
-      stays = stays-of p (c .op) c s (b .sends);
-      high = b .high;
-      opened = open-for n s (c .op) h;
-      full = and-left (lends c) (all lends (calls xs)) l;
-      fits = and-left (inRange c) (all inRange (calls xs)) f;
-    }, goes-of p n (call s c .next) xs (ours-opened n s c h (b .sends)) (k .1) (and-right (lends c) (all lends (calls xs)) l) (and-right (inRange c) (all inRange (calls xs)) f))
-goes-of p n s (their c ∷ xs) h k l f =
-    let b = k .0 in
-    (record { apart = b .apart; low = b .low; fits = and-left (inRange c) (all inRange (calls xs)) f },
-    goes-of p (balance (c .op) (call s c .answer) n) (call s c .next) xs (theirs-opened n s c h (b .closes)) (k .1) (and-right (lends c) (all lends (calls xs)) l) (and-right (inRange c) (all inRange (calls xs)) f))
+goes-of p s [] k l f = tt
+goes-of p s (our c ∷ xs) k l f =
+    let b = k .0 in (
+      record {
+        party = party-of p (c .op) c s (b .party);
+        sends = also (c .op) (b .sends);
+        high = b .high;
+        full = and-left (lends c) (all lends (calls xs)) l;
+        fits = and-left (inRange c) (all inRange (calls xs)) f;
+      },
+      goes-of p (call s c .next) xs (k .1) (and-right (lends c) (all lends (calls xs)) l) (and-right (inRange c) (all inRange (calls xs)) f),
+    )
+goes-of p s (their c ∷ xs) k l f =
+    let b = k .0 in (
+      record { apart = b .apart; low = b .low; fits = and-left (inRange c) (all inRange (calls xs)) f },
+      goes-of p (call s c .next) xs (k .1) (and-right (lends c) (all lends (calls xs)) l) (and-right (inRange c) (all inRange (calls xs)) f),
+    )
+
+run-goes : (p : Party) (s : State) (xs : List Step) → Run p s xs → Goes p s xs
+run-goes p s xs h = goes-of p s xs (h .keeps) (h .full) (h .fits)
 
 pub K-sees-the-same : Demand3
-unfolding isOpen
-K-sees-the-same p s xs ys a h k e =
-    let o = leb→le 1 (s .opens) (a .opened) in
-    core p s xs ys (begins-of p s a) (goes-of p 0 s xs o (h .keeps) (h .full) (h .fits)) (goes-of p 0 s ys o (k .keeps) (k .full) (k .fits)) e
-
--- the others may also close what they had open before the runs: n openings, fewer than there are
-pub K-sees-the-same-from : (p : Party) (n : ℕ) (s : State) (xs ys : List Step) → Begins p s → suc n ≤ s .opens → Keeps p n s xs → Keeps p n s ys
-    → T (all lends (calls xs)) → T (all inRange (calls xs)) → T (all lends (calls ys)) → T (all inRange (calls ys)) → own xs ≡ own ys → seen p s xs ≡ seen p s ys
-K-sees-the-same-from p n s xs ys a o h k l f m g e = core p s xs ys a (goes-of p n s xs o h l f) (goes-of p n s ys o k m g) e
+K-sees-the-same p s xs ys a h k e = core p s xs ys (begins-of p s a) (run-goes p s xs h) (run-goes p s ys k) e
 
 -- ---- K's part at the end of a run is what its own calls make of its part at the beginning, so runs can follow one another
 
@@ -256,10 +234,8 @@ same-part-after p s t xs ys a b q h k e =
 
 pub K-sees-its-part : (p : Party) (s t : State) (xs ys : List Step) → Start p s → Start p t → project p s ≡ project p t → Run p s xs → Run p t ys → own xs ≡ own ys
     → seen p s xs ≡ seen p t ys
-unfolding isOpen
 K-sees-its-part p s t xs ys a b q h k e =
-    part-sees-the-same p s t xs ys (begins-of p s a) (begins-of p t b) q (goes-of p 0 s xs (leb→le 1 (s .opens) (a .opened)) (h .keeps) (h .full) (h .fits))
-    (goes-of p 0 t ys (leb→le 1 (t .opens) (b .opened)) (k .keeps) (k .full) (k .fits)) e
+    part-sees-the-same p s t xs ys (begins-of p s a) (begins-of p t b) q (run-goes p s xs h) (run-goes p t ys k) e
 
 left-alone : (p : Party) (s : State) (xs : List Step) (c : Call) → Ready p s → Goes p s (xs ++ their c ∷ []) → Mild p (reached s xs) (call (reached s xs) c)
 unfolding reached
@@ -269,10 +245,9 @@ left-alone p s (their d ∷ xs) c r k = left-alone p (call s d .next) xs c (thei
 
 pub others-leave-K-alone : (p : Party) (s : State) (xs : List Step) (c : Call) → Start p s → Run p s (xs ++ their c ∷ [])
     → (ownReplies p (call (reached s xs) c .replies) ≡ []) × (view p (call (reached s xs) c .next) ≡ view p (reached s xs))
-unfolding view isOpen
+unfolding view
 others-leave-K-alone p s xs c t h =
-    let o = leb→le 1 (s .opens) (t .opened) in
-    let g : Goes p s (xs ++ their c ∷ []) = goes-of p 0 s (xs ++ their c ∷ []) o (h .keeps) (h .full) (h .fits) in
+    let g : Goes p s (xs ++ their c ∷ []) = run-goes p s (xs ++ their c ∷ []) h in
     let m : Mild p (reached s xs) (call (reached s xs) c) = left-alone p s xs c (start-ready p s (begins-of p s t)) g in
     (m .quiet, channels-of (call (reached s xs) c .next) (reached s xs) (m .still))
   where
