@@ -15,15 +15,15 @@ use Rattle.machine.specs.Lists.{if_then_else_, among, any}
 use Rattle.machine.specs.Commands.{closed}
 use Rattle.machine.proofs.Tests.{by-test, test-true, test-false}
 use Rattle.open_keys.specs.declared.Keys.{Keys}
-use Rattle.open_keys.specs.OpenKeys.{pad, keysOf, listOf, Tidy, removeAt, indexOf}
+use Rattle.open_keys.specs.OpenKeys.{pad, keysOf, keysIn, Tidy, removeAt, indexOf}
 
 -- ---- keysOf
 
 pub length-pad : (l : List ℕ) → length l ≤ ENTRIES → length (pad l) ≡ ENTRIES
 length-pad l h = simp (length-append, length-replicate) (omega arith)
 
-pub listOf-keysOf : (l : List ℕ) → listOf (keysOf l) ≡ l
-listOf-keysOf l = take-append-seam l _
+pub keysIn-keysOf : (l : List ℕ) → keysIn (keysOf l) ≡ l
+keysIn-keysOf l = take-append-seam l _
 
 -- ---- add
 
@@ -123,31 +123,31 @@ index-turn key l i h e = rw (drop-cons l i 0, ne-eqb _ _ (λ q. e (sym q)))
 -- ---- the methods, of a table that is tidy
 
 module _ (q : Keys) (t : Tidy q) where
-  tidy-n : q .n ≡ length (listOf q)
+  tidy-n : q .n ≡ length (keysIn q)
   tidy-n = ap (λ (x : Keys). x .n) t
 
-  tidy-keys : q .keys ≡ pad (listOf q)
+  tidy-keys : q .keys ≡ pad (keysIn q)
   tidy-keys = ap (λ (x : Keys). x .keys) t
 
-  pub add-tidy : (k : ℕ) → q .n < ENTRIES → _≡_ {A = Keys} (record { n = q .n + 1; keys = set (q .keys) (q .n) k }) (keysOf (listOf q ++ k ∷ []))
+  pub add-tidy : (k : ℕ) → q .n < ENTRIES → _≡_ {A = Keys} (record { n = q .n + 1; keys = set (q .keys) (q .n) k }) (keysOf (keysIn q ++ k ∷ []))
   add-tidy k h =
       ap₂ (λ (n : ℕ) (ks : List ℕ). record { n = n + 1; keys = set ks n k }) tidy-n tidy-keys
-      ∙ added-of (listOf q) k (omega (arith, tidy-n, h))
+      ∙ added-of (keysIn q) k (omega (arith, tidy-n, h))
 
-  pub close-absent : (k : ℕ) → q .n ≤ indexOf k (listOf q) → q ≡ keysOf (closed k (listOf q))
-  close-absent k h = t ∙ ap keysOf (sym (index-absent k (listOf q) (omega (arith, tidy-n, h))))
+  pub close-absent : (k : ℕ) → q .n ≤ indexOf k (keysIn q) → q ≡ keysOf (closed k (keysIn q))
+  close-absent k h = t ∙ ap keysOf (sym (index-absent k (keysIn q) (omega (arith, tidy-n, h))))
 
-  pub close-tidy : (k i : ℕ) → i ≡ indexOf k (listOf q) → q .n ≤ ENTRIES → i < q .n
-      → _≡_ {A = Keys} (record { n = q .n - 1; keys = removeAt (q .keys) i }) (keysOf (closed k (listOf q)))
+  pub close-tidy : (k i : ℕ) → i ≡ indexOf k (keysIn q) → q .n ≤ ENTRIES → i < q .n
+      → _≡_ {A = Keys} (record { n = q .n - 1; keys = removeAt (q .keys) i }) (keysOf (closed k (keysIn q)))
   close-tidy k i e h g =
       ap₂ (λ (n : ℕ) (ks : List ℕ). record { n = n - 1; keys = removeAt ks i }) tidy-n tidy-keys
-      ∙ removed-of (listOf q) i (omega (arith, tidy-n, g)) (omega (arith, tidy-n, h))
-      ∙ ap (λ (j : ℕ). keysOf (take j (listOf q) ++ drop (suc j) (listOf q))) e
-      ∙ ap keysOf (sym (index-closed k (listOf q) (omega (arith, tidy-n, g, e))))
+      ∙ removed-of (keysIn q) i (omega (arith, tidy-n, g)) (omega (arith, tidy-n, h))
+      ∙ ap (λ (j : ℕ). keysOf (take j (keysIn q) ++ drop (suc j) (keysIn q))) e
+      ∙ ap keysOf (sym (index-closed k (keysIn q) (omega (arith, tidy-n, g, e))))
 
-pub has-is : (q : Keys) (k : ℕ) → length (q .keys) ≡ ENTRIES → q .n ≤ ENTRIES → ltb (indexOf k (listOf q)) (q .n) ≡ among k (listOf q)
+pub has-is : (q : Keys) (k : ℕ) → length (q .keys) ≡ ENTRIES → q .n ≤ ENTRIES → ltb (indexOf k (keysIn q)) (q .n) ≡ among k (keysIn q)
 has-is q k h g =
-    let e : length (listOf q) ≡ q .n = length-take-le (q .n) (q .keys) (omega arith) in
-    by-test (ltb (indexOf k (listOf q)) (q .n))
-    (λ t. test-true (ltb (indexOf k (listOf q)) (q .n)) t ∙ sym (index-among k (listOf q) .0 (omega (arith, e, ltb→lt (indexOf k (listOf q)) (q .n) t))))
-    (λ t. test-false (ltb (indexOf k (listOf q)) (q .n)) t ∙ sym (index-among k (listOf q) .1 (omega (arith, e, nltb→le (indexOf k (listOf q)) (q .n) t))))
+    let e : length (keysIn q) ≡ q .n = length-take-le (q .n) (q .keys) (omega arith) in
+    by-test (ltb (indexOf k (keysIn q)) (q .n))
+    (λ t. test-true (ltb (indexOf k (keysIn q)) (q .n)) t ∙ sym (index-among k (keysIn q) .0 (omega (arith, e, ltb→lt (indexOf k (keysIn q)) (q .n) t))))
+    (λ t. test-false (ltb (indexOf k (keysIn q)) (q .n)) t ∙ sym (index-among k (keysIn q) .1 (omega (arith, e, nltb→le (indexOf k (keysIn q)) (q .n) t))))

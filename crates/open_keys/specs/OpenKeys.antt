@@ -2,7 +2,7 @@
 -- Assumes nothing.
 --
 --   keysOf l           the table of a list of keys: its length, and the keys with zeros behind them
---   listOf q           the keys of a table
+--   keysIn q           the keys of a table
 --   Tidy q             zeros stand behind the keys
 --   removeAt a k       the array without place k, the rest moved up, a zero at the end
 --   indexOf key l      where a key first stands in a list; the length where it stands nowhere
@@ -21,11 +21,11 @@ pad l = l ++ replicate (ENTRIES - length l) 0
 abbrev pub keysOf : List ℕ → Keys
 keysOf l = record { n = length l; keys = pad l }
 
-abbrev pub listOf : Keys → List ℕ
-listOf q = take (q .n) (q .keys)
+abbrev pub keysIn : Keys → List ℕ
+keysIn q = take (q .n) (q .keys)
 
 abbrev pub Tidy : Keys → Type 0
-Tidy q = q ≡ keysOf (listOf q)
+Tidy q = q ≡ keysOf (keysIn q)
 
 abbrev pub removeAt : List ℕ → ℕ → List ℕ
 removeAt a k = take k a ++ (drop (suc k) a ++ (0 ∷ []))

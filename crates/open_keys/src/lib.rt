@@ -6,7 +6,7 @@ ghost use Prim.Native.Nat.{_≤_, _<_};
 ghost use lib.ListN.{take};
 ghost use Rattle.machine.specs.Lists.{among};
 ghost use Rattle.machine.specs.Commands.{closed};
-ghost use Rattle.open_keys.specs.OpenKeys.{keysOf, listOf, Tidy, removeAt, indexOf};
+ghost use Rattle.open_keys.specs.OpenKeys.{keysOf, keysIn, Tidy, removeAt, indexOf};
 
 pub struct Keys {
     pub n: u8,
@@ -27,7 +27,7 @@ impl Keys {
     // Whether the key has an entry.
     pub fn has(self, key: u16) -> bool
         requires { ⌜ self .n ≤ 32 ⌝ }
-        ensures { λ r. ⌜ r ≡ among key (listOf self) ⌝ }
+        ensures { λ r. ⌜ r ≡ among key (keysIn self) ⌝ }
     {
         let keys = self.keys;
         let n = self.n as usize;
@@ -37,7 +37,7 @@ impl Keys {
     // One more entry, behind the others.
     pub fn add(mut self, key: u16) -> Self
         requires { ⌜ Tidy self × (self .n < 32) ⌝ }
-        ensures { λ r. ⌜ r ≡ keysOf (listOf self ++ key ∷ []) ⌝ }
+        ensures { λ r. ⌜ r ≡ keysOf (keysIn self ++ key ∷ []) ⌝ }
     {
         let at = self.n as usize;
         self.keys[at] = key;
@@ -48,7 +48,7 @@ impl Keys {
     // Without the oldest entry of the key; as it was where the key has none.
     pub fn close(self, key: u16) -> Self
         requires { ⌜ Tidy self × (self .n ≤ 32) ⌝ }
-        ensures { λ r. ⌜ r ≡ keysOf (closed key (listOf self)) ⌝ }
+        ensures { λ r. ⌜ r ≡ keysOf (closed key (keysIn self)) ⌝ }
     {
         let keys = self.keys;
         let n = self.n as usize;
