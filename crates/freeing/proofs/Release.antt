@@ -22,7 +22,7 @@ use Rattle.store.specs.declared.State.{State}
 use Rattle.store.specs.Store.{writeItem, lockItem, waitItem, writeItems, items, tableOf, stateIn, Held}
 use Rattle.store.specs.Work.{Ready, Did}
 use Rattle.store.proofs.Table.{good-sub}
-use Rattle.store.proofs.Store.{held-parts, held-eight, good-of}
+use Rattle.store.proofs.Store.{held-parts, held-eight, good-of, held-opens}
 use Rattle.granting.specs.Granting.{idled, writesIn}
 use Rattle.granting.proofs.Laws.{held-changed, held-cleared}
 use Rattle.locks.specs.declared.Sifted.{Sifted}
@@ -117,7 +117,7 @@ module _ {st : State} {tb l : List ℕ} (m : ℕ) (p : Ready st tb l 0 (length (
         v .queue ∙ ap (λ (ls : List Lock). queueOf (map (λ x. x .id) ls)) (left-is m h) in
         let x : st .waiting ≡ queueOf (map (λ y. y .id) (s .waiting)) = ap (λ (y : State). y .waiting) (h .struct) in
         record {
-          struct = λ i. record { channels = c i; locks = q i; waiting = x i; opens = st .opens; last = st .last };
+          struct = λ i. record { channels = c i; locks = q i; waiting = x i; opens = held-opens h i; last = st .last };
           table = v .table
               ∙ ap (λ (ls : List Lock). Rattle.store.specs.Store.entries 64 0 (writeItems (change freed m (s .channels)) ++ map lockItem ls ++ map waitItem (s .waiting))) (left-is m h);
           list = v .replies ∙ (rw (w .1, w .0, ← replies-are m h) (sent-append l 0 (abortedIn m (s .channels)) (over m h) (omega arith)));
