@@ -25,6 +25,9 @@ length-pad l h = simp (length-append, length-replicate) (omega arith)
 pub keysIn-keysOf : (l : List ℕ) → keysIn (keysOf l) ≡ l
 keysIn-keysOf l = take-append-seam l _
 
+pub tidy-of : {q : Keys} (l : List ℕ) → q ≡ keysOf l → Tidy q
+tidy-of l e = e ∙ ap keysOf (sym (ap keysIn e ∙ keysIn-keysOf l))
+
 -- ---- add
 
 add-pad : (l : List ℕ) (k : ℕ) → length l < ENTRIES → set (pad l) (length l) k ≡ pad (l ++ k ∷ [])

@@ -56,5 +56,5 @@ module _ {st : State} {tb : List ℕ} (h : Held st tb) (m : ℕ) where
         count = e .count ∙ ap (λ (x : List Reply). n + length x) stolen-is;
       }
     where
-      table-of : (ls ks : List Lock) → ls ≡ ks → entries 64 0 (writeItems (stateIn st tb .channels) ++ map lockItem ls ++ map waitItem (stateIn st tb .waiting)) ≡ tableOf (record { channels = stateIn st tb .channels; locks = ks; waiting = stateIn st tb .waiting; opens = st .opens; last = st .last })
+      table-of : (ls ks : List Lock) → ls ≡ ks → entries 64 0 (writeItems (stateIn st tb .channels) ++ map lockItem ls ++ map waitItem (stateIn st tb .waiting)) ≡ tableOf (record { channels = stateIn st tb .channels; locks = ks; waiting = stateIn st tb .waiting; opens = stateIn st tb .opens; last = st .last })
       table-of ls ks x = unfold tableOf items in ap (λ (y : List Lock). entries 64 0 (writeItems (stateIn st tb .channels) ++ map lockItem y ++ map waitItem (stateIn st tb .waiting))) x
