@@ -1,20 +1,20 @@
 -- From eight channels to the board's own: what is decided by the board's refusal, done on eight channels, is the machine's call on
 -- the board's own (crate `widening`). Assumes nothing.
-use Prim.Native.Nat.{ℕ, zero, suc, _-_, _≤_, _<_}
-use mathlib.Core.Path.{_≡_, refl, ap, sym, subst, _∙_}
-use mathlib.Core.Bool.{Bool, true, false}
+use Prim.Native.Nat.{ℕ, zero, suc, _-_, _≤_}
+use mathlib.Core.Path.{_≡_, ap, sym, subst, _∙_}
+use mathlib.Core.Bool.{Bool, false}
 use mathlib.Core.List.{List}
 use native.Mathlib.Omega.{arith}
 use lib.Dec.{T, leb, le→leb, leb→le}
 use lib.ListN.{length}
-use Rattle.machine.specs.State.{State as StateM, Outcome as OutcomeM, Call}
-use Rattle.machine.specs.Refusals.{Refusal, accepted, refused, refusal}
+use Rattle.machine.specs.State.{State as StateM, Call}
+use Rattle.machine.specs.Refusals.{Refusal, accepted, refusal}
 use Rattle.machine.specs.Call.{answering, call, inRange}
 use Rattle.machine.proofs.Tests.{and-both}
 use Rattle.machine_laws.proofs.Board.{call-wide as call-as-wide}
 use Rattle.widening.specs.Widening.{widen, widenO}
 use Rattle.widening.proofs.Calls.{call-wide, accepted-wide}
-use Rattle.store.specs.Store.{stateIn as wideIn, structOf as wideOf, tableOf}
+use Rattle.store.specs.Store.{stateIn as wideIn, structOf as wideOf}
 use Rattle.sound.specs.Sound.{Decides}
 use Rattle.answers.specs.declared.Request.{Request}
 use Rattle.answers.specs.declared.Outcome.{Outcome as WideOutcome}
@@ -22,14 +22,15 @@ use Rattle.answers.specs.Answers.{Told as WideTold}
 use Rattle.answers.proofs.Laws.{told-as}
 use Rattle.board.specs.declared.Board.{Board}
 use Rattle.board.specs.declared.Outcome.{Outcome}
-use Rattle.board.specs.Board.{structOf, stateIn, Held, Told}
+use Rattle.board.specs.Board.{stateIn, Held, Told}
 use Rattle.board.proofs.Laws.{table-wide, held-parts, held-width, held-wide}
 use Rattle.steps.specs.Steps.{numberOf}
 use Rattle.refusals.specs.declared.Op.{Op}
 use Rattle.refusals.specs.Refusals.{opIn, askedOf, Refuses}
 use Rattle.refusing.proofs.Laws.{false-true}
-use Rattle.arbiter.specs.Arbiter.{decisionOf, Decided, Unmoved, Called}
-use Rattle.arbiter.proofs.Laws.{number-refused, zero-accepted, late-room}
+use Rattle.deciding.specs.Deciding.{decisionOf, Decided}
+use Rattle.deciding.proofs.Laws.{number-refused, zero-accepted, late-room}
+use Rattle.arbiter.specs.Arbiter.{Unmoved, Called}
 
 module _ (l : List ℕ) {o : Op} {r : Request} {b : Board} {ms tb : List ℕ} {e : ℕ} (h : Held b tb) (g : (r .prec ≤ 255) × (r .key ≤ 65535)) (w : Refuses o r b ms tb (length l) e) where
   abbrev c₀ : Call

@@ -15,7 +15,8 @@ use Rattle.board.specs.Board.{sized, freshBoard, Held}
 use Rattle.board.proofs.Laws.{table-wide, fresh-of}
 use Rattle.taking.specs.declared.Taken.{Taken}
 use Rattle.taking.specs.Desk.{deskOf, needed, filled}
-use Rattle.paging.specs.Paging.{Fills, Finishes}
+use Rattle.paging.specs.Paging.{Fills}
+use Rattle.finishing.specs.Finishing.{Finishes}
 use Rattle.whole_log.proofs.Progress.{Went, desk-good, fills-went, fills-on, finished-went, left-held, left-within, left-inside, left-size, left-used}
 use Rattle.whole_log.proofs.Whole.{fresh-held}
 use Rattle.arbiter_log.specs.declared.Desk.{Desk}

@@ -1,6 +1,6 @@
 // The log program: a log on standard input, its output on standard output, in constant memory. Its first argument is the number of
 // channels, 4 or 8, and 4 where it is anything else or left out; with a second it also tells the board's channels after each
-// line. It reads, calls `paging` and writes: what is read and written is the C library's to say, and that each page is passed to
+// line. It reads, calls `paging` and `finishing`, and writes: what is read and written is the C library's to say, and that each page is passed to
 // `write` as it was handed back stands in `lump` and `last` to be read.
 use board::Board;
 ghost use lib.Dec.{T};
@@ -142,7 +142,7 @@ fn last(show: bool, d: Desk, line: &[u8; 527], table: &mut [u8], page: &mut [u8]
     }
     let s = d.state;
     let n = d.line;
-    let t = paging::finish(show, s, line, n, table, page, 0);
+    let t = finishing::finish(show, s, line, n, table, page, 0);
     write(page, t.at);
 }
 

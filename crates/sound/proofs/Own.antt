@@ -5,13 +5,12 @@ use mathlib.Core.Path.{_≡_, refl, ap, subst, sym, _∙_}
 use mathlib.Core.Bool.{Bool, true, false, not, _&&_}
 use mathlib.Core.List.{List, [], _∷_, map}
 use native.Mathlib.Omega.{arith}
-use lib.Dec.{T, eqb, leb, eqb→eq}
-use lib.ListN.{length, drop, take, length-map, length-drop, length-take}
+use lib.Dec.{T, eqb, eqb→eq}
+use lib.ListN.{length, drop, take, length-drop}
 use Rattle.machine.specs.Lists.{if_then_else_, all}
 use Rattle.machine.specs.State.{Channel as ChannelM, Request, free, isFree, frees}
 use Rattle.machine.specs.Sound.{soundChannel, soundRequest}
 use Rattle.machine.proofs.Tests.{and-left, and-right, and-both, test-true, test-false}
-use Rattle.machine_laws.proofs.Sound.{Parts}
 use Rattle.channel.specs.declared.Channel.{Channel}
 use Rattle.channel.specs.Channel.{channelIn}
 use Rattle.store.specs.Store.{stateIn as wideIn, Held as WideHeld}
@@ -19,8 +18,8 @@ use Rattle.store.proofs.Store.{held-parts as wide-parts}
 use Rattle.shapes.specs.Shapes.{vacant}
 use Rattle.entries.specs.Entries.{requestTest}
 use Rattle.board.specs.declared.Board.{Board}
-use Rattle.board.specs.Board.{sized, topOf, stateIn, Held}
-use Rattle.board.proofs.Laws.{sized-within, top-pow, held-parts, held-width, held-sized, held-wide, held-spare, held-own, own-length}
+use Rattle.board.specs.Board.{sized, topOf, Held}
+use Rattle.board.proofs.Laws.{top-pow, held-parts, held-width, held-sized, held-wide, held-spare, held-own, own-length}
 use Rattle.sound.specs.Sound.{Decides, Within, soundTest, boardTest}
 use Rattle.sound.proofs.Laws.{yes-T, requests-reach, decides as wide-decides}
 

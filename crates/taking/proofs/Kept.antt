@@ -23,8 +23,8 @@ use Rattle.board.specs.declared.Board.{Board}
 use Rattle.store.specs.Store.{tableOf}
 use Rattle.board.specs.Board.{sized, structOf, stateIn, Held}
 use Rattle.board.proofs.Laws.{held-next}
-use Rattle.frames.specs.Frames.{ended, used}
-use Rattle.frames.proofs.Laws.{Small, small-digit}
+use Rattle.gathering.specs.Lumps.{ended, used}
+use Rattle.digits.proofs.Laws.{Small, small-digit}
 use Rattle.taking.specs.declared.Taken.{Taken}
 use Rattle.taking.specs.Desk.{fed, Desk, gathered, answered, taken, fits, takes, filled, closed, finished, Leaves}
 

@@ -16,8 +16,8 @@ use Rattle.machine.proofs.Tests.{if-elim}
 use Rattle.board.specs.declared.Board.{Board}
 use Rattle.store.specs.Store.{tableOf}
 use Rattle.board.specs.Board.{structOf, stateIn, Held}
-use Rattle.frames.specs.declared.Gathered.{Gathered}
-use Rattle.frames.specs.Frames.{LINE, front, ended, used, kept, Gathers}
+use Rattle.gathering.specs.declared.Gathered.{Gathered}
+use Rattle.gathering.specs.Lumps.{LINE, front, ended, used, kept, Gathers}
 use Rattle.feeding.specs.declared.Fed.{Fed}
 use Rattle.feeding.specs.Feeding.{Feeds}
 use Rattle.taking.specs.declared.Taken.{Taken}

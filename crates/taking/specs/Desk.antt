@@ -33,8 +33,8 @@ use Rattle.memory.specs.Splice.{splice}
 use Rattle.board.specs.declared.Board.{Board}
 use Rattle.store.specs.Store.{tableOf}
 use Rattle.board.specs.Board.{structOf, stateIn}
-use Rattle.lines.specs.ChannelLines.{boardLines}
-use Rattle.frames.specs.Frames.{ended, used, kept}
+use Rattle.channel_lines.specs.ChannelLines.{boardLines}
+use Rattle.gathering.specs.Lumps.{ended, used, kept}
 use Rattle.taking.specs.declared.Taken.{Taken}
 
 -- ---- the log with its channels

@@ -6,7 +6,7 @@ ghost use Prim.Native.Nat.{_≤_};
 ghost use lib.ListN.{length, take};
 ghost use Rattle.board.specs.Board.{Held};
 ghost use Rattle.feeding.specs.Feeding.{Feeds};
-ghost use Rattle.frames.specs.Frames.{LINE};
+ghost use Rattle.gathering.specs.Lumps.{LINE};
 ghost use Rattle.taking.specs.Desk.{Takes, Ends};
 
 // What a call leaves beside the lent bytes: the state, how much stands of a line that has not ended, how much of the fragment
@@ -38,7 +38,7 @@ pub fn take(
     requires { ⌜ Held s (now table) × (n ≤ LINE) ⌝ }
     ensures { λ t. ⌜ Takes s (now (table .entry)) (now (line .entry)) n (now (fragment .entry)) (now (out .entry)) t (now (line .exit)) (now (table .exit)) (now (out .exit)) ⌝ }
 {
-    let g = frames::gather(line, n, fragment);
+    let g = gathering::gather(line, n, fragment);
     let k = g.n;
     let used = g.used;
     if !g.ended {

@@ -21,15 +21,16 @@ use Rattle.board.specs.declared.Board.{Board}
 use Rattle.board.specs.Board.{structOf, stateIn, Held}
 use Rattle.machine_laws.proofs.Sound.{parts}
 use Rattle.board.proofs.Laws.{struct-eight}
-use Rattle.lines.proofs.ChannelLines.{board-few}
-use Rattle.frames.specs.Frames.{LINE, ended, used}
-use Rattle.frames.proofs.Lumps.{used-within}
+use Rattle.channel_lines.proofs.ChannelLines.{board-few}
+use Rattle.gathering.specs.Lumps.{LINE, ended, used}
+use Rattle.gathering.proofs.Lumps.{used-within}
 use Rattle.feeding.proofs.Laws.{feed-few}
 use Rattle.taking.specs.declared.Taken.{Taken}
 use Rattle.taking.specs.Desk.{shownOf, fed, Desk, deskOf, gathered, answered, taken, needed, fits, takes, filled, closed, finished, Leaves}
 use Rattle.taking.proofs.Kept.{Fine, held-fine, feed-fine, answered-fine, leaves-held}
 use Rattle.taking.proofs.Laws.{kept-few, taken-used, used-some}
-use Rattle.paging.specs.Paging.{Fills, Finishes}
+use Rattle.paging.specs.Paging.{Fills}
+use Rattle.finishing.specs.Finishing.{Finishes}
 use Rattle.paging.proofs.Laws.{takes-more}
 
 -- ---- a line's output has the room that is asked for it

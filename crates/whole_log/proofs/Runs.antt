@@ -14,12 +14,13 @@ use Rattle.machine.proofs.Tests.{if-elim, test-true}
 use Rattle.board.specs.declared.Board.{Board}
 use Rattle.store.specs.Store.{tableOf}
 use Rattle.board.specs.Board.{sized, structOf, stateIn, Held}
-use Rattle.frames.specs.Frames.{LINE}
+use Rattle.gathering.specs.Lumps.{LINE}
 use Rattle.taking.specs.declared.Taken.{Taken}
 use Rattle.taking.specs.Desk.{Desk, deskOf, needed, fits, filled, closed, finished, Leaves}
 use Rattle.taking.proofs.Kept.{held-fine}
-use Rattle.paging.specs.Paging.{Fills, Finishes}
-use Rattle.paging.proofs.Laws.{finished-fits}
+use Rattle.paging.specs.Paging.{Fills}
+use Rattle.finishing.specs.Finishing.{Finishes}
+use Rattle.finishing.proofs.Laws.{finished-fits}
 use Rattle.whole_log.specs.Whole.{joined, Ran, fills, used-up, finishes, writes, over}
 use Rattle.whole_log.proofs.Progress.{Good, Went, filled-went, filled-on, finished-went, left-held}
 use Rattle.whole_log.proofs.Whole.{fresh-held}

@@ -21,13 +21,14 @@ use Rattle.board.specs.declared.Board.{Board}
 use Rattle.store.specs.Store.{tableOf}
 use Rattle.board.specs.Board.{sized, structOf, stateIn, Held}
 use Rattle.board.proofs.Laws.{held-of, stateIn-of, fresh-sane}
-use Rattle.frames.specs.Frames.{LINE, front, ended, used, kept, gatheredOf, Gathers}
-use Rattle.frames.proofs.Lumps.{Stands, stands-none, stands-more, stands-feed, stands-within, front-open, used-open, lines-none, lines-last, lines-step, lines-on}
+use Rattle.gathering.specs.Lumps.{LINE, front, ended, used, kept, gatheredOf, Gathers}
+use Rattle.gathering.proofs.Lumps.{Stands, stands-none, stands-more, stands-feed, stands-within, front-open, used-open, lines-none, lines-last, lines-step, lines-on}
 use Rattle.taking.specs.declared.Taken.{Taken}
 use Rattle.taking.specs.Desk.{shownOf, fed, runShown, logShown, Desk, deskOf, gathered, answered, taken, fits, takes, filled, closed, finished, Leaves}
 use Rattle.taking.proofs.Kept.{leaves-state}
 use Rattle.taking.proofs.Laws.{fed-hidden, taken-open, taken-ended, taken-used, closed-none, closed-some}
-use Rattle.paging.specs.Paging.{Fills, Finishes}
+use Rattle.paging.specs.Paging.{Fills}
+use Rattle.finishing.specs.Finishing.{Finishes}
 use Rattle.whole_log.specs.Whole.{joined, Ran, fills, used-up, finishes, writes, over}
 use Rattle.whole_log.proofs.Progress.{Good, Went, desk-good, taken-went, filled-went, finished-went, left-held, left-inside}
 

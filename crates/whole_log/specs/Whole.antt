@@ -17,7 +17,8 @@ use mathlib.Core.List.{List, [], _∷_, _++_}
 use lib.ListN.{take, drop}
 use Rattle.board.specs.declared.Board.{Board}
 use Rattle.taking.specs.declared.Taken.{Taken}
-use Rattle.paging.specs.Paging.{Fills, Finishes}
+use Rattle.paging.specs.Paging.{Fills}
+use Rattle.finishing.specs.Finishing.{Finishes}
 
 abbrev pub joined : List (List ℕ) → List ℕ
 joined [] = []

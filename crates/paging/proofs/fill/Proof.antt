@@ -12,8 +12,8 @@ use Rattle.paging.proofs.fill.Statement.{statement}
 use Rattle.paging.proofs.fill.Tie as tie
 use Rattle.paging.proofs.fill.Reads as reads
 use Rattle.paging.proofs.fill.Lts as lts
-use Rattle.paging.proofs.room.Reads as room-reads
-use Rattle.paging.proofs.turn.Reads as turn-reads
+use Rattle.one_line.proofs.room.Reads as room-reads
+use Rattle.one_line.proofs.turn.Reads as turn-reads
 
 abbrev Inv-loop : tie.InvT-loop
 Inv-loop show line₀ started input table₀ page₀ stands s₀ n₀ at₀ from₀ line table page s n at from =

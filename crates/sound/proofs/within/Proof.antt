@@ -1,8 +1,8 @@
 -- `within` meets its contract: its steps are those of the test, and the test decides what is asked (Laws.antt). Assumes nothing.
 use mathlib.Core.Path.{ap, sym, _∙_}
 use borrow.Author.Tests.{not-true, not-false}
-use Rattle.sound.specs.declared.Marks.{Marks}
-use Rattle.sound.proofs.Cases.{tidied, shape}
+use Rattle.placing.specs.declared.Marks.{Marks}
+use Rattle.placing.proofs.Cases.{tidied, shape}
 use Rattle.sound.proofs.Laws.{yes-T, deciding, waiting-low, not-long, not-shaped, not-placed, not-falling, rest-tells}
 use borrow.Author.Needs.{needs}
 use Rattle.sound.proofs.within.Statement.{statement}

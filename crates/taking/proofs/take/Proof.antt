@@ -7,7 +7,7 @@ use Rattle.taking.proofs.take.Statement.{statement}
 use Rattle.taking.proofs.take.Tie as tie
 use Rattle.taking.proofs.take.Reads as reads
 use Rattle.taking.proofs.take.Lts as lts
-use Rattle.frames.proofs.gather.Reads as gather-reads
+use Rattle.gathering.proofs.gather.Reads as gather-reads
 use Rattle.taking.proofs.answer.Reads as answer-reads
 
 gather-requires : tie.Need-gather-requires

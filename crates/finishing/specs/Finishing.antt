@@ -1,0 +1,13 @@
+-- The last line of a log, its output on a lent page: what `finish` promises.
+-- Assumes nothing.
+--
+--   Finishes   what `finish` leaves: the desk that `finished` of `taking` names
+use Prim.Native.Nat.{ℕ}
+use mathlib.Core.Bool.{Bool}
+use mathlib.Core.List.{List}
+use Rattle.board.specs.declared.Board.{Board}
+use Rattle.taking.specs.declared.Taken.{Taken}
+use Rattle.taking.specs.Desk.{deskOf, finished, Leaves}
+
+pub record Finishes (show : Bool) (s : Board) (tb l : List ℕ) (n : ℕ) (page : List ℕ) (at : ℕ) (t : Taken) (tb′ page′ : List ℕ) : Type 0 where
+  pub leaves : Leaves t l tb′ page′ (finished show (deskOf s tb l n page at))

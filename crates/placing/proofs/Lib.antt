@@ -1,0 +1,3 @@
+pub mod Cases
+pub mod Turns
+pub mod Walks
