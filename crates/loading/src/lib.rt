@@ -48,6 +48,28 @@ fn channels_at(bytes: &[u8]) -> [Channel; 8]
     cs
 }
 
+fn keys_at(bytes: &[u8], at: usize) -> [u16; Keys::ROOM]
+    requires { ⌜ at + 64 ≤ length (now bytes) ⌝ }
+    ensures { λ r. ⌜ r ≡ keysFrom 32 (now (bytes .entry)) at ⌝ }
+{
+    let mut keys = [0u16; Keys::ROOM];
+    let mut i: usize = 0;
+    while i < Keys::ROOM {
+        let k = memory::key_at(bytes, at + 2 * i);
+        keys[i] = k;
+        i += 1;
+    }
+    keys
+}
+
+fn open_at(bytes: &[u8], at: usize) -> Keys
+    requires { ⌜ at + 65 ≤ length (now bytes) ⌝ }
+    ensures { λ r. ⌜ r ≡ openAt (now (bytes .entry)) at ⌝ }
+{
+    let keys = keys_at(bytes, at + 1);
+    Keys { n: bytes[at], keys }
+}
+
 pub fn load(bytes: &[u8]) -> Board
     requires { ⌜ Whole (now bytes) ⌝ }
     ensures { λ r. ⌜ r ≡ stateOf (now (bytes .entry)) ⌝ }
@@ -55,15 +77,16 @@ pub fn load(bytes: &[u8]) -> Board
     let cs = channels_at(bytes);
     let locks = queue_at(bytes, 560);
     let waiting = queue_at(bytes, 625);
+    let opens = open_at(bytes, 690);
     let s = State {
         channels: cs,
         locks,
         waiting,
-        opens: memory::key_at(bytes, 690),
-        last: memory::key_at(bytes, 692),
+        opens,
+        last: memory::key_at(bytes, 755),
     };
     Board {
-        width: bytes[694],
+        width: bytes[757],
         state: s,
     }
 }
