@@ -14,9 +14,10 @@ use Rattle.memory.proofs.Splice.{splice-none, set-splice, splice-append, splice
 use Rattle.machine.specs.Lists.{all}
 use Rattle.machine.proofs.Tests.{and-left}
 use Rattle.queue.specs.declared.Queue.{Queue}
+use Rattle.open_keys.specs.declared.Keys.{Keys}
 use Rattle.channel.specs.declared.Channel.{Channel}
 use Rattle.board.specs.declared.Board.{Board}
-use Rattle.image.specs.Image.{markOf, keyBytes, queueBytes, channelBytes, channelsBytes, imageOf, keyAt, queueAt, channelAt, channelsAt, stateOf, isByte, marksAt, allMarks, isWhole, Whole, Filled, AllFilled, Wrote, Entered}
+use Rattle.image.specs.Image.{markOf, keyBytes, keysBytes, openBytes, queueBytes, channelBytes, channelsBytes, imageOf, keyAt, keysFrom, openAt, queueAt, channelAt, channelsAt, stateOf, isByte, marksAt, allMarks, isWhole, Whole, Filled, AllFilled, Wrote, Entered}
 
 -- ---- the test
 
@@ -233,8 +234,8 @@ unfolding keysBytes
 keys-twice [] = refl
 keys-twice (k ∷ ks) = let h = keys-twice ks in omega arith
 
-pub open-filled : {l : List ℕ} {at : ℕ} {q : Keys} {l′ : List ℕ} → Wrote l at (openBytes q) 65 l′ → length (q .keys) ≡ 32
-open-filled {q = q} w = let e = w .size in let k = keys-twice (q .keys) in omega arith
+pub open-filled : {l : List ℕ} {at : ℕ} (q : Keys) {l′ : List ℕ} → Wrote l at (openBytes q) 65 l′ → length (q .keys) ≡ 32
+open-filled q w = let e = w .size in let k = keys-twice (q .keys) in omega arith
 
 -- keys read one after another
 keys-snoc : (n : ℕ) (bs : List ℕ) (at : ℕ) → keysFrom (suc n) bs at ≡ keysFrom n bs at ++ (keyAt bs (at + 2 * n) ∷ [])

@@ -1,12 +1,13 @@
-// The state read from the 695 bytes that a caller keeps, which `image` has tested. Assumes nothing.
+// The state read from the 758 bytes that a caller keeps, which `image` has tested. Assumes nothing.
 use board::Board;
 use channel::Channel;
+use open_keys::Keys;
 use queue::Queue;
 use store::State;
 ghost use mathlib.Core.Path.{_≡_};
 ghost use Prim.Native.Nat.{_+_, _≤_};
 ghost use lib.ListN.{length};
-ghost use Rattle.image.specs.Image.{queueAt, channelAt, channelsAt, stateOf, Whole};
+ghost use Rattle.image.specs.Image.{keysFrom, openAt, queueAt, channelAt, channelsAt, stateOf, Whole};
 
 fn queue_at(bytes: &[u8], at: usize) -> Queue
     requires { ⌜ at + 65 ≤ length (now bytes) ⌝ }

@@ -1,12 +1,13 @@
-// The state written as the 695 bytes that a caller keeps (image's specs/Image.antt has the layout, and what is promised).
+// The state written as the 758 bytes that a caller keeps (image's specs/Image.antt has the layout, and what is promised).
 // Assumes nothing.
 use board::Board;
 use channel::Channel;
+use open_keys::Keys;
 use queue::Queue;
 ghost use mathlib.Core.Path.{_≡_};
 ghost use Prim.Native.Nat.{_+_, _≤_, _<_};
 ghost use lib.ListN.{length, set};
-ghost use Rattle.image.specs.Image.{markOf, queueBytes, channelBytes, Wrote, Entered, Saved};
+ghost use Rattle.image.specs.Image.{markOf, keysBytes, openBytes, queueBytes, channelBytes, Wrote, Entered, Saved};
 
 fn mark(on: bool) -> u8
     ensures { λ r. ⌜ r ≡ markOf on ⌝ }
