@@ -5,10 +5,10 @@
 -- Assumes nothing.
 use Prim.Native.Nat.{_≤_, suc, ℕ}
 use mathlib.Core.Path.{_∙_, _≡_, ap, ap₂, refl, sym}
-use mathlib.Core.Bool.{Bool, _&&_, false, not, true}
+use mathlib.Core.Bool.{Bool, _&&_, _||_, false, not, true}
 use mathlib.Core.List.{List, [], _++_, _∷_, map}
 use native.Mathlib.Omega.{arith}
-use lib.Dec.{T, eqb, leb→le, ltb, ltb→lt, not-T}
+use lib.Dec.{T, eqb, leb→le, le→leb, ltb, ltb→lt, not-T}
 use Rattle.machine.specs.Numbers.{REQUESTS}
 use Rattle.machine.specs.Lists.{all, if_then_else_}
 use Rattle.machine.specs.State.{ABORT, CLOSE, COMMAND, Call, Channel, EVENT, Lock, OPEN, Op, State}
@@ -22,14 +22,14 @@ use Rattle.machine.specs.Refusals.{Refusal, accepted, badList, badMap, badMaps,
 use Rattle.machine.specs.Sound.{sound}
 use Rattle.machine.proofs.Tests.{and-both, and-left, and-right, test-false}
 use Rattle.machine_laws.proofs.KeepingCalls.{call-sound}
-use Rattle.two_runs.specs.TwoRuns.{ByK, ByOthers, Demand3, Keeps, Party, Run, Start, Step, balance, calls, lends, our, own, ownReplies, reached, said, seen, their, view}
+use Rattle.two_runs.specs.TwoRuns.{ByK, ByOthers, Demand3, Keeps, Party, Run, Start, Step, maySend, ofK, calls, lends, our, own, mask, ownReplies, reached, said, seen, their, view}
 use Rattle.two_runs.proofs.Part.{Ready, fittingLock, ours-of, ownReplies-twice, project, projectOut, theirs-of, view-part}
-use Rattle.two_runs.proofs.Opens.{ours-opened, theirs-opened}
 use Rattle.two_runs.proofs.Settle.{Loop, lockFits, ownLock}
 use Rattle.two_runs.proofs.TheirsEach.{Mild}
 use Rattle.two_runs.proofs.TheirsCall.{theirs-mild}
 use Rattle.two_runs.proofs.OursCall.{ours-loop, ours-same}
 use Rattle.two_runs.proofs.Begin.{start-ready}
+use Rattle.two_runs.specs.Core.{Begins, Demand3·core, Goes, OfK, OfOthers, mayAlso, ofParty}
 
 -- ---- the same call with another list lent
 
@@ -112,79 +112,144 @@ locks-ready p cs (l ∷ ls) t =
     go true u = and-left (p .mine (l .id)) (lockFits p cs l) u
     go false u = u
 
-ready-from : (p : Party) (n : ℕ) (s : State) → T (sound s) → suc n ≤ s .opens → Loop p s → Ready p n s
-ready-from p n s t h lp =
+ready-from : (p : Party) (s : State) → T (sound s) → Loop p s → Ready p s
+ready-from p s t lp =
     record {
       sane = t;
-      opened = h;
       real = lp .real;
-      present = lp .present;
+      entered = lp .entered;
       fit = lp .fit;
       fitLocks = locks-ready p (s .channels) (s .locks) (lp .locksOK);
       low = lp .low;
     }
 
-theirs-ready : (p : Party) (n : ℕ) (s : State) (c : Call) → Ready p n s → ByOthers p n s c → T (inRange c) → Ready p (balance (c .op) (call s c .answer) n) (call s c .next)
-theirs-ready p n s c r b f =
-    let t = theirs-of p n s c b in
-    ready-from p (balance (c .op) (call s c .answer) n) (call s c .next) (call-sound s c f (r .sane)) (theirs-opened p n s c (r .opened) t) (theirs-mild p n s c r t .loop)
+theirs-ready : (p : Party) (s : State) (c : Call) → Ready p s → OfOthers p s c → Ready p (call s c .next)
+theirs-ready p s c r b = ready-from p (call s c .next) (call-sound s c (b .fits) (r .sane)) (theirs-mild p s c r (theirs-of p s c b) .loop)
 
-ours-ready : (p : Party) (n : ℕ) (s : State) (c : Call) → Ready p n s → ByK p s c → T (inRange c) → Ready p n (call s c .next)
-ours-ready p n s c r b f =
-    ready-from p n (call s c .next) (call-sound s c f (r .sane)) (ours-opened p n s c (r .opened) (b .sends)) (ours-loop p n s r c (ours-of p s c b))
+ours-ready : (p : Party) (s : State) (c : Call) → Ready p s → OfK p s c → Ready p (call s c .next)
+ours-ready p s c r b = ready-from p (call s c .next) (call-sound s c (b .fits) (r .sane)) (ours-loop p s r c (ours-of p s c b))
 
 -- ---- a run shows what the K party's calls show, made alone from its part of the state
 
-alone : (p : Party) (n : ℕ) (s : State) (xs : List Step) → Ready p n s → Keeps p n s xs → T (all lends (calls xs)) → T (all inRange (calls xs))
-    → seen p s xs ≡ seen p (project p s) (map our (own xs))
-unfolding seen own projectOut calls all
-alone p n s [] r k l f = rw (view-part p s)
-alone p n s (our c ∷ xs) r k l f =
+alone : (p : Party) (s : State) (xs : List Step) → Ready p s → Goes p s xs → seen p s xs ≡ seen p (project p s) (map our (own xs))
+unfolding seen own projectOut
+alone p s [] r k = rw (view-part p s)
+alone p s (our c ∷ xs) r k =
     rw (
-      said-same c (and-left (lends c) (all lends (calls xs)) l) (project p s),
-      ours-same p n s r c (ours-of p s c (k .0)),
+      said-same c (k .0 .full) (project p s),
+      ours-same p s r c (ours-of p s c (k .0)),
       ownReplies-twice p (call s c .replies),
       view-part p (call s c .next),
-      alone p n (call s c .next) xs (ours-ready p n s c r (k .0) (and-left (inRange c) (all inRange (calls xs)) f)) (k .1)
-          (and-right (lends c) (all lends (calls xs)) l) (and-right (inRange c) (all inRange (calls xs)) f),
+      alone p (call s c .next) xs (ours-ready p s c r (k .0)) (k .1),
     )
-alone p n s (their c ∷ xs) r k l f =
-    let calm = theirs-mild p n s c r (theirs-of p n s c (k .0)) in
+alone p s (their c ∷ xs) r k =
+    let calm = theirs-mild p s c r (theirs-of p s c (k .0)) in
     rw (calm .quiet)
-    (alone p (balance (c .op) (call s c .answer) n) (call s c .next) xs (theirs-ready p n s c r (k .0) (and-left (inRange c) (all inRange (calls xs)) f)) (k .1)
-    (and-right (lends c) (all lends (calls xs)) l) (and-right (inRange c) (all inRange (calls xs)) f)
+    (alone p (call s c .next) xs (theirs-ready p s c r (k .0)) (k .1)
     ∙ ap (λ (u : State). seen p u (map our (own xs))) (calm .still))
 
--- ---- the claim
+pub part-sees-the-same : (p : Party) (s t : State) (xs ys : List Step) → Begins p s → Begins p t → project p s ≡ project p t → Goes p s xs → Goes p t ys → own xs ≡ own ys
+    → seen p s xs ≡ seen p t ys
+part-sees-the-same p s t xs ys a b q h k e =
+    alone p s xs (start-ready p s a) h
+    ∙ ap₂ (λ (u : State) (cs : List Call). seen p u (map our cs)) q e
+    ∙ sym (alone p t ys (start-ready p t b) k)
 
--- more than is asked: the runs may even begin in two states, if K's part of them is the same
+pub core : Demand3·core
+core p s xs ys a h k e = part-sees-the-same p s s xs ys a a refl h k e
+
+-- ---- the customer's premises, from them
+
+begins-of : (p : Party) (s : State) → Start p s → Begins p s
+begins-of p s a =
+    record { sane = a .sane; real = a .real; entered = a .entered; high = a .high; low = a .low; none = a .none; owns = a .owns; idle = a .idle }
+
+party-of : (p : Party) (o : Op) (c : Call) (s : State) → T (ofK p o c s) → T (ofParty p o c s)
+unfolding ofK ofParty
+party-of p OPEN c s t = t
+party-of p CLOSE c s t = t
+party-of p ABORT c s t = and-right (eqb (c .key) (p .key)) (p .mine (c .id)) t
+party-of p EVENT c s t = t
+party-of p (COMMAND n) c s t = t
+
+also : (o : Op) → T (maySend o) → T (mayAlso o || maySend o)
+unfolding maySend mayAlso
+also OPEN t = t
+also CLOSE t = t
+also ABORT t = t
+also EVENT t = t
+also (COMMAND n) t = go (eqb n 9) t
+  where
+    go : (b : Bool) → T (not (eqb n 32) && not b) → T (b || (not (eqb n 32) && not b))
+    go true u = tt
+    go false u = u
+
+goes-of : (p : Party) (s : State) (xs : List Step) → Keeps p s xs → T (all lends (calls xs)) → T (all inRange (calls xs)) → Goes p s xs
+unfolding calls all
+goes-of p s [] k l f = tt
+goes-of p s (our c ∷ xs) k l f =
+    let b = k .0 in (
+      record {
+        party = party-of p (c .op) c s (b .party);
+        sends = also (c .op) (b .sends);
+        high = b .high;
+        full = and-left (lends c) (all lends (calls xs)) l;
+        fits = and-left (inRange c) (all inRange (calls xs)) f;
+      },
+      goes-of p (call s c .next) xs (k .1) (and-right (lends c) (all lends (calls xs)) l) (and-right (inRange c) (all inRange (calls xs)) f),
+    )
+goes-of p s (their c ∷ xs) k l f =
+    let b = k .0 in (
+      record { apart = b .apart; low = b .low; fits = and-left (inRange c) (all inRange (calls xs)) f },
+      goes-of p (call s c .next) xs (k .1) (and-right (lends c) (all lends (calls xs)) l) (and-right (inRange c) (all inRange (calls xs)) f),
+    )
+
+run-goes : (p : Party) (s : State) (xs : List Step) → Run p s xs → Goes p s xs
+run-goes p s xs h = goes-of p s xs (h .keeps) (h .full) (h .fits)
+
+pub K-sees-the-same : Demand3
+K-sees-the-same p s xs ys a h k e = core p s xs ys (begins-of p s a) (run-goes p s xs h) (run-goes p s ys k) e
+
+-- ---- K's part at the end of a run is what its own calls make of its part at the beginning, so runs can follow one another
+
+part-after : (p : Party) (s : State) (xs : List Step) → Ready p s → Goes p s xs → project p (reached s xs) ≡ reached (project p s) (map our (own xs))
+unfolding reached own projectOut
+part-after p s [] r k = refl
+part-after p s (our c ∷ xs) r k =
+    part-after p (call s c .next) xs (ours-ready p s c r (k .0)) (k .1)
+    ∙ ap (λ (u : State). reached u (map our (own xs)))
+    (sym (ap (λ (o : Rattle.machine.specs.State.Outcome). o .next) (said-same c (k .0 .full) (project p s) ∙ ours-same p s r c (ours-of p s c (k .0)))))
+part-after p s (their c ∷ xs) r k =
+    part-after p (call s c .next) xs (theirs-ready p s c r (k .0)) (k .1)
+    ∙ ap (λ (u : State). reached u (map our (own xs))) (theirs-mild p s c r (theirs-of p s c (k .0)) .still)
+
+pub same-part-after : (p : Party) (s t : State) (xs ys : List Step) → Begins p s → Begins p t → project p s ≡ project p t → Goes p s xs → Goes p t ys → own xs ≡ own ys
+    → project p (reached s xs) ≡ project p (reached t ys)
+same-part-after p s t xs ys a b q h k e =
+    part-after p s xs (start-ready p s a) h
+    ∙ ap₂ (λ (u : State) (cs : List Call). reached u (map our cs)) q e
+    ∙ sym (part-after p t ys (start-ready p t b) k)
+
+-- ---- as before: two beginnings, and every moment
+
 pub K-sees-its-part : (p : Party) (s t : State) (xs ys : List Step) → Start p s → Start p t → project p s ≡ project p t → Run p s xs → Run p t ys → own xs ≡ own ys
     → seen p s xs ≡ seen p t ys
 K-sees-its-part p s t xs ys a b q h k e =
-    alone p 0 s xs (start-ready p s a) (h .keeps) (h .full) (h .fits)
-    ∙ ap₂ (λ (u : State) (cs : List Call). seen p u (map our cs)) q e
-    ∙ sym (alone p 0 t ys (start-ready p t b) (k .keeps) (k .full) (k .fits))
+    part-sees-the-same p s t xs ys (begins-of p s a) (begins-of p t b) q (run-goes p s xs h) (run-goes p t ys k) e
 
-pub K-sees-the-same : Demand3
-K-sees-the-same p s xs ys a h k e = K-sees-its-part p s s xs ys a a refl h k e
+left-alone : (p : Party) (s : State) (xs : List Step) (c : Call) → Ready p s → Goes p s (xs ++ their c ∷ []) → Mild p (reached s xs) (call (reached s xs) c)
+unfolding reached
+left-alone p s [] c r k = theirs-mild p s c r (theirs-of p s c (k .0))
+left-alone p s (our d ∷ xs) c r k = left-alone p (call s d .next) xs c (ours-ready p s d r (k .0)) (k .1)
+left-alone p s (their d ∷ xs) c r k = left-alone p (call s d .next) xs c (theirs-ready p s d r (k .0)) (k .1)
 
--- ---- and the others leave it alone, at every moment
-
-left-alone : (p : Party) (n : ℕ) (s : State) (xs : List Step) (c : Call) → Ready p n s → Keeps p n s (xs ++ their c ∷ []) → T (all inRange (calls (xs ++ their c ∷ [])))
-    → Mild p (reached s xs) (call (reached s xs) c)
-unfolding reached calls all
-left-alone p n s [] c r k f = theirs-mild p n s c r (theirs-of p n s c (k .0))
-left-alone p n s (our d ∷ xs) c r k f =
-    left-alone p n (call s d .next) xs c (ours-ready p n s d r (k .0) (and-left (inRange d) (all inRange (calls (xs ++ their c ∷ []))) f)) (k .1)
-    (and-right (inRange d) (all inRange (calls (xs ++ their c ∷ []))) f)
-left-alone p n s (their d ∷ xs) c r k f =
-    left-alone p (balance (d .op) (call s d .answer) n) (call s d .next) xs c (theirs-ready p n s d r (k .0) (and-left (inRange d) (all inRange (calls (xs ++ their c ∷ []))) f)) (k .1)
-    (and-right (inRange d) (all inRange (calls (xs ++ their c ∷ []))) f)
-
--- a call of the others, behind any run, replies to no id of the K party's and leaves its channels as they are
 pub others-leave-K-alone : (p : Party) (s : State) (xs : List Step) (c : Call) → Start p s → Run p s (xs ++ their c ∷ [])
     → (ownReplies p (call (reached s xs) c .replies) ≡ []) × (view p (call (reached s xs) c .next) ≡ view p (reached s xs))
 unfolding view
 others-leave-K-alone p s xs c t h =
-    let m = left-alone p 0 s xs c (start-ready p s t) (h .keeps) (h .fits) in
-    (m .quiet, (unfold project in ap (λ (u : State). u .channels) (m .still)))
+    let g : Goes p s (xs ++ their c ∷ []) = run-goes p s (xs ++ their c ∷ []) h in
+    let m : Mild p (reached s xs) (call (reached s xs) c) = left-alone p s xs c (start-ready p s (begins-of p s t)) g in
+    (m .quiet, channels-of (call (reached s xs) c .next) (reached s xs) (m .still))
+  where
+    channels-of : (u v : State) → project p u ≡ project p v → map (mask p) (u .channels) ≡ map (mask p) (v .channels)
+    channels-of u v e = unfold project in ap (λ (x : State). x .channels) e
