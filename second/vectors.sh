@@ -15,7 +15,7 @@ cat <<'HEAD'
 --   Computes vs         each call, on its state, gives the outcome beside it
 --   chan, lock, wait    a channel (key, precedence + 128, locked, stopped, writes), a lock (id, key, map), a waiting
 --                       request (id, key, precedence + 128, NOWAIT, combinations)
---   stands              a state: channels, locks, waiting requests, open count, last key
+--   stands              a state: channels, locks, waiting requests, open keys, last key
 --   asks                a call: operation, id, flags, map, precedence + 128, key, combinations, reply records lent
 --   says, reply         an answer (outstanding, error, map, key, last byte); a reply (id, command, error, map, key)
 --   gets                an outcome: answer, replies, next state
@@ -57,8 +57,8 @@ lock i k m = record { id = i; key = k; map = m }
 abbrev pub wait : ℕ → ℕ → ℕ → Bool → List ℕ → Request
 wait i k p n ms = record { id = i; key = k; prec = p; impatient = n; combos = ms }
 
-abbrev pub stands : List Channel → List Lock → List Request → ℕ → ℕ → State
-stands cs ls ws n k = record { channels = cs; locks = ls; waiting = ws; opens = n; last = k }
+abbrev pub stands : List Channel → List Lock → List Request → List ℕ → ℕ → State
+stands cs ls ws os k = record { channels = cs; locks = ls; waiting = ws; opens = os; last = k }
 
 abbrev pub asks : Op → ℕ → ℕ → ℕ → ℕ → ℕ → List ℕ → ℕ → Call
 asks o i f m p k ms n = record { op = o; id = i; flags = f; map = m; prec = p; key = k; combos = ms; room = n }
@@ -92,6 +92,7 @@ log of-malformed-lines 10 malformed
 log of-lists 11 lists
 log of-bytes 12 bytes
 log of-ties 14 ties
+log of-opens 15 opens
 
 printf '\n%s\n' '-- ---- Calls on a board of four channels'
 ./vectors calls 1 || exit 1
