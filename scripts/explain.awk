@@ -26,7 +26,7 @@ BEGIN {
     error[5] = "refused with 5"
     error[7] = "refused with 7"
 
-    reason[-1] = "it is open 65,535 times"
+    reason[-1] = "32 keys are open"
     reason[-3] = "there is no such command"
     reason[-4] = "more than 16 combinations"
     highest = board == 8 ? 255 : 15

@@ -38,7 +38,7 @@ while [ $seed -lt "$SEEDS" ]; do
         done
     done
 done
-for style in mix opens keys; do
+for style in mix keys; do
     "$work/generate" 1 72000 $style >"$work/log" || exit 1
     play "style $style, long"
 done
