@@ -13,7 +13,12 @@ use Rattle.machine.specs.Commands.{closed}
 use Rattle.machine.specs.Sound.{soundOpens}
 use Rattle.machine.proofs.Tests.{and-left, and-right, test-true}
 
--- "CLOSE removes the oldest entry with its key": the first, since entries stand in order of opening
+-- "CLOSE removes the oldest entry with its key": of the keys 7, 1, 5, 1 the second
+pub oldest-goes : closed 1 (7 ∷ 1 ∷ 5 ∷ 1 ∷ []) ≡ 7 ∷ 5 ∷ 1 ∷ []
+unfolding closed
+oldest-goes = refl
+
+-- the first, since entries stand in order of opening
 pub closed-oldest : (k : ℕ) (xs ys : List ℕ) → T (not (among k xs)) → closed k (xs ++ k ∷ ys) ≡ xs ++ ys
 unfolding closed among any
 closed-oldest k [] ys t = rw (test-true (eqb k k) (eqb-refl k))
