@@ -63,6 +63,15 @@ lowest-within (suc k) m =
     (λ t. let e = eqb→eq (m % 2) 1 t in omega arith)
     (λ t. let h = lowest-within k (m / 2) in omega arith)
 
+-- what an event reads of a map is within it, and names the same channel on every board
+heeded-within : (m : ℕ) → heeded EVENT m ≤ m
+unfolding heeded
+heeded-within m = lowest-within _ m
+
+heeded-again : (n m : ℕ) → n ≤ 8 → lowest n (heeded EVENT m) ≡ lowest n m
+unfolding heeded
+heeded-again n m h = lowest-again n _ m (omega arith)
+
 twice : (b : Bool) → T (not (not b)) → T b
 twice true t = t
 twice false t = t
@@ -83,13 +92,14 @@ module _ (c : Call) (full : T (lends c)) (s : State) (eight : length (s .channel
   room-enough = test-false (ltb (c .room) REQUESTS) (not-T (ltb (c .room) REQUESTS) (λ t. omega (arith, ltb→lt (c .room) REQUESTS t, leb→le REQUESTS (c .room) full)))
 
   said-map : T (not (badMap c s)) → badMap (saidAs EVENT c) s ≡ badMap c s
-  unfolding badMap heeded
+  unfolding badMap
   said-map t =
       let top = 2 ^ length (s .channels) in
       let f = twice (ltb (c .map) top) t in
-      let g = lowest-within 8 (c .map) in
+      let x = heeded EVENT (c .map) in
+      let g = heeded-within (c .map) in
       let h = ltb→lt (c .map) top f in
-      rw (test-true (ltb (c .map) top) f, test-true (ltb (lowest 8 (c .map)) top) (lt→ltb (lowest 8 (c .map)) top (omega arith)))
+      rw (test-true (ltb (c .map) top) f, test-true (ltb x top) (lt→ltb x top (omega arith)))
 
   said-refusal : (o : Op) → Plain o c s → refusal o (saidAs o c) s ≡ refusal o c s
   unfolding refusal heeded badList badMaps
@@ -128,8 +138,8 @@ module _ (c : Call) (full : T (lends c)) (s : State) (eight : length (s .channel
   said-perform n UNKNOWN = refl
 
   said-event : doEvent (saidAs EVENT c) s ≡ doEvent c s
-  unfolding heeded doEvent silent
-  said-event = rw (lowest-again (length (s .channels)) 8 (c .map) eight)
+  unfolding doEvent silent
+  said-event = rw (heeded-again (length (s .channels)) (c .map) eight)
 
   said-accept : (o : Op) → accept o (saidAs o c) s ≡ accept o c s
   unfolding heeded accept doOpen doClose doAbort silent
