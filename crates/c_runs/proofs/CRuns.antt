@@ -2,14 +2,11 @@
 -- Assumes nothing.
 use Prim.Native.Nat.{ℕ, _+_, _%_, _≤_, _<_}
 use mathlib.Core.Path.{_≡_, refl, ap, ap₂, sym, subst, _∙_}
-use mathlib.Core.Bool.{Bool}
 use mathlib.Core.List.{List, [], _∷_, _++_, map, map-append}
 use native.Mathlib.Omega.{arith}
 use native.Mathlib.Nat.{mod-lt}
-use lib.ListN.{length, getD}
-use Rattle.machine.specs.State.{Answer, Call, CLOSE, ABORT, COMMAND, EVENT, OPEN, Op as OpM, State as StateM}
-use Rattle.machine.specs.Lists.{if_then_else_}
-use lib.Dec.{eqb}
+use lib.ListN.{length}
+use Rattle.machine.specs.State.{Call}
 use Rattle.machine.specs.Log.{opOf}
 use Rattle.channel.specs.declared.Channel.{Channel}
 use Rattle.board.specs.declared.Board.{Board}
@@ -17,14 +14,13 @@ use Rattle.board.specs.Board.{stateIn, Held}
 use Rattle.image.specs.Image.{stateOf, Whole, channelBytes}
 use Rattle.image.proofs.Round.{stateOf-imageOf}
 use Rattle.answers.specs.declared.Answer.{Answer as AnswerC}
-use Rattle.answers.specs.Answers.{answerIn}
 use Rattle.sizes.specs.Sizes.{ANSWER}
 use Rattle.handed.specs.Handed.{opFor, requestOf, answerBytes}
 use Rattle.boundary.specs.Boundary.{Carried, Crossed}
-use Rattle.two_runs.specs.TwoRuns.{Party, Start, balance, said}
+use Rattle.two_runs.specs.TwoRuns.{Party, Start, said}
 use Rattle.code_runs.specs.CodeRuns.{Turn as TurnC, Took as TookC, Move as MoveC, ours as oursC, others as othersC, Chained as ChainedC, Keeps as KeepsC, Full as FullC, Run as RunC, ownCalls as ownCallsC, recordsTo, ownRecords, viewOf, Sight as SightC, told as toldC, got as gotC, has as hasC, sights as sightsC}
 use Rattle.code_runs.proofs.CodeRuns.{K-sees-the-same-of-the-code, took-held}
-use Rattle.c_runs.specs.CRuns.{Turn, request, asked, Took, Move, ours, others, turn, Chained, answerAt, Keeps, Full, Run, ownCalls, viewBytes, Sight, told, got, has, sights, Demand3·bytes}
+use Rattle.c_runs.specs.CRuns.{Turn, request, asked, Took, Move, ours, others, turn, Chained, Keeps, Full, Run, ownCalls, viewBytes, Sight, told, got, has, sights, Demand3·bytes}
 
 -- ---- one call
 
@@ -69,35 +65,19 @@ chainedC st tb (others t ∷ ms) w h c =
     let r = chainedC (t .state) (t .table) ms (next-whole w h (c .0)) (next-held w h (c .0)) (c .1) in
     (tookC w h (c .0), subst (λ (x : Board). ChainedC x (t .table) (movesC (t .state) (t .table) ms (next-whole w h (c .0)) (next-held w h (c .0)) (c .1))) (sym (next-state w h (c .0))) r)
 
--- openings are counted by the error alone
-balance-error : (o : OpM) (a b : Answer) (n : ℕ) → a .error ≡ b .error → balance o a n ≡ balance o b n
-unfolding balance
-balance-error OPEN a b n e = rw e
-balance-error CLOSE a b n e = rw e
-balance-error ABORT a b n e = refl
-balance-error EVENT a b n e = refl
-balance-error (COMMAND k) a b n e = refl
-
-error-told : {st tb : List ℕ} {t : Turn} (w : Whole st) (h : Held (stateOf st) tb) (k : Took st tb t) → answerAt (t .answer) .error ≡ answerIn (turnC w h k .outcome .answer) .error
-unfolding answerBytes
-error-told w h k = ap (λ (x : List ℕ). getD x 1 0) (k .crossed .carried (k .six) w .answer)
-
-keepsC : (p : Party) (n : ℕ) (st tb : List ℕ) (ms : List Move) (w : Whole st) (h : Held (stateOf st) tb) (c : Chained st tb ms) → Keeps p n st tb ms → KeepsC p n (stateOf st) tb (movesC st tb ms w h c)
+keepsC : (p : Party) (st tb : List ℕ) (ms : List Move) (w : Whole st) (h : Held (stateOf st) tb) (c : Chained st tb ms) → Keeps p st tb ms → KeepsC p (stateOf st) tb (movesC st tb ms w h c)
 unfolding movesC
-keepsC p n st tb [] w h c k = tt
-keepsC p n st tb (ours t ∷ ms) w h c k = (
+keepsC p st tb [] w h c k = tt
+keepsC p st tb (ours t ∷ ms) w h c k = (
   k .0,
-  subst (λ (x : Board). KeepsC p n x (t .table) (movesC (t .state) (t .table) ms (next-whole w h (c .0)) (next-held w h (c .0)) (c .1))) (sym (next-state w h (c .0)))
-      (keepsC p n (t .state) (t .table) ms (next-whole w h (c .0)) (next-held w h (c .0)) (c .1) (k .1)),
+  subst (λ (x : Board). KeepsC p x (t .table) (movesC (t .state) (t .table) ms (next-whole w h (c .0)) (next-held w h (c .0)) (c .1))) (sym (next-state w h (c .0)))
+      (keepsC p (t .state) (t .table) ms (next-whole w h (c .0)) (next-held w h (c .0)) (c .1) (k .1)),
 )
-keepsC p n st tb (others t ∷ ms) w h c k =
-    let v = movesC (t .state) (t .table) ms (next-whole w h (c .0)) (next-held w h (c .0)) (c .1) in
-    let i = keepsC p (balance (asked t .op) (answerAt (t .answer)) n) (t .state) (t .table) ms (next-whole w h (c .0)) (next-held w h (c .0)) (c .1) (k .1) in
-    let e = balance-error (asked t .op) (answerAt (t .answer)) (answerIn (turnC w h (c .0) .outcome .answer)) n (error-told w h (c .0)) in (
-      k .0,
-      subst (λ (x : Board). KeepsC p (balance (asked t .op) (answerIn (turnC w h (c .0) .outcome .answer)) n) x (t .table) v) (sym (next-state w h (c .0)))
-          (subst (λ (m : ℕ). KeepsC p m (stateOf (t .state)) (t .table) v) e i),
-    )
+keepsC p st tb (others t ∷ ms) w h c k = (
+  k .0,
+  subst (λ (x : Board). KeepsC p x (t .table) (movesC (t .state) (t .table) ms (next-whole w h (c .0)) (next-held w h (c .0)) (c .1))) (sym (next-state w h (c .0)))
+      (keepsC p (t .state) (t .table) ms (next-whole w h (c .0)) (next-held w h (c .0)) (c .1) (k .1)),
+)
 
 fullC : (st tb : List ℕ) (ms : List Move) (w : Whole st) (h : Held (stateOf st) tb) (c : Chained st tb ms) → Full ms → FullC (movesC st tb ms w h c)
 unfolding movesC
@@ -113,7 +93,7 @@ ownC st tb (others t ∷ ms) w h c = ownC (t .state) (t .table) ms (next-whole w
 
 runC : (p : Party) (st tb : List ℕ) (ms : List Move) (w : Whole st) (h : Held (stateOf st) tb) (r : Run p st tb ms) → RunC p (stateOf st) tb (movesC st tb ms w h (r .chained))
 runC p st tb ms w h r =
-    record { chained = chainedC st tb ms w h (r .chained); keeps = keepsC p 0 st tb ms w h (r .chained) (r .keeps); full = fullC st tb ms w h (r .chained) (r .full) }
+    record { chained = chainedC st tb ms w h (r .chained); keeps = keepsC p st tb ms w h (r .chained) (r .keeps); full = fullC st tb ms w h (r .chained) (r .full) }
 
 -- ---- what is seen
 

@@ -1,11 +1,22 @@
--- Demand 3 on the bytes that a program in C lends: runs of `qamhudeer_call`, by its promise `Crossed` and nothing else.
+-- Demand 3 on the bytes that a program in C lends: runs of `qamhudeer_call`, by its promise `Crossed` and nothing else. The
+-- premises are those of crates/two_runs, said of the states that the bytes hold. proofs/CRuns.antt proves the claim as
+-- `K-sees-the-same-bytes`.
 -- Assumes nothing.
-use Prim.Native.Nat.{ℕ, _*_, _+_, _≤_}
+--
+--   Turn                 one call: the numbers, combinations, reply list and room for the answer as lent; the result, and all bytes
+--                        as they became
+--   request t, asked t   its numbers as the struct has them; as the machine's call has them
+--   Took st tb t         it took the bytes of a state and a table there, by the promise; a key is two bytes
+--   Move, Chained, Keeps, Full, Run, ownCalls   as in crates/code_runs, on bytes
+--   viewBytes p st       the bytes of the board's channels, those without K as a free one's
+--   Sight, sights p st ms   the bytes of answers, records and channels, in the order of the run
+--   Demand3·bytes        two runs with the same calls of the K party show it the same
+--   bytesClaim           one name that unfolds these definitions
+use Prim.Native.Nat.{ℕ, _≤_}
 use mathlib.Core.Path.{_≡_}
 use mathlib.Core.List.{List, [], _∷_, _++_, map}
-use lib.Dec.{eqb}
-use lib.ListN.{length, getD}
-use Rattle.machine.specs.State.{Call, Answer}
+use lib.ListN.{length}
+use Rattle.machine.specs.State.{Call}
 use Rattle.machine.specs.Log.{opOf}
 use Rattle.board.specs.Board.{stateIn, Held}
 use Rattle.image.specs.Image.{stateOf, Whole, channelBytes}
@@ -14,10 +25,9 @@ use Rattle.refusals.specs.Refusals.{askedOf}
 use Rattle.sizes.specs.Sizes.{ANSWER, REPLIES}
 use Rattle.handed.specs.Handed.{opFor, requestOf}
 use Rattle.boundary.specs.Boundary.{Crossed}
-use Rattle.two_runs.specs.TwoRuns.{Party, Start, ByK, ByOthers, balance, said}
+use Rattle.two_runs.specs.TwoRuns.{Party, Start, ByK, ByOthers, said}
 use Rattle.code_runs.specs.CodeRuns.{recordsTo, viewOf}
 
--- one call: the numbers, combinations, reply list and room for the answer as lent; the result, and all bytes as they became
 pub record Turn : Type 0 where
   pub op : ℕ
   pub id : ℕ
@@ -57,16 +67,10 @@ abbrev pub Chained : List ℕ → List ℕ → List Move → Type 0
 Chained st tb [] = Unit {0}
 Chained st tb (m ∷ ms) = Took st tb (turn m) × Chained (turn m .state) (turn m .table) ms
 
--- the answer that six bytes spell
-abbrev pub answerAt : List ℕ → Answer
-answerAt b =
-    record { outstanding = eqb (getD b 0 0) 1; error = getD b 1 0; map = getD b 2 0; key = getD b 3 0 * 256 + getD b 4 0; extra = getD b 5 0 }
-
-abbrev pub Keeps : Party → ℕ → List ℕ → List ℕ → List Move → Type 0
-Keeps p n st tb [] = Unit {0}
-Keeps p n st tb (ours t ∷ ms) = ByK p (stateIn (stateOf st) tb) (asked t) × Keeps p n (t .state) (t .table) ms
-Keeps p n st tb (others t ∷ ms) =
-    ByOthers p n (stateIn (stateOf st) tb) (asked t) × Keeps p (balance (asked t .op) (answerAt (t .answer)) n) (t .state) (t .table) ms
+abbrev pub Keeps : Party → List ℕ → List ℕ → List Move → Type 0
+Keeps p st tb [] = Unit {0}
+Keeps p st tb (ours t ∷ ms) = ByK p (stateIn (stateOf st) tb) (asked t) × Keeps p (t .state) (t .table) ms
+Keeps p st tb (others t ∷ ms) = ByOthers p (stateIn (stateOf st) tb) (asked t) × Keeps p (t .state) (t .table) ms
 
 abbrev pub Full : List Move → Type 0
 Full [] = Unit {0}
@@ -74,7 +78,7 @@ Full (m ∷ ms) = (REPLIES ≤ length (turn m .lent)) × Full ms
 
 pub record Run (p : Party) (st tb : List ℕ) (ms : List Move) : Type 0 where
   pub chained : Chained st tb ms
-  pub keeps : Keeps p 0 st tb ms
+  pub keeps : Keeps p st tb ms
   pub full : Full ms
 
 unfoldable pub ownCalls : List Move → List Call
@@ -82,7 +86,6 @@ ownCalls [] = []
 ownCalls (ours t ∷ ms) = said (asked t) ∷ ownCalls ms
 ownCalls (others t ∷ ms) = ownCalls ms
 
--- the bytes of four channels, those without K as a free one's
 unfoldable pub viewBytes : Party → List ℕ → List (List ℕ)
 viewBytes p st = map channelBytes (viewOf p (stateOf st))
 
@@ -100,3 +103,7 @@ abbrev pub Demand3·bytes : Type 0
 Demand3·bytes =
     (p : Party) (st tb : List ℕ) (ms ns : List Move) → Whole st → Held (stateOf st) tb → Start p (stateIn (stateOf st) tb) → Run p st tb ms → Run p st tb ns
     → ownCalls ms ≡ ownCalls ns → sights p st ms ≡ sights p st ns
+
+unfoldable pub bytesClaim : Unit {0}
+unfolding ownCalls viewBytes sights
+bytesClaim = tt

@@ -39,5 +39,5 @@ pub record Alike (w : ℕ) (p : Party) (pre : List (List ℕ)) (xs ys : List Lin
 abbrev pub Demand3·log : Type 0
 Demand3·log =
     (w : ℕ) → T (sized w) → (p : Party) (l l₂ page page₂ : List ℕ) (pre : List (List ℕ)) (xs ys : List Line) (bss bss₂ : List (List ℕ)) (out out₂ : List ℕ)
-    → Log w l page pre xs bss out → Log w l₂ page₂ pre ys bss₂ out₂ → Start p (begun w pre) → Keeps p 0 (begun w pre) (steps xs)
-    → Keeps p 0 (begun w pre) (steps ys) → own (steps xs) ≡ own (steps ys) → Alike w p pre xs ys out out₂
+    → Log w l page pre xs bss out → Log w l₂ page₂ pre ys bss₂ out₂ → Start p (begun w pre) → Keeps p (begun w pre) (steps xs)
+    → Keeps p (begun w pre) (steps ys) → own (steps xs) ≡ own (steps ys) → Alike w p pre xs ys out out₂

@@ -60,12 +60,12 @@ fn put_keys(bytes: &mut [u8], at: usize, keys: [u16; Keys::ROOM])
     }
 }
 
-fn put_open(bytes: &mut [u8], at: usize, q: Keys)
+fn put_open(bytes: &mut [u8], at: usize, opens: Keys)
     requires { ⌜ at + 65 ≤ length (now bytes) ⌝ }
-    ensures { λ _. ⌜ Wrote (now (bytes .entry)) at (openBytes q) 65 (now (bytes .exit)) ⌝ }
+    ensures { λ _. ⌜ Wrote (now (bytes .entry)) at (openBytes opens) 65 (now (bytes .exit)) ⌝ }
 {
-    let keys = q.keys;
-    bytes[at] = q.n;
+    let keys = opens.keys;
+    bytes[at] = opens.n;
     put_keys(bytes, at + 1, keys);
 }
 

@@ -18,7 +18,7 @@ put-keys-requires c κs = simp length-set (omega arith)
 returns : tie.Need-returns
 returns c =
     let a = c .before .before .before .before .before .before .args in
-    open-wrote (a .bytes .now) (a .at) (a .q) (omega arith) (c .before .before .put-keys .ensures)
+    open-wrote (a .bytes .now) (a .at) (a .opens) (omega arith) (c .before .before .put-keys .ensures)
 
 same-length : tie.Need-same-length
 same-length c = let a = c .before .before .before .before .before .before .args in wrote-length (returns c) (omega arith)
