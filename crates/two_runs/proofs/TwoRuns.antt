@@ -3,17 +3,15 @@
 -- to none of its ids. So a run shows it what its own calls would show it, made alone from its part of the first state, and
 -- two runs with the same such calls show it the same.
 -- Assumes nothing.
-use Prim.Native.Nat.{_*_, _+_, _%_, _/_, _^_, _≤_, suc, zero, ℕ}
+use Prim.Native.Nat.{_≤_, suc, ℕ}
 use mathlib.Core.Path.{_∙_, _≡_, ap, ap₂, refl, sym}
 use mathlib.Core.Bool.{Bool, _&&_, _||_, false, not, true}
 use mathlib.Core.List.{List, [], _++_, _∷_, map}
 use native.Mathlib.Omega.{arith}
-use lib.Dec.{T, eqb, eqb→eq, leb→le, le→leb, lt→ltb, ltb, ltb→lt, not-T}
-use lib.ListN.{length, length-map}
+use lib.Dec.{T, eqb, leb→le, le→leb, ltb, ltb→lt, not-T}
 use Rattle.machine.specs.Numbers.{REQUESTS}
 use Rattle.machine.specs.Lists.{all, if_then_else_}
 use Rattle.machine.specs.State.{ABORT, CLOSE, COMMAND, Call, Channel, EVENT, Lock, OPEN, Op, State}
-use Rattle.machine.specs.Maps.{at, bit, half, lowest, odd}
 use Rattle.machine.specs.Choosing.{Look, fails, grants, held, look}
 use Rattle.machine.specs.Commands.{doAbort, doClose, doEvent, doFree, doLock, doRead, doWrite, each, eachChange, finished, silent}
 use Rattle.machine.specs.Allocating.{allocating, doAllocate, doOpen, opening, waits}
@@ -22,11 +20,9 @@ use Rattle.machine.specs.Kinds.{ALLOCATE, CLEAR, FLUSH, FREE, Kind, LOCK, READ,
 use Rattle.machine.specs.Log.{opened}
 use Rattle.machine.specs.Refusals.{Refusal, accepted, badList, badMap, badMaps, refusal, refuse, refused}
 use Rattle.machine.specs.Sound.{sound}
-use Rattle.machine.proofs.Tests.{and-both, and-left, and-right, by-test, if-elim, test-false, test-true}
-use Rattle.machine_laws.proofs.Maps.{half-bit, odd-bit}
-use Rattle.machine_laws.proofs.Sound.{parts}
+use Rattle.machine.proofs.Tests.{and-both, and-left, and-right, test-false}
 use Rattle.machine_laws.proofs.KeepingCalls.{call-sound}
-use Rattle.two_runs.specs.TwoRuns.{ByK, ByOthers, Demand3, Keeps, Party, Run, Start, Step, maySend, ofK, calls, heeded, holds, lends, onK, our, own, mask, ownReplies, reached, said, saidAs, seen, their, view}
+use Rattle.two_runs.specs.TwoRuns.{ByK, ByOthers, Demand3, Keeps, Party, Run, Start, Step, maySend, ofK, calls, lends, our, own, mask, ownReplies, reached, said, seen, their, view}
 use Rattle.two_runs.proofs.Part.{Ready, fittingLock, ours-of, ownReplies-twice, project, projectOut, theirs-of, view-part}
 use Rattle.two_runs.proofs.Settle.{Loop, lockFits, ownLock}
 use Rattle.two_runs.proofs.TheirsEach.{Mild}
@@ -35,156 +31,72 @@ use Rattle.two_runs.proofs.OursCall.{ours-loop, ours-same}
 use Rattle.two_runs.proofs.Begin.{start-ready}
 use Rattle.two_runs.specs.Core.{Begins, Demand3·core, Goes, OfK, OfOthers, mayAlso, ofParty}
 
--- ---- the lowest bit of a map
+-- ---- the same call with another list lent
 
-lowest-one : (n : ℕ) → lowest (suc n) 1 ≡ 1
-unfolding lowest odd
-lowest-one n = refl
-
-lowest-even : (n x : ℕ) → lowest (suc n) (bit false x) ≡ bit false (lowest n x)
-unfolding lowest
-lowest-even n x = rw (odd-bit false x, half-bit false x)
-
--- of more bits the lowest is still the lowest
-lowest-again : (n k m : ℕ) → n ≤ k → lowest n (lowest k m) ≡ lowest n m
-unfolding lowest
-lowest-again zero k m h = refl
-lowest-again (suc n) zero m h = absurd (omega arith)
-lowest-again (suc n) (suc k) m h =
-    by-test (odd m)
-    (λ t. rw (test-true (odd m) t) (lowest-one n))
-    (λ t. rw (test-false (odd m) t) (lowest-even n (lowest k (half m)) ∙ ap (bit false) (lowest-again n k (half m) (omega arith))))
-
-lowest-within : (k m : ℕ) → lowest k m ≤ m
-unfolding lowest odd half bit
-lowest-within zero m = omega arith
-lowest-within (suc k) m =
-    if-elim (λ (x : ℕ). x ≤ m) (eqb (m % 2) 1)
-    (λ t. let e = eqb→eq (m % 2) 1 t in omega arith)
-    (λ t. let h = lowest-within k (m / 2) in omega arith)
-
--- what an event reads of a map is within it, and names the same channel on every board
-heeded-within : (m : ℕ) → heeded EVENT m ≤ m
-unfolding heeded
-heeded-within m = lowest-within _ m
-
-heeded-again : (n m : ℕ) → n ≤ 8 → lowest n (heeded EVENT m) ≡ lowest n m
-unfolding heeded
-heeded-again n m h = lowest-again n _ m (omega arith)
-
-twice : (b : Bool) → T (not (not b)) → T b
-twice true t = t
-twice false t = t
-
--- what a call's refusal and its outcome read: of an event a map that is on the board
-abbrev Plain : Op → Call → State → Type 0
-Plain OPEN c s = Unit {0}
-Plain CLOSE c s = Unit {0}
-Plain ABORT c s = Unit {0}
-Plain EVENT c s = T (not (badMap c s))
-Plain (COMMAND n) c s = Unit {0}
-
--- ---- the same call with another list lent, and an event with other bits above the lowest
-
-module _ (c : Call) (full : T (lends c)) (s : State) (eight : length (s .channels) ≤ 8) where
+module _ (c : Call) (full : T (lends c)) where
   room-enough : ltb (c .room) REQUESTS ≡ false
   unfolding lends
   room-enough = test-false (ltb (c .room) REQUESTS) (not-T (ltb (c .room) REQUESTS) (λ t. omega (arith, ltb→lt (c .room) REQUESTS t, leb→le REQUESTS (c .room) full)))
 
-  said-map : T (not (badMap c s)) → badMap (saidAs EVENT c) s ≡ badMap c s
-  unfolding badMap
-  said-map t =
-      let top = 2 ^ length (s .channels) in
-      let f = twice (ltb (c .map) top) t in
-      let x = heeded EVENT (c .map) in
-      let g = heeded-within (c .map) in
-      let h = ltb→lt (c .map) top f in
-      rw (test-true (ltb (c .map) top) f, test-true (ltb x top) (lt→ltb x top (omega arith)))
+  said-refusal : (o : Op) (s : State) → refusal o (said c) s ≡ refusal o c s
+  unfolding refusal said badList badMaps badMap
+  said-refusal OPEN s = rw room-enough
+  said-refusal CLOSE s = rw room-enough
+  said-refusal ABORT s = rw room-enough
+  said-refusal EVENT s = rw room-enough
+  said-refusal (COMMAND n) s = rw room-enough
 
-  said-refusal : (o : Op) → Plain o c s → refusal o (saidAs o c) s ≡ refusal o c s
-  unfolding refusal heeded badList badMaps
-  said-refusal OPEN t = rw room-enough
-  said-refusal CLOSE t = rw room-enough
-  said-refusal ABORT t = rw room-enough
-  said-refusal EVENT t = rw (room-enough, said-map t)
-  said-refusal (COMMAND n) t = unfold badMap in rw room-enough
+  said-look : (l : Look) (s : State) → allocating l (said c) s ≡ allocating l c s
+  unfolding said allocating waits finished silent
+  said-look fails s = refl
+  said-look (held m) s = refl
+  said-look (grants m) s = refl
 
-  said-look : (n : ℕ) (l : Look) → allocating l (saidAs (COMMAND n) c) s ≡ allocating l c s
-  unfolding heeded allocating waits finished silent
-  said-look n fails = refl
-  said-look n (held m) = refl
-  said-look n (grants m) = refl
+  said-open : (l : Look) (s : State) → opening l (said c) s ≡ opening l c s
+  unfolding said opening silent
+  said-open fails s = refl
+  said-open (held m) s = refl
+  said-open (grants m) s = refl
 
-  said-open : (l : Look) → opening l (saidAs OPEN c) s ≡ opening l c s
-  unfolding heeded opening silent
-  said-open fails = refl
-  said-open (held m) = refl
-  said-open (grants m) = refl
+  said-perform : (k : Kind) (s : State) → perform k (said c) s ≡ perform k c s
+  unfolding said perform eachChange each finished silent doRead doWrite doFree doLock doAllocate
+  said-perform RESET s = refl
+  said-perform READ s = refl
+  said-perform WRITE s = refl
+  said-perform UPDATE s = refl
+  said-perform CLEAR s = refl
+  said-perform STOP s = refl
+  said-perform START s = refl
+  said-perform FLUSH s = refl
+  said-perform FREE s = refl
+  said-perform SETPREC s = refl
+  said-perform LOCK s = refl
+  said-perform ALLOCATE s = said-look (look (c .prec) (c .combos) (s .channels)) s
+  said-perform UNKNOWN s = refl
 
-  said-perform : (n : ℕ) (k : Kind) → perform k (saidAs (COMMAND n) c) s ≡ perform k c s
-  unfolding heeded perform eachChange each finished silent doRead doWrite doFree doLock doAllocate
-  said-perform n RESET = refl
-  said-perform n READ = refl
-  said-perform n WRITE = refl
-  said-perform n UPDATE = refl
-  said-perform n CLEAR = refl
-  said-perform n STOP = refl
-  said-perform n START = refl
-  said-perform n FLUSH = refl
-  said-perform n FREE = refl
-  said-perform n SETPREC = refl
-  said-perform n LOCK = refl
-  said-perform n ALLOCATE = said-look n (look (c .prec) (c .combos) (s .channels))
-  said-perform n UNKNOWN = refl
+  said-accept : (o : Op) (s : State) → accept o (said c) s ≡ accept o c s
+  unfolding said accept doOpen doClose doAbort doEvent silent
+  said-accept OPEN s = ap openSettling (said-open (look (c .prec) (c .combos) (s .channels)) s)
+  said-accept CLOSE s = refl
+  said-accept ABORT s = refl
+  said-accept EVENT s = refl
+  said-accept (COMMAND n) s = ap settling (said-perform (kind n) s)
 
-  said-event : doEvent (saidAs EVENT c) s ≡ doEvent c s
-  unfolding doEvent silent
-  said-event = rw (heeded-again (length (s .channels)) (c .map) eight)
+  said-refuse : (o : Op) (e : ℕ) (s : State) → refuse o e (said c) s ≡ refuse o e c s
+  unfolding said refuse finished silent
+  said-refuse OPEN e s = refl
+  said-refuse CLOSE e s = refl
+  said-refuse ABORT e s = refl
+  said-refuse EVENT e s = refl
+  said-refuse (COMMAND n) e s = refl
 
-  said-accept : (o : Op) → accept o (saidAs o c) s ≡ accept o c s
-  unfolding heeded accept doOpen doClose doAbort silent
-  said-accept OPEN = ap openSettling (said-open (look (c .prec) (c .combos) (s .channels)))
-  said-accept CLOSE = refl
-  said-accept ABORT = refl
-  said-accept EVENT = ap settling said-event
-  said-accept (COMMAND n) = ap settling (said-perform n (kind n))
-
-  said-refuse : (o : Op) (e : ℕ) → refuse o e (saidAs o c) s ≡ refuse o e c s
-  unfolding heeded refuse finished silent
-  said-refuse OPEN e = refl
-  said-refuse CLOSE e = refl
-  said-refuse ABORT e = refl
-  said-refuse EVENT e = refl
-  said-refuse (COMMAND n) e = refl
-
-  pub said-same : Plain (c .op) c s → call s (said c) ≡ call s c
+  pub said-same : (s : State) → call s (said c) ≡ call s c
   unfolding call said
-  said-same t = rw (said-refusal (c .op) t) (go (refusal (c .op) c s))
+  said-same s = rw (said-refusal (c .op) s) (go (refusal (c .op) c s))
     where
-      go : (f : Refusal) → answering f (saidAs (c .op) c) s ≡ answering f c s
-      go accepted = unfold answering in said-accept (c .op)
-      go (refused e) = unfold answering in said-refuse (c .op) e
-
--- ---- so it is for the K party's part of a state: the board is as wide, and an event of the K party's has a map that is on it
-
-part-wide : (p : Party) (s : State) → length (project p s .channels) ≡ length (s .channels)
-unfolding project
-part-wide p s = length-map (s .channels) (mask p)
-
-plain-of : (p : Party) (s : State) (c : Call) (o : Op) → T (ofParty p o c s) → Plain o c (project p s)
-unfolding ofParty onK badMap
-plain-of p s c OPEN t = tt
-plain-of p s c CLOSE t = tt
-plain-of p s c ABORT t = tt
-plain-of p s c EVENT t =
-    rw (part-wide p s) (and-left (not (badMap c s)) (holds p (at (lowest (length (s .channels)) (c .map)) (s .channels))) t)
-plain-of p s c (COMMAND n) t = tt
-
-part-said : (p : Party) (s : State) → Ready p s → (c : Call) → OfK p s c → call (project p s) (said c) ≡ call (project p s) c
-part-said p s r c b =
-    let m = leb→le (length (s .channels)) 8 (parts s (r .sane) .most) in
-    let e = part-wide p s in
-    said-same c (b .full) (project p s) (omega arith) (plain-of p s c (c .op) (b .party))
+      go : (f : Refusal) → answering f (said c) s ≡ answering f c s
+      go accepted = unfold answering in said-accept (c .op) s
+      go (refused e) = unfold answering in said-refuse (c .op) e s
 
 -- ---- every state of a run is one between two calls
 
@@ -224,7 +136,7 @@ unfolding seen own projectOut
 alone p s [] r k = rw (view-part p s)
 alone p s (our c ∷ xs) r k =
     rw (
-      part-said p s r c (k .0),
+      said-same c (k .0 .full) (project p s),
       ours-same p s r c (ours-of p s c (k .0)),
       ownReplies-twice p (call s c .replies),
       view-part p (call s c .next),
@@ -306,7 +218,7 @@ part-after p s [] r k = refl
 part-after p s (our c ∷ xs) r k =
     part-after p (call s c .next) xs (ours-ready p s c r (k .0)) (k .1)
     ∙ ap (λ (u : State). reached u (map our (own xs)))
-    (sym (ap (λ (o : Rattle.machine.specs.State.Outcome). o .next) (part-said p s r c (k .0) ∙ ours-same p s r c (ours-of p s c (k .0)))))
+    (sym (ap (λ (o : Rattle.machine.specs.State.Outcome). o .next) (said-same c (k .0 .full) (project p s) ∙ ours-same p s r c (ours-of p s c (k .0)))))
 part-after p s (their c ∷ xs) r k =
     part-after p (call s c .next) xs (theirs-ready p s c r (k .0)) (k .1)
     ∙ ap (λ (u : State). reached u (map our (own xs))) (theirs-mild p s c r (theirs-of p s c (k .0)) .still)
