@@ -3,15 +3,18 @@
 -- to none of its ids. So a run shows it what its own calls would show it, made alone from its part of the first state, and
 -- two runs with the same such calls show it the same.
 -- Assumes nothing.
-use Prim.Native.Nat.{_≤_, suc, ℕ}
+use Prim.Native.Nat.{_≤_, _^_, _/_, _%_, suc, zero, ℕ}
 use mathlib.Core.Path.{_∙_, _≡_, ap, ap₂, refl, sym}
 use mathlib.Core.Bool.{Bool, _&&_, _||_, false, not, true}
 use mathlib.Core.List.{List, [], _++_, _∷_, map}
 use native.Mathlib.Omega.{arith}
-use lib.Dec.{T, eqb, leb→le, le→leb, ltb, ltb→lt, not-T}
+use lib.Dec.{T, eqb, eqb→eq, leb→le, le→leb, ltb, ltb→lt, not-T}
+use lib.ListN.{length, length-map}
+use borrow.Author.Tests.{lt-ltb}
 use Rattle.machine.specs.Numbers.{REQUESTS}
 use Rattle.machine.specs.Lists.{all, if_then_else_}
 use Rattle.machine.specs.State.{ABORT, CLOSE, COMMAND, Call, Channel, EVENT, Lock, OPEN, Op, State}
+use Rattle.machine.specs.Maps.{bit, half, lowest, odd}
 use Rattle.machine.specs.Choosing.{Look, fails, grants, held, look}
 use Rattle.machine.specs.Commands.{doAbort, doClose, doEvent, doFree, doLock, doRead, doWrite, each, eachChange, finished, silent}
 use Rattle.machine.specs.Allocating.{allocating, doAllocate, doOpen, opening, waits}
@@ -20,9 +23,11 @@ use Rattle.machine.specs.Kinds.{ALLOCATE, CLEAR, FLUSH, FREE, Kind, LOCK, READ,
 use Rattle.machine.specs.Log.{opened}
 use Rattle.machine.specs.Refusals.{Refusal, accepted, badList, badMap, badMaps, refusal, refuse, refused}
 use Rattle.machine.specs.Sound.{sound}
-use Rattle.machine.proofs.Tests.{and-both, and-left, and-right, test-false}
+use Rattle.machine.proofs.Tests.{and-both, and-left, and-right, by-test, test-false, test-true}
+use Rattle.machine_laws.proofs.Maps.{half-bit, odd-bit}
+use Rattle.machine_laws.proofs.Sound.{parts}
 use Rattle.machine_laws.proofs.KeepingCalls.{call-sound}
-use Rattle.two_runs.specs.TwoRuns.{ByK, ByOthers, Demand3, Keeps, Party, Run, Start, Step, maySend, ofK, calls, lends, our, own, mask, ownReplies, reached, said, seen, their, view}
+use Rattle.two_runs.specs.TwoRuns.{ByK, ByOthers, Demand3, Keeps, Party, Run, Start, Step, maySend, ofK, calls, filled, lends, noted, onK, our, own, mask, ownReplies, reached, said, seen, their, view}
 use Rattle.two_runs.proofs.Part.{Ready, fittingLock, ours-of, ownReplies-twice, project, projectOut, theirs-of, view-part}
 use Rattle.two_runs.proofs.Settle.{Loop, lockFits, ownLock}
 use Rattle.two_runs.proofs.TheirsEach.{Mild}
@@ -38,65 +43,152 @@ module _ (c : Call) (full : T (lends c)) where
   unfolding lends
   room-enough = test-false (ltb (c .room) REQUESTS) (not-T (ltb (c .room) REQUESTS) (λ t. omega (arith, ltb→lt (c .room) REQUESTS t, leb→le REQUESTS (c .room) full)))
 
-  said-refusal : (o : Op) (s : State) → refusal o (said c) s ≡ refusal o c s
-  unfolding refusal said badList badMaps badMap
-  said-refusal OPEN s = rw room-enough
-  said-refusal CLOSE s = rw room-enough
-  said-refusal ABORT s = rw room-enough
-  said-refusal EVENT s = rw room-enough
-  said-refusal (COMMAND n) s = rw room-enough
+  filled-refusal : (o : Op) (s : State) → refusal o (filled c) s ≡ refusal o c s
+  unfolding refusal filled badList badMaps badMap
+  filled-refusal OPEN s = rw room-enough
+  filled-refusal CLOSE s = rw room-enough
+  filled-refusal ABORT s = rw room-enough
+  filled-refusal EVENT s = rw room-enough
+  filled-refusal (COMMAND n) s = rw room-enough
 
-  said-look : (l : Look) (s : State) → allocating l (said c) s ≡ allocating l c s
-  unfolding said allocating waits finished silent
-  said-look fails s = refl
-  said-look (held m) s = refl
-  said-look (grants m) s = refl
+  filled-look : (l : Look) (s : State) → allocating l (filled c) s ≡ allocating l c s
+  unfolding filled allocating waits finished silent
+  filled-look fails s = refl
+  filled-look (held m) s = refl
+  filled-look (grants m) s = refl
 
-  said-open : (l : Look) (s : State) → opening l (said c) s ≡ opening l c s
-  unfolding said opening silent
-  said-open fails s = refl
-  said-open (held m) s = refl
-  said-open (grants m) s = refl
+  filled-open : (l : Look) (s : State) → opening l (filled c) s ≡ opening l c s
+  unfolding filled opening silent
+  filled-open fails s = refl
+  filled-open (held m) s = refl
+  filled-open (grants m) s = refl
 
-  said-perform : (k : Kind) (s : State) → perform k (said c) s ≡ perform k c s
-  unfolding said perform eachChange each finished silent doRead doWrite doFree doLock doAllocate
-  said-perform RESET s = refl
-  said-perform READ s = refl
-  said-perform WRITE s = refl
-  said-perform UPDATE s = refl
-  said-perform CLEAR s = refl
-  said-perform STOP s = refl
-  said-perform START s = refl
-  said-perform FLUSH s = refl
-  said-perform FREE s = refl
-  said-perform SETPREC s = refl
-  said-perform LOCK s = refl
-  said-perform ALLOCATE s = said-look (look (c .prec) (c .combos) (s .channels)) s
-  said-perform UNKNOWN s = refl
+  filled-perform : (k : Kind) (s : State) → perform k (filled c) s ≡ perform k c s
+  unfolding filled perform eachChange each finished silent doRead doWrite doFree doLock doAllocate
+  filled-perform RESET s = refl
+  filled-perform READ s = refl
+  filled-perform WRITE s = refl
+  filled-perform UPDATE s = refl
+  filled-perform CLEAR s = refl
+  filled-perform STOP s = refl
+  filled-perform START s = refl
+  filled-perform FLUSH s = refl
+  filled-perform FREE s = refl
+  filled-perform SETPREC s = refl
+  filled-perform LOCK s = refl
+  filled-perform ALLOCATE s = filled-look (look (c .prec) (c .combos) (s .channels)) s
+  filled-perform UNKNOWN s = refl
 
-  said-accept : (o : Op) (s : State) → accept o (said c) s ≡ accept o c s
-  unfolding said accept doOpen doClose doAbort doEvent silent
-  said-accept OPEN s = ap openSettling (said-open (look (c .prec) (c .combos) (s .channels)) s)
-  said-accept CLOSE s = refl
-  said-accept ABORT s = refl
-  said-accept EVENT s = refl
-  said-accept (COMMAND n) s = ap settling (said-perform (kind n) s)
+  filled-accept : (o : Op) (s : State) → accept o (filled c) s ≡ accept o c s
+  unfolding filled accept doOpen doClose doAbort doEvent silent
+  filled-accept OPEN s = ap openSettling (filled-open (look (c .prec) (c .combos) (s .channels)) s)
+  filled-accept CLOSE s = refl
+  filled-accept ABORT s = refl
+  filled-accept EVENT s = refl
+  filled-accept (COMMAND n) s = ap settling (filled-perform (kind n) s)
 
-  said-refuse : (o : Op) (e : ℕ) (s : State) → refuse o e (said c) s ≡ refuse o e c s
-  unfolding said refuse finished silent
-  said-refuse OPEN e s = refl
-  said-refuse CLOSE e s = refl
-  said-refuse ABORT e s = refl
-  said-refuse EVENT e s = refl
-  said-refuse (COMMAND n) e s = refl
+  filled-refuse : (o : Op) (e : ℕ) (s : State) → refuse o e (filled c) s ≡ refuse o e c s
+  unfolding filled refuse finished silent
+  filled-refuse OPEN e s = refl
+  filled-refuse CLOSE e s = refl
+  filled-refuse ABORT e s = refl
+  filled-refuse EVENT e s = refl
+  filled-refuse (COMMAND n) e s = refl
 
-  pub said-same : (s : State) → call s (said c) ≡ call s c
-  unfolding call said
-  said-same s = rw (said-refusal (c .op) s) (go (refusal (c .op) c s))
+  filled-same : (s : State) → call s (filled c) ≡ call s c
+  unfolding call filled
+  filled-same s = rw (filled-refusal (c .op) s) (go (refusal (c .op) c s))
     where
-      go : (f : Refusal) → answering f (said c) s ≡ answering f c s
-      go accepted = unfold answering in said-accept (c .op) s
-      go (refused e) = unfold answering in said-refuse (c .op) e s
+      go : (f : Refusal) → answering f (filled c) s ≡ answering f c s
+      go accepted = unfold answering in filled-accept (c .op) s
+      go (refused e) = unfold answering in filled-refuse (c .op) e s
+
+-- ---- the same event by its lowest bit
+
+-- the lowest bit of k is that of n, if there are no more of these
+lowest-twice : (n k m : ℕ) → n ≤ k → lowest n (lowest k m) ≡ lowest n m
+unfolding lowest
+lowest-twice zero k m h = refl
+lowest-twice (suc n) zero m h = absurd (no-less h)
+  where
+    no-less : suc n ≤ 0 → ⊥
+    no-less g = omega arith
+lowest-twice (suc n) (suc k) m h = go (odd m) (lowest k (half m)) (lowest-twice n k (half m) (omega arith))
+  where
+    go : (b : Bool) (x : ℕ) → lowest n x ≡ lowest n (half m)
+        → (if odd (if b then 1 else bit false x) then 1 else bit false (lowest n (half (if b then 1 else bit false x)))) ≡ (if b then 1 else bit false (lowest n (half m)))
+    go true x e = unfold odd in refl
+    go false x e = rw (odd-bit false x, half-bit false x, e)
+
+lowest-least : (k m : ℕ) → lowest k m ≤ m
+unfolding lowest odd bit half
+lowest-least zero m = omega arith
+lowest-least (suc k) m =
+    by-test (eqb (m % 2) 1)
+    (λ t. let e = eqb→eq (m % 2) 1 t in rw (test-true (eqb (m % 2) 1) t) (omega arith))
+    (λ t. let ih = lowest-least k (m / 2) in rw (test-false (eqb (m % 2) 1) t) (omega arith))
+
+module _ (c : Call) (full : T (lends c)) (s : State) where
+  -- an event's map is on the board
+  abbrev Fits : Op → Type 0
+  Fits OPEN = Unit {0}
+  Fits CLOSE = Unit {0}
+  Fits ABORT = Unit {0}
+  Fits EVENT = (length (s .channels) ≤ 8) × T (not (badMap c s))
+  Fits (COMMAND n) = Unit {0}
+
+  event-refusal : Fits EVENT → refusal EVENT (noted EVENT c) s ≡ refusal EVENT c s
+  unfolding refusal noted badMap
+  event-refusal f =
+      let n = 2 ^ length (s .channels) in
+      let l = ltb→lt (c .map) n (not-not-T (ltb (c .map) n) (f .1)) in
+      rw (room-enough c full, lt-ltb (c .map) n l, lt-ltb (lowest 8 (c .map)) n (omega (arith, lowest-least 8 (c .map))))
+    where
+      not-not-T : (b : Bool) → T (not (not b)) → T b
+      not-not-T true t = tt
+      not-not-T false t = t
+
+  event-accept : Fits EVENT → accept EVENT (noted EVENT c) s ≡ accept EVENT c s
+  unfolding accept noted doEvent silent
+  event-accept f = rw (lowest-twice (length (s .channels)) 8 (c .map) (f .0))
+
+  event-refuse : (e : ℕ) → refuse EVENT e (noted EVENT c) s ≡ refuse EVENT e c s
+  unfolding refuse noted silent
+  event-refuse e = refl
+
+  event-same : c .op ≡ EVENT → Fits EVENT → call s (noted EVENT c) ≡ call s c
+  unfolding call noted
+  event-same q f = ap (λ (r : Refusal). answering r (noted EVENT c) s) (event-refusal f ∙ ap (λ (o : Op). refusal o c s) (sym q)) ∙ go (refusal (c .op) c s)
+    where
+      go : (r : Refusal) → answering r (noted EVENT c) s ≡ answering r c s
+      go accepted = unfold answering noted in (event-accept f ∙ ap (λ (o : Op). accept o c s) (sym q))
+      go (refused e) = unfold answering noted in (event-refuse e ∙ ap (λ (o : Op). refuse o e c s) (sym q))
+
+  noted-same : (o : Op) → c .op ≡ o → Fits o → call s (noted o c) ≡ call s c
+  noted-same OPEN q f = unfold noted in filled-same c full s
+  noted-same CLOSE q f = unfold noted in filled-same c full s
+  noted-same ABORT q f = unfold noted in filled-same c full s
+  noted-same EVENT q f = event-same q f
+  noted-same (COMMAND n) q f = unfold noted in filled-same c full s
+
+  pub said-same : Fits (c .op) → call s (said c) ≡ call s c
+  unfolding said
+  said-same f = noted-same (c .op) refl f
+
+-- so of a call of the K party's, made on its part of the state
+ours-fits : (p : Party) (s : State) (c : Call) → T (sound s) → (full : T (lends c)) → (o : Op) → T (ofParty p o c s) → Fits c full (project p s) o
+unfolding ofParty onK project badMap
+ours-fits p s c t full OPEN u = tt
+ours-fits p s c t full CLOSE u = tt
+ours-fits p s c t full ABORT u = tt
+ours-fits p s c t full EVENT u =
+    let e = length-map (s .channels) (mask p) in
+    let b = not (ltb (c .map) (2 ^ length (s .channels))) in
+    (omega (arith, e, leb→le (length (s .channels)) 8 (parts s t .most)), rw e (and-left (not b) _ u))
+ours-fits p s c t full (COMMAND n) u = tt
+
+own-same : (p : Party) (s : State) (c : Call) → Ready p s → OfK p s c → call (project p s) (said c) ≡ call (project p s) c
+own-same p s c r k = said-same c (k .full) (project p s) (ours-fits p s c (r .sane) (k .full) (c .op) (k .party))
 
 -- ---- every state of a run is one between two calls
 
@@ -136,7 +228,7 @@ unfolding seen own projectOut
 alone p s [] r k = rw (view-part p s)
 alone p s (our c ∷ xs) r k =
     rw (
-      said-same c (k .0 .full) (project p s),
+      own-same p s c r (k .0),
       ours-same p s r c (ours-of p s c (k .0)),
       ownReplies-twice p (call s c .replies),
       view-part p (call s c .next),
@@ -218,7 +310,7 @@ part-after p s [] r k = refl
 part-after p s (our c ∷ xs) r k =
     part-after p (call s c .next) xs (ours-ready p s c r (k .0)) (k .1)
     ∙ ap (λ (u : State). reached u (map our (own xs)))
-    (sym (ap (λ (o : Rattle.machine.specs.State.Outcome). o .next) (said-same c (k .0 .full) (project p s) ∙ ours-same p s r c (ours-of p s c (k .0)))))
+    (sym (ap (λ (o : Rattle.machine.specs.State.Outcome). o .next) (own-same p s c r (k .0) ∙ ours-same p s r c (ours-of p s c (k .0)))))
 part-after p s (their c ∷ xs) r k =
     part-after p (call s c .next) xs (theirs-ready p s c r (k .0)) (k .1)
     ∙ ap (λ (u : State). reached u (map our (own xs))) (theirs-mild p s c r (theirs-of p s c (k .0)) .still)

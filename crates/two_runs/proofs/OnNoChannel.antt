@@ -1,4 +1,10 @@
--- #113, second assurance, over the base machine: a command other than ALLOCATE whose key is on no channel leaves a sound state at rest as it is.
+-- Document 02, #113: a command other than ALLOCATE whose key is on no channel leaves a sound state that is at rest as it is, whatever
+-- it is answered.
+-- Assumes nothing.
+--
+--   Absent k cs        the key is on no channel; key 0 never is
+--   Harmless o         a command, and not ALLOCATE
+--   moves-nothing      the law
 use Prim.Native.Nat.{_+_, _*_, _^_, _<_, _/_, _%_, suc, zero, ℕ}
 use mathlib.Core.Path.{_∙_, _≡_, ap, refl, sym, subst}
 use mathlib.Core.Bool.{Bool, _&&_, _||_, false, not, true}
@@ -25,7 +31,6 @@ use Rattle.machine_laws.proofs.Sound.{parts}
 use Rattle.machine_laws.proofs.Settling.{AtRest, settle-rested}
 use Rattle.machine_laws.proofs.KeepingCalls.{change-zero}
 
--- the key is on no channel; key 0 matches none
 abbrev pub Absent : ℕ → List Channel → Type 0
 Absent k cs = T (all (λ c. not (matches k c)) cs)
 
@@ -141,7 +146,6 @@ module _ (c : Call) (s : State) (a : Absent (c .key) (s .channels)) where
 
 -- ---- the call
 
--- a command, and not ALLOCATE
 abbrev pub Harmless : Op → Type 0
 Harmless OPEN = ⊥
 Harmless CLOSE = ⊥
@@ -172,9 +176,9 @@ accept-same s c ABORT h t r k e = absurd h
 accept-same s c EVENT h t r k e = absurd h
 accept-same s c (COMMAND n) h t r k e = settling-same s (perform (kind n) c s) r (perform-same c s k (kind n) h (parts s t .locksOK) (small s c n h e))
 
-pub slip : (s : State) (c : Call) → Harmless (c .op) → T (sound s) → AtRest s → Absent (c .key) (s .channels) → call s c .next ≡ s
+pub moves-nothing : (s : State) (c : Call) → Harmless (c .op) → T (sound s) → AtRest s → Absent (c .key) (s .channels) → call s c .next ≡ s
 unfolding call answering
-slip s c h t r k = go (refusal (c .op) c s) refl
+moves-nothing s c h t r k = go (refusal (c .op) c s) refl
   where
     go : (f : Refusal) → refusal (c .op) c s ≡ f → answering f c s .next ≡ s
     go accepted e = accept-same s c (c .op) h t r k e
