@@ -28,11 +28,14 @@ extern "C" {
 #define QAMHUDEER_ANSWER_SIZE 6
 #define QAMHUDEER_REPLY_SIZE 6
 #define QAMHUDEER_CHANNEL_SIZE 70
+#define QAMHUDEER_PORT_SIZE 529
+#define QAMHUDEER_ROOM_SIZE 973 /* what one line of a log may bring: 64 replies and an answer */
 
 /* ---- what a caller may read of a state. Numbers of two bytes have the high one first. */
 
-/* How many channels the board has, 4 or 8, stands in a byte of its own. Channel c, of 0 to 7, begins at c * QAMHUDEER_CHANNEL_SIZE: its key (two bytes; 0: the channel is free), its precedence
- * plus 128, its lock mark, its stop mark (each 0 or 1), then its queue of writes. A board of four keeps channels 4 to 7 free. */
+/* How many channels the board has, 4 or 8, stands in a byte of its own. Channel c, of 0 to 7, begins at
+ * c * QAMHUDEER_CHANNEL_SIZE: its key (two bytes; 0: the channel is free), its precedence plus 128, its lock mark, its stop mark
+ * (each 0 or 1), then its queue of writes. A board of four keeps channels 4 to 7 free. */
 #define QAMHUDEER_CHANNEL_KEY 0
 #define QAMHUDEER_CHANNEL_PRECEDENCE 2
 #define QAMHUDEER_CHANNEL_LOCKED 3
@@ -44,6 +47,11 @@ extern "C" {
 #define QAMHUDEER_OFFSET_OF_OPENS 690
 #define QAMHUDEER_OFFSET_OF_LAST 692
 #define QAMHUDEER_OFFSET_OF_CHANNELS 694
+
+/* ---- a port: what stands of a line that has not ended. All 0 is a fresh one. */
+
+#define QAMHUDEER_PORT_STARTED 0 /* how many characters stand, at most 527 (two bytes) */
+#define QAMHUDEER_PORT_LINE 2    /* the characters; those behind the started ones mean nothing */
 
 /* ---- an answer */
 
@@ -124,9 +132,9 @@ extern "C" {
 #define QAMHUDEER_BADID 4   /* an id above 63 */
 #define QAMHUDEER_NOROOM 5  /* the reply list has room for fewer than 64 replies */
 
-/* Refusals of the maker of stereo lists. */
+/* Refusals of the maker of stereo lists, and of a port. */
 #define QAMHUDEER_BADWISH 11  /* a number above 2 */
-#define QAMHUDEER_TOOSMALL 12 /* room for fewer maps than QAMHUDEER_STEREO_ROOM */
+#define QAMHUDEER_TOOSMALL 12 /* room for fewer maps than QAMHUDEER_STEREO_ROOM, or less room than QAMHUDEER_ROOM_SIZE */
 #define QAMHUDEER_STEREO_ROOM 4
 
 /* The result of a call whose answer has no room. */
@@ -158,6 +166,34 @@ size_t qamhudeer_call(uint8_t op, uint8_t id, uint8_t flags, uint8_t map, uint8_
                       uint8_t *replies, size_t replies_len,
                       uint8_t *answer, size_t answer_len);
 
+/* A log that comes in fragments, of any length and some of them empty: the lines of frames that docs/desk.md shows, as a
+ * service port delivers them. The port keeps what stands of a line; state and table are those of the calls.
+ *
+ * qamhudeer_feed takes the fragment up to its first LF, or all of it, and *used is how many bytes that are. Where a line has
+ * ended it is answered: its replies and its answer, a line each, stand at the front of `out`, and *written is their length;
+ * otherwise *written is 0. Call it again with the rest of the fragment until all is used. qamhudeer_feed_end says that the log
+ * has ended: what stands of a last line is answered as a line, and the port is then as fresh; where nothing stands, nothing is
+ * written.
+ *
+ * Both return 0; and before anything is taken QAMHUDEER_UNSOUND where port_len is not QAMHUDEER_PORT_SIZE or more than 527
+ * characters are said to stand in it, then QAMHUDEER_TOOSMALL where out_len is below QAMHUDEER_ROOM_SIZE. After a refusal *used
+ * and *written are 0, and no byte has changed. Otherwise no byte of `out` has changed but those written, and no byte of the port
+ * but its length and the characters put behind those that stood.
+ *
+ * A line of more than 526 characters is malformed however it was cut, and so answered. On a state that is not sound each frame
+ * is answered QAMHUDEER_UNSOUND, and state and table stay as they are. */
+uint8_t qamhudeer_feed(const uint8_t *fragment, size_t fragment_len,
+                       uint8_t *port, size_t port_len,
+                       uint8_t *state, size_t state_len,
+                       uint8_t *table, size_t table_len,
+                       uint8_t *out, size_t out_len,
+                       size_t *used, size_t *written);
+uint8_t qamhudeer_feed_end(uint8_t *port, size_t port_len,
+                           uint8_t *state, size_t state_len,
+                           uint8_t *table, size_t table_len,
+                           uint8_t *out, size_t out_len,
+                           size_t *written);
+
 /* Lists for stereo, on the four-channel board alone: channels 0 and 3 sound left, 1 and 2 right.
  *
  * All maps with `left` left and `right` right channels, 0 to 2 each, in ascending order at the front of `maps`: returns 0, and
@@ -174,6 +210,8 @@ size_t qamhudeer_table_size(void);
 size_t qamhudeer_replies_size(void);
 size_t qamhudeer_answer_size(void);
 size_t qamhudeer_channel_size(void);
+size_t qamhudeer_port_size(void);
+size_t qamhudeer_room_size(void);
 size_t qamhudeer_offset_of_locks(void);
 size_t qamhudeer_offset_of_waiting(void);
 size_t qamhudeer_offset_of_opens(void);

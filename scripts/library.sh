@@ -7,6 +7,7 @@
 #                            gcc-x86-64-linux-gnu, installed where it is missing and may be, and the kit's emulator runs programs
 #   link_c OUT FILES         compiles files in C99 and links them with the library
 #   run_c WORDS              runs a program so made, with its arguments
+#   altered FILE OLD NEW     writes the file with NEW in the place of OLD, which must stand there once
 #   not_run WHAT             says loudly that something is not run. A script that says so ends with the status $skipped,
 #                            unless something failed
 #
@@ -67,6 +68,16 @@ linker_ready() {
 
 link_c() {
     $linker -std=c99 -O2 -Wall -Wextra -pedantic -Werror -I"$root/include" -o "$@" "$library"
+}
+
+altered() {
+    OLD=$2 NEW=$3 awk '
+        at = index($0, ENVIRON["OLD"]) {
+            found++
+            $0 = substr($0, 1, at - 1) ENVIRON["NEW"] substr($0, at + length(ENVIRON["OLD"]))
+        }
+        { print }
+        END { exit found != 1 }' "$1"
 }
 
 run_c() {

@@ -33,7 +33,7 @@ int main(int count, char **argument)
 {
     static struct Arbiter state;
     static struct Reply record[REQUESTS];
-    static char buffer[1 << 16];
+    static char buffer[1 << 16], text[LONGEST_OUTPUT];
     struct Options options = {4, 0};
     struct Replies replies = {record, REQUESTS, 0};
     struct Frame frame;
@@ -51,9 +51,7 @@ int main(int count, char **argument)
         replies.count = 0;
         if (line == LINE_FRAME)
             answer = arbiter_call(&state, &frame, &replies);
-        for (size_t i = 0; i < replies.count; i++)
-            log_write_reply(stdout, &replies.record[i]);
-        log_write_answer(stdout, &answer);
+        fwrite(text, 1, log_spell(text, &replies, &answer), stdout);
         if (options.show)
             log_write_channels(stdout, &state);
     }

@@ -62,9 +62,9 @@ struct Answer log_malformed(void)
     return made;
 }
 
-static void write_line(FILE *out, const uint8_t *byte, size_t count)
+/* The bytes in hexadecimal, and an LF; its length. */
+static size_t spell(char *line, const uint8_t *byte, size_t count)
 {
-    char line[16];
     size_t length = 0;
 
     for (size_t i = 0; i < count; i++) {
@@ -72,11 +72,11 @@ static void write_line(FILE *out, const uint8_t *byte, size_t count)
         line[length++] = digits[byte[i] & 15];
     }
     line[length++] = '\n';
-    fwrite(line, 1, length, out);
+    return length;
 }
 
 /* "C0, id, command, error, map, key" */
-void log_write_reply(FILE *out, const struct Reply *reply)
+static size_t spell_reply(char *line, const struct Reply *reply)
 {
     uint8_t byte[7] = {0xC0, 0, 0, 0, 0, 0, 0};
 
@@ -86,11 +86,11 @@ void log_write_reply(FILE *out, const struct Reply *reply)
     byte[4] = reply->map;
     byte[5] = (uint8_t)(reply->key >> 8);
     byte[6] = (uint8_t)(reply->key & 255);
-    write_line(out, byte, sizeof byte);
+    return spell(line, byte, sizeof byte);
 }
 
 /* "A0 done or A1 outstanding, error, map, key, last byte" */
-void log_write_answer(FILE *out, const struct Answer *answer)
+static size_t spell_answer(char *line, const struct Answer *answer)
 {
     uint8_t byte[6] = {0xA0, 0, 0, 0, 0, 0};
 
@@ -100,13 +100,23 @@ void log_write_answer(FILE *out, const struct Answer *answer)
     byte[3] = (uint8_t)(answer->key >> 8);
     byte[4] = (uint8_t)(answer->key & 255);
     byte[5] = answer->last;
-    write_line(out, byte, sizeof byte);
+    return spell(line, byte, sizeof byte);
+}
+
+size_t log_spell(char *text, const struct Replies *replies, const struct Answer *answer)
+{
+    size_t length = 0;
+
+    for (size_t i = 0; i < replies->count; i++)
+        length += spell_reply(text + length, &replies->record[i]);
+    return length + spell_answer(text + length, answer);
 }
 
 void log_write_channels(FILE *out, const struct Arbiter *a)
 {
     for (unsigned c = 0; c < a->channels; c++) {
         const struct Channel *channel = &a->channel[c];
+        char line[REPLY_LINE];
         uint8_t byte[7] = {0xB0, 0, 0, 0, 0, 0, 0};
 
         byte[1] = (uint8_t)c;
@@ -115,6 +125,6 @@ void log_write_channels(FILE *out, const struct Arbiter *a)
         byte[4] = (uint8_t)channel->precedence;
         byte[5] = (uint8_t)(channel->locked + 2 * channel->stopped);
         byte[6] = channel->writes.count;
-        write_line(out, byte, sizeof byte);
+        fwrite(line, 1, spell(line, byte, sizeof byte), out);
     }
 }

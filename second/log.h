@@ -8,6 +8,9 @@
 
 #define FRAME_HEAD 8u                                   /* bytes before the combinations */
 #define LONGEST_LINE (2u * (FRAME_HEAD + 255u))         /* characters without the LF */
+#define REPLY_LINE 15u                                  /* characters with the LF */
+#define ANSWER_LINE 13u
+#define LONGEST_OUTPUT (REQUESTS * REPLY_LINE + ANSWER_LINE)    /* of one line of the log */
 
 enum Line { LINE_NONE, LINE_MALFORMED, LINE_FRAME };
 
@@ -20,8 +23,8 @@ int log_decode(const char *line, size_t length, struct Frame *f);
 /* The answer to a malformed line: error 7, map 0, key 0. */
 struct Answer log_malformed(void);
 
-void log_write_reply(FILE *out, const struct Reply *reply);
-void log_write_answer(FILE *out, const struct Answer *answer);
+/* A line for each reply, then one for the answer: at most LONGEST_OUTPUT characters. The result is their number. */
+size_t log_spell(char *text, const struct Replies *replies, const struct Answer *answer);
 
 /* A line B0 for each channel of the board: its number, key, precedence, marks (1 locked, 2 stopped) and number of writes. */
 void log_write_channels(FILE *out, const struct Arbiter *a);

@@ -114,5 +114,22 @@ else
     echo "FAILED: generate is not a function of its seed"
 fi
 
+# The service port: however a log is cut, its output is that of the log in one.
+cuts_agree() {
+    for style in mix malformed lists; do
+        for seed in 1 2 3 4; do
+            ./generate $seed 300 $style >"$work/log"
+            ./arbiter2 <"$work/log" >"$work/one"
+            ./cut $seed <"$work/log" | cmp - "$work/one" || return
+        done
+    done
+}
+if cuts_agree; then
+    passed=$((passed + 1))
+else
+    failed=$((failed + 1))
+    echo "FAILED: a log in fragments is answered otherwise than in one"
+fi
+
 echo "test.sh: $passed passed, $failed failed"
 [ $failed -eq 0 ]

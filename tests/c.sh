@@ -80,6 +80,7 @@ elif linker_ready; then
     tried "the example desk" examples/desk.out examples/desk.c /dev/null
     tried "the example desk on eight channels" examples/eight.out examples/eight.c /dev/null
     tried "the example desk that wants stereo" examples/stereo.out examples/stereo.c /dev/null
+    tried "a log byte by byte through the service port" second/sample.out examples/port.c second/sample.log
     quoted c >"$work/page.c"
     quoted text >"$work/page.out"
     tried "the desk of docs/desk.md" "$work/page.out" "$work/page.c" /dev/null

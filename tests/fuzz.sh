@@ -28,6 +28,7 @@ styles='mix locks nowait queues full aborts precedences refusals malformed lists
 styles="$styles many-locks many-steals many-entries many-waiting"
 lines=150
 tries=8
+parts='tests/fuzz tests/states tests/lent second/chance second/log second/arbiter'
 passed=0
 failed=0
 
@@ -50,7 +51,7 @@ prepare() {
         exit $skipped
     fi
     library_ready && make -C second -s ${CC:+CC="$CC"} generate >"$work/made" 2>&1 &&
-        link_c "$work/fuzz" tests/fuzz.c second/chance.c second/log.c second/arbiter.c >>"$work/made" 2>&1 && return
+        link_c "$work/fuzz" $(printf '%s.c ' $parts) >>"$work/made" 2>&1 && return
     [ ! -f "$work/made" ] || cat "$work/made"
     echo "FAILED: the library or its trial does not build"
     echo "0 passed, 1 failed"
@@ -161,17 +162,15 @@ must_differ() {
 
 # wrong NAME FILE OLD NEW: in a copy of the file OLD, which stands there once, is NEW.
 wrong() {
-    OLD=$3 NEW=$4 awk '
-        at = index($0, ENVIRON["OLD"]) {
-            found++
-            $0 = substr($0, 1, at - 1) ENVIRON["NEW"] substr($0, at + length(ENVIRON["OLD"]))
-        }
-        { print }
-        END { exit found != 1 }' "$2" >"$work/tree/$2" || die "not once in $2: $3"
-    case $2 in
-    tests/*) must_differ "$1" "$work/tree/$2" "$work/chance.o" "$work/log.o" "$work/arbiter.o" ;;
-    *) must_differ "$1" "$work/tree/$2" "$work/chance.o" "$work/log.o" "$work/fuzz.o" ;;
-    esac
+    altered "$2" "$3" "$4" >"$work/tree/$2" || die "not once in $2: $3"
+    must_differ "$1" "$work/tree/$2" $(objects_but "${2%.c}")
+}
+
+# objects_but PART: those of all other parts.
+objects_but() {
+    for part in $parts; do
+        [ $part = "$1" ] || echo "$work/${part#*/}.o"
+    done
 }
 
 # spoilt NAME STATEMENT: a library that does this after each call.
@@ -187,13 +186,13 @@ spoilt() {
         echo '                                     table, table_len, replies, replies_len, answer, answer_len);'
         echo "    $2; return n; }"
     } >"$work/spoilt.c"
-    must_differ "$1" -Wl,--wrap=qamhudeer_call "$work/spoilt.c" "$work/fuzz.o" "$work/chance.o" "$work/log.o" "$work/arbiter.o"
+    must_differ "$1" -Wl,--wrap=qamhudeer_call "$work/spoilt.c" $(objects_but none)
 }
 
 play_wrong() {
-    mkdir -p "$work/tree/tests" "$work/tree/second" && cp second/*.h "$work/tree/second" || exit 2
-    for file in tests/fuzz second/chance second/log second/arbiter; do
-        $linker -std=c99 -O2 -Iinclude -c -o "$work/${file#*/}.o" $file.c || die "$file.c does not compile"
+    mkdir -p "$work/tree/tests" "$work/tree/second" && cp tests/*.h "$work/tree/tests" && cp second/*.h "$work/tree/second" || exit 2
+    for part in $parts; do
+        $linker -std=c99 -O2 -Iinclude -c -o "$work/${part#*/}.o" $part.c || die "$part.c does not compile"
     done
     limit 60
     arbiter=second/arbiter.c
@@ -214,8 +213,8 @@ play_wrong() {
     wrong "an id in two places is sound" $arbiter 'id >= REQUESTS || met[id] ||' 'id >= REQUESTS ||'
     wrong "any order of the waiting is sound" $arbiter 'precedence < q->precedence' 'precedence < -128'
     wrong "257 combinations are one" tests/fuzz.c '(n < 255 ? n : 255)' 'n'
-    wrong "a table of 65 entries is a table" tests/fuzz.c 'c->piece[TABLE].length != QAMHUDEER_TABLE_SIZE' 'c->piece[TABLE].length < QAMHUDEER_TABLE_SIZE'
-    wrong "the sixteenth combination is lost" tests/fuzz.c 'memcpy(b + 7, q->combination, COMBINATIONS);' 'memcpy(b + 7, q->combination, COMBINATIONS - 1);'
+    wrong "a table of 65 entries is a table" tests/states.c 'table->length != QAMHUDEER_TABLE_SIZE' 'table->length < QAMHUDEER_TABLE_SIZE'
+    wrong "the sixteenth combination is lost" tests/states.c 'memcpy(b + 7, q->combination, COMBINATIONS);' 'memcpy(b + 7, q->combination, COMBINATIONS - 1);'
     spoilt "a byte behind the table is read" 'seen = table[table_len]'
     spoilt "a byte before the state is written" 'state[-1] ^= 1'
     spoilt "a byte behind the answer is written" 'answer[answer_len] ^= 1'

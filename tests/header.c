@@ -112,6 +112,33 @@ static void refusals(void)
     KEPT("short: nothing moved");
 }
 
+/* What the comments say of a port's bytes, and in which order it is refused. */
+static void port(void)
+{
+    static uint8_t state[QAMHUDEER_STATE_SIZE], table[QAMHUDEER_TABLE_SIZE], line[QAMHUDEER_PORT_SIZE + 1], out[QAMHUDEER_ROOM_SIZE];
+    static const uint8_t fragment[] = "F00000000000\n";
+    size_t used = 77, written = 77;
+#define FEED(n, port_len, out_len) \
+    qamhudeer_feed(fragment, n, line, port_len, state, sizeof state, table, sizeof table, out, out_len, &used, &written)
+    same("fresh", 0, qamhudeer_fresh(4, state, sizeof state, table, sizeof table));
+    same("a port too long, and no room", QAMHUDEER_UNSOUND, FEED(13, QAMHUDEER_PORT_SIZE + 1, 0));
+    same("used", 0, used);
+    same("written", 0, written);
+    same("no room", QAMHUDEER_TOOSMALL, FEED(13, QAMHUDEER_PORT_SIZE, QAMHUDEER_ROOM_SIZE - 1));
+    same("taken", 0, FEED(4, QAMHUDEER_PORT_SIZE, QAMHUDEER_ROOM_SIZE));
+    same("used", 4, used);
+    same("written", 0, written);
+    same("started", 4, 256u * line[QAMHUDEER_PORT_STARTED] + line[QAMHUDEER_PORT_STARTED + 1]);
+    same("the line", 0, (size_t)memcmp(line + QAMHUDEER_PORT_LINE, fragment, 4));
+    same("ended", 0, FEED(13, QAMHUDEER_PORT_SIZE, QAMHUDEER_ROOM_SIZE));
+    same("used, with the LF", 13, used);
+    same("written", 13, written);
+    same("an empty port", 0, line[QAMHUDEER_PORT_STARTED + 1]);
+    line[QAMHUDEER_PORT_STARTED] = 2;
+    line[QAMHUDEER_PORT_STARTED + 1] = 16; /* 528 characters */
+    same("no port", QAMHUDEER_UNSOUND, FEED(0, QAMHUDEER_PORT_SIZE, QAMHUDEER_ROOM_SIZE));
+}
+
 int main(void)
 {
     same("state", QAMHUDEER_STATE_SIZE, qamhudeer_state_size());
@@ -119,6 +146,8 @@ int main(void)
     same("replies", QAMHUDEER_REPLIES_SIZE, qamhudeer_replies_size());
     same("answer", QAMHUDEER_ANSWER_SIZE, qamhudeer_answer_size());
     same("channel", QAMHUDEER_CHANNEL_SIZE, qamhudeer_channel_size());
+    same("port", QAMHUDEER_PORT_SIZE, qamhudeer_port_size());
+    same("room", QAMHUDEER_ROOM_SIZE, qamhudeer_room_size());
     same("locks", QAMHUDEER_OFFSET_OF_LOCKS, qamhudeer_offset_of_locks());
     same("waiting", QAMHUDEER_OFFSET_OF_WAITING, qamhudeer_offset_of_waiting());
     same("opens", QAMHUDEER_OFFSET_OF_OPENS, qamhudeer_offset_of_opens());
@@ -128,5 +157,6 @@ int main(void)
     places();
     boards();
     refusals();
+    port();
     return wrong;
 }

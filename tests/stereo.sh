@@ -40,13 +40,7 @@ agree() {
 
 # wrong NAME KIND OLD NEW: in a copy of the second program OLD, which stands there once, is NEW. The trial of this kind finds it.
 wrong() {
-    if ! OLD=$3 NEW=$4 awk '
-        at = index($0, ENVIRON["OLD"]) {
-            found++
-            $0 = substr($0, 1, at - 1) ENVIRON["NEW"] substr($0, at + length(ENVIRON["OLD"]))
-        }
-        { print }
-        END { exit found != 1 }' second/stereo.c >"$work/wrong.c"; then
+    if ! altered second/stereo.c "$3" "$4" >"$work/wrong.c"; then
         fail "not once in second/stereo.c: $3"
     elif ! link_c "$work/wrong" -Isecond tests/stereo.c second/chance.c "$work/wrong.c" >"$work/said" 2>&1; then
         cat "$work/said"

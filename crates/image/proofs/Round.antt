@@ -256,7 +256,7 @@ module _ (bs : List ℕ) (bytes : (i : ℕ) → getD bs i 0 < 256) where
       ap₂ _++_ k (ap₂ _++_ p (ap₂ _++_ m (q ∙ ap (λ (n : ℕ). take 65 (drop n bs)) (sym f)) ∙ part-add bs (at + 3) 2 65 ∙ ap (λ (n : ℕ). take 67 (drop n bs)) (sym e)) ∙ part-add bs (at + 2) 1 67)
       ∙ part-add bs at 2 68
 
-bytes-each : (bs : List ℕ) → T (all isByte bs) → (i : ℕ) → getD bs i 0 < 256
+pub bytes-each : (bs : List ℕ) → T (all isByte bs) → (i : ℕ) → getD bs i 0 < 256
 unfolding all
 bytes-each [] t i = omega arith
 bytes-each (b ∷ bs) t zero = ltb→lt b 256 (and-left (isByte b) (all isByte bs) t)

@@ -2,10 +2,11 @@
 // None asks anything of its caller but memory that is its own. Assumes nothing.
 ghost use mathlib.Core.Path.{_≡_};
 ghost use Rattle.image.specs.Image.{STATE, CHANNEL, LOCKS, WAITING, OPENS, LAST, CHANNELS};
-ghost use Rattle.sizes.specs.Sizes.{TABLE, REPLIES, ANSWER};
+ghost use Rattle.sizes.specs.Sizes.{TABLE, REPLIES, ANSWER, PORT, ROOM};
 ghost use Rattle.handed.specs.Handed.{requestOf};
 ghost use Rattle.starting.specs.Starting.{Started};
 ghost use Rattle.boundary.specs.Boundary.{Crossed};
+ghost use Rattle.fragments.specs.Fragments.{Feeds, Ends};
 ghost use Rattle.machine.specs.Lists.{if_then_else_};
 ghost use Rattle.stereo.specs.Stereo.{Listed, accepts};
 
@@ -37,6 +38,20 @@ pub extern "C" fn qamhudeer_answer_size() -> usize
     ensures { λ r. ⌜ r ≡ ANSWER ⌝ }
 {
     sizes::answer_size()
+}
+
+#[no_mangle]
+pub extern "C" fn qamhudeer_port_size() -> usize
+    ensures { λ r. ⌜ r ≡ PORT ⌝ }
+{
+    sizes::port_size()
+}
+
+#[no_mangle]
+pub extern "C" fn qamhudeer_room_size() -> usize
+    ensures { λ r. ⌜ r ≡ ROOM ⌝ }
+{
+    sizes::room_size()
 }
 
 #[no_mangle]
@@ -123,6 +138,46 @@ pub extern "C" fn qamhudeer_call(
         replies,
         answer,
     )
+}
+
+// ---- a log over a slow line
+
+// A fragment of a log up to its first LF, or all of it: 0, how much of it is used, and how much output stands in front of `out`: that
+// of one line at most. No port: 1. Room for less than one line's output: 12. After a refusal both numbers are 0, and nothing moves.
+#[no_mangle]
+pub extern "C" fn qamhudeer_feed(
+    fragment: &[u8],
+    port: &mut [u8],
+    state: &mut [u8],
+    table: &mut [u8],
+    out: &mut [u8],
+    used: &mut usize,
+    written: &mut usize,
+) -> u8
+    ensures { λ r. ⌜ Feeds (now (fragment .entry)) (now (port .entry)) (now (state .entry)) (now (table .entry)) (now (out .entry))
+        r (now (used .exit)) (now (written .exit)) (now (port .exit)) (now (state .exit)) (now (table .exit)) (now (out .exit)) ⌝ }
+{
+    let f = fragments::feed(fragment, port, state, table, out);
+    *used = f.used;
+    *written = f.written;
+    f.error
+}
+
+// The log has ended: what stands of a last line is answered, and where nothing stands nothing is written.
+#[no_mangle]
+pub extern "C" fn qamhudeer_feed_end(
+    port: &mut [u8],
+    state: &mut [u8],
+    table: &mut [u8],
+    out: &mut [u8],
+    written: &mut usize,
+) -> u8
+    ensures { λ r. ⌜ Ends (now (port .entry)) (now (state .entry)) (now (table .entry)) (now (out .entry))
+        r (now (written .exit)) (now (port .exit)) (now (state .exit)) (now (table .exit)) (now (out .exit)) ⌝ }
+{
+    let f = fragments::feed_end(port, state, table, out);
+    *written = f.written;
+    f.error
 }
 
 // ---- lists for stereo

@@ -1,6 +1,7 @@
 -- How much a program in C lends. Assumes nothing.
 --
 --   TABLE, REPLIES, ANSWER     how many bytes a table, a full reply list and an answer have
+--   PORT, ROOM                 how many a port has, and the output of one line at most
 use Prim.Native.Nat.{ℕ}
 
 -- 64 entries of 23 bytes
@@ -13,3 +14,11 @@ REPLIES = 384
 
 abbrev pub ANSWER : ℕ
 ANSWER = 6
+
+-- document 02, #107: "memory stays at one line": its length in two bytes, and the 527 bytes that are kept of a line
+abbrev pub PORT : ℕ
+PORT = 529
+
+-- 64 lines of 15 bytes for replies, and an answer's line of 13
+abbrev pub ROOM : ℕ
+ROOM = 973

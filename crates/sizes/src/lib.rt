@@ -2,7 +2,7 @@
 // Assumes nothing.
 ghost use mathlib.Core.Path.{_≡_};
 ghost use Rattle.image.specs.Image.{STATE, CHANNEL, LOCKS, WAITING, OPENS, LAST, CHANNELS};
-ghost use Rattle.sizes.specs.Sizes.{TABLE, REPLIES, ANSWER};
+ghost use Rattle.sizes.specs.Sizes.{TABLE, REPLIES, ANSWER, PORT, ROOM};
 
 pub fn state_size() -> usize
     ensures { λ r. ⌜ r ≡ STATE ⌝ }
@@ -26,6 +26,18 @@ pub fn answer_size() -> usize
     ensures { λ r. ⌜ r ≡ ANSWER ⌝ }
 {
     6
+}
+
+pub fn port_size() -> usize
+    ensures { λ r. ⌜ r ≡ PORT ⌝ }
+{
+    529
+}
+
+pub fn room_size() -> usize
+    ensures { λ r. ⌜ r ≡ ROOM ⌝ }
+{
+    973
 }
 
 pub fn channel_size() -> usize

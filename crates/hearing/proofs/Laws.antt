@@ -1,0 +1,118 @@
+-- A line on the state that the bytes hold, and on bytes that hold none; no second outcome fits; one line's output has its room.
+-- Assumes nothing.
+use Prim.Native.Nat.{ℕ, _≤_}
+use mathlib.Core.Path.{_≡_, refl, ap, sym, subst, _∙_}
+use mathlib.Core.Bool.{Bool, true, false}
+use mathlib.Core.List.{List}
+use mathlib.Core.Option.{Option, none, some}
+use native.Mathlib.Omega.{arith}
+use lib.Dec.{T}
+use lib.ListN.{length}
+use Rattle.machine.specs.State.{Call as CallM}
+use Rattle.machine.specs.Log.{line, answerLine, unhex, frame, feed}
+use Rattle.memory.specs.Splice.{splice}
+use Rattle.board.specs.declared.Board.{Board}
+use Rattle.board.specs.Board.{Held}
+use Rattle.image.specs.Image.{imageOf, stateOf, isWhole, Whole, Saved}
+use Rattle.image.proofs.Round.{imageOf-stateOf, one-image}
+use Rattle.arbiter.proofs.Outcome.{held-or-not}
+use Rattle.feeding.specs.declared.Fed.{Fed}
+use Rattle.feeding.specs.Feeding.{Feeds, unheard, Unheard, FeedsAny}
+use Rattle.feeding.proofs.Laws.{feed-few}
+use Rattle.hearing.specs.Hearing.{Kept, heldIn, Hears, Tells}
+
+-- ---- whether the bytes hold a sound state
+
+whole-or-not {ℓ} : {R : Type ℓ} (bs : List ℕ) → (Whole bs → R) → ((Whole bs → ⊥) → R) → R
+whole-or-not {R = R} bs y z = go (isWhole bs) refl
+  where
+    go : (b : Bool) → isWhole bs ≡ b → R
+    go true e = y (subst (λ (b : Bool). T b) (sym e) tt)
+    go false e = z (λ w. subst (λ (b : Bool). T b) e w)
+
+pub kept-or-not {ℓ} : {R : Type ℓ} (st tb : List ℕ) → (Kept st tb → R) → ((Kept st tb → ⊥) → R) → R
+kept-or-not st tb y z =
+    whole-or-not st
+    (λ w. held-or-not (stateOf st) tb (λ h. y (record { whole = w; held = h })) (λ n. z (λ k. n (k .held))))
+    (λ n. z (λ k. n (k .whole)))
+
+-- ---- a line
+
+-- on bytes that hold no struct
+pub unread-tells : {st tb l out : List ℕ} {s : Board} {f : Fed} {out′ : List ℕ} {w : ℕ} → (Whole st → ⊥) → Unheard s l out f out′ → w ≡ f .n → Tells l st tb out w st tb out′
+unread-tells {l = l} n u e =
+    record {
+      text = unheard (frame (unhex l));
+      heard = record { sound = λ k. absurd (n (k .whole)); unsound = λ _. record { output = refl; state = refl; table = refl } };
+      count = e ∙ u .count;
+      bytes = u .bytes;
+    }
+
+module _ {st tb l out : List ℕ} {f : Fed} {st′ tb′ out′ : List ℕ} {r : ℕ} (w : Whole st) (v : Saved (f .state) st′) (e : r ≡ f .n) where
+  heard-tells : Held (stateOf st) tb → Feeds (stateOf st) tb l out f tb′ out′ → Tells l st tb out r st′ tb′ out′
+  heard-tells h t =
+      record {
+        text = feed (heldIn st tb) l .output;
+        heard =
+            record {
+              sound = λ _. record { output = refl; state = subst (λ (b : Board). Saved b st′) (t .struct) v; table = t .table };
+              unsound = λ n. absurd (n (record { whole = w; held = h }));
+            };
+        count = e ∙ t .count;
+        bytes = t .bytes;
+      }
+
+  unheard-tells : (Held (stateOf st) tb → ⊥) → Unheard (stateOf st) l out f out′ × (tb′ ≡ tb) → Tells l st tb out r st′ tb′ out′
+  unheard-tells n u =
+      record {
+        text = unheard (frame (unhex l));
+        heard =
+            record {
+              sound = λ k. absurd (n (k .held));
+              unsound = λ _. record { output = refl; state = v .bytes ∙ ap imageOf (u .0 .state) ∙ imageOf-stateOf st w; table = u .1 };
+            };
+        count = e ∙ u .0 .count;
+        bytes = u .0 .bytes;
+      }
+
+  -- on the struct that they hold
+  pub read-tells : FeedsAny (stateOf st) tb l out f tb′ out′ → Tells l st tb out r st′ tb′ out′
+  read-tells t = held-or-not (stateOf st) tb (λ h. heard-tells h (t .sound h)) (λ n. unheard-tells n (t .unsound n))
+
+-- ---- no second outcome fits
+
+pub one-hearing : {l st tb t₁ t₂ st₁ st₂ tb₁ tb₂ : List ℕ} → Hears l st tb t₁ st₁ tb₁ → Hears l st tb t₂ st₂ tb₂ → (t₁ ≡ t₂) × (st₁ ≡ st₂) × (tb₁ ≡ tb₂)
+one-hearing {st = st} {tb = tb} a b =
+    kept-or-not st tb
+    (λ k. let x = a .sound k in let y = b .sound k in (x .output ∙ sym (y .output), one-image (x .state) (y .state), x .table ∙ sym (y .table)))
+    (λ n. let x = a .unsound n in let y = b .unsound n in (x .output ∙ sym (y .output), x .state ∙ sym (y .state), x .table ∙ sym (y .table)))
+
+pub record Same (n n₂ : ℕ) (st st₂ tb tb₂ out out₂ : List ℕ) : Type 0 where
+  pub count : n ≡ n₂
+  pub state : st ≡ st₂
+  pub table : tb ≡ tb₂
+  pub output : out ≡ out₂
+
+pub one-telling : {l st tb out : List ℕ} {n n₂ : ℕ} {st₁ st₂ tb₁ tb₂ out₁ out₂ : List ℕ} → Tells l st tb out n st₁ tb₁ out₁ → Tells l st tb out n₂ st₂ tb₂ out₂
+    → Same n n₂ st₁ st₂ tb₁ tb₂ out₁ out₂
+one-telling {out = out} a b =
+    let h = one-hearing (a .heard) (b .heard) in
+    record {
+      count = a .count ∙ ap length (h .0) ∙ sym (b .count);
+      state = h .1;
+      table = h .2;
+      output = a .bytes ∙ ap (splice out 0) (h .0) ∙ sym (b .bytes);
+    }
+
+-- ---- the room that a line's output takes: 64 replies and an answer
+
+unheard-few : (o : Option CallM) → length (unheard o) ≤ 973
+unfolding answerLine line
+unheard-few none = omega arith
+unheard-few (some c) = omega arith
+
+pub hears-few : {l st tb text st′ tb′ : List ℕ} → Hears l st tb text st′ tb′ → length text ≤ 973
+hears-few {l} {st} {tb} h =
+    kept-or-not st tb
+    (λ k. rw (h .sound k .output) (feed-few (heldIn st tb) l (k .held .sane)))
+    (λ n. rw (h .unsound n .output) (unheard-few (frame (unhex l))))

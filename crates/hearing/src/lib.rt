@@ -1,0 +1,21 @@
+// One line of a log on the bytes of a state and a table. `hear` asks nothing: bytes that hold no sound state answer 1 to a frame, and
+// nothing moves. Assumes nothing.
+use board::Board;
+ghost use Rattle.hearing.specs.Hearing.{Tells};
+
+// How many bytes of output there are.
+pub fn hear(line: &[u8], state: &mut [u8], table: &mut [u8], out: &mut [u8; 973]) -> usize
+    ensures { λ n. ⌜ Tells (now (line .entry)) (now (state .entry)) (now (table .entry)) (now (out .entry))
+        n (now (state .exit)) (now (table .exit)) (now (out .exit)) ⌝ }
+{
+    if !image::whole(state) {
+        // which state is left aside does not matter: none is held
+        let none = feeding::unsound(Board::fresh(Board::FOUR), line, out);
+        return none.n;
+    }
+    let b = loading::load(state);
+    let f = feeding::feed(b, line, table, out);
+    let t = f.state;
+    saving::save(t, state);
+    f.n
+}

@@ -1,0 +1,162 @@
+-- Every sound state has its bytes: each number of it fits, and no queue of it has more than 64 ids. Assumes nothing.
+use Prim.Native.Nat.{ℕ, zero, suc, _+_, _-_, _/_, _%_, _≤_, _<_}
+use mathlib.Core.Path.{refl, ap, _∙_}
+use mathlib.Core.Bool.{Bool, true, false, not, _&&_}
+use mathlib.Core.List.{List, [], _∷_, _++_, map}
+use native.Mathlib.Omega.{arith}
+use lib.Dec.{T, eqb, leb, ltb, eqb→eq, leb→le, ltb→lt, lt→ltb}
+use lib.ListN.{length, replicate, length-append, length-map}
+use Rattle.machine.specs.Lists.{all}
+use Rattle.machine.specs.State.{State as StateM, Channel as ChannelM, Lock, Request, isFree}
+use Rattle.machine.specs.Sound.{soundChannel, writesOf, ids}
+use Rattle.machine.proofs.Tests.{by-test, test-true, test-false, and-left, and-right, and-both}
+use Rattle.machine_laws.proofs.Lists.{all-append}
+use Rattle.machine_laws.proofs.Sound.{Parts, ids-few}
+use Rattle.queue.specs.Queue.{queueOf}
+use Rattle.queue.proofs.Laws.{length-pad}
+use Rattle.channel.specs.Channel.{channelOf}
+use Rattle.widening.specs.Widening.{widen}
+use Rattle.board.specs.Board.{structOf}
+use Rattle.board.proofs.Laws.{own-wide, own-eight}
+use Rattle.image.specs.Image.{markOf, keyBytes, queueBytes, channelBytes, channelsBytes, imageOf, isByte, Filled, AllFilled, Sized, Saved}
+use Rattle.image.proofs.Round.{imageOf-whole}
+
+-- ---- all of a list
+
+abbrev pub Bytes : List ℕ → Type 0
+Bytes l = T (all isByte l)
+
+abbrev Ids : List ℕ → Type 0
+Ids l = T (all (λ i. ltb i 64) l)
+
+ids-left : (xs ys : List ℕ) → Ids (xs ++ ys) → Ids xs
+unfolding all
+ids-left [] ys t = tt
+ids-left (x ∷ xs) ys t =
+    and-both (ltb x 64) (all (λ i. ltb i 64) xs) (and-left (ltb x 64) (all (λ i. ltb i 64) (xs ++ ys)) t)
+    (ids-left xs ys (and-right (ltb x 64) (all (λ i. ltb i 64) (xs ++ ys)) t))
+
+ids-right : (xs ys : List ℕ) → Ids (xs ++ ys) → Ids ys
+unfolding all
+ids-right [] ys t = t
+ids-right (x ∷ xs) ys t = ids-right xs ys (and-right (ltb x 64) (all (λ i. ltb i 64) (xs ++ ys)) t)
+
+one-byte : (b : ℕ) (l : List ℕ) → b < 256 → Bytes l → Bytes (b ∷ l)
+unfolding all
+one-byte b l h t = and-both (isByte b) (all isByte l) (lt→ltb b 256 h) t
+
+no-bytes : Bytes []
+unfolding all
+no-bytes = tt
+
+-- ---- the parts of an image
+
+pub key-bytes : (k : ℕ) → k ≤ 65535 → Bytes (keyBytes k)
+key-bytes k h = one-byte (k / 256) (k % 256 ∷ []) (omega arith) (one-byte (k % 256) [] (omega arith) no-bytes)
+
+pub zero-bytes : (n : ℕ) → Bytes (replicate n 0)
+zero-bytes zero = no-bytes
+zero-bytes (suc n) = one-byte 0 (replicate n 0) (omega arith) (zero-bytes n)
+
+ids-bytes : (l : List ℕ) → Ids l → Bytes l
+unfolding all
+ids-bytes [] t = tt
+ids-bytes (x ∷ l) t =
+    let h = ltb→lt x 64 (and-left (ltb x 64) (all (λ i. ltb i 64) l) t) in
+    one-byte x l (omega arith) (ids-bytes l (and-right (ltb x 64) (all (λ i. ltb i 64) l) t))
+
+queue-bytes : (l : List ℕ) → length l ≤ 64 → Ids l → Bytes (queueBytes (queueOf l))
+queue-bytes l h t = one-byte (length l) (l ++ replicate (64 - length l) 0) (omega arith) (all-append isByte l (replicate (64 - length l) 0) (ids-bytes l t) (zero-bytes (64 - length l)))
+
+mark-byte : (b : Bool) → markOf b < 256
+mark-byte true = omega arith
+mark-byte false = omega arith
+
+channel-fits : (c : ChannelM) → T (soundChannel c) → (c .key ≤ 65535) × (c .prec ≤ 255)
+unfolding soundChannel
+channel-fits c t =
+    by-test (isFree c)
+    (λ y. let u = rw (test-true (isFree c) y) at t in
+    let k = eqb→eq (c .key) 0 y in
+    let p = eqb→eq (c .prec) 128 (and-left (eqb (c .prec) 128) (not (c .locked)) (and-left (eqb (c .prec) 128 && not (c .locked)) (not (c .stopped)) (and-left (eqb (c .prec) 128 && not (c .locked) && not (c .stopped)) (eqb (length (c .writes)) 0) u))) in
+    (omega arith, omega arith))
+    (λ y. let u = rw (test-false (isFree c) y) at t in
+    (leb→le (c .key) 65535 (and-left (leb (c .key) 65535) (leb (c .prec) 255) u), leb→le (c .prec) 255 (and-right (leb (c .key) 65535) (leb (c .prec) 255) u)))
+
+channel-bytes : (c : ChannelM) → T (soundChannel c) → length (c .writes) ≤ 64 → Ids (c .writes) → Bytes (channelBytes (channelOf c))
+unfolding channelBytes
+channel-bytes c t h i =
+    let f = channel-fits c t in
+    let q = queueBytes (queueOf (c .writes)) in
+    let m = markOf (c .locked) in
+    let n = markOf (c .stopped) in
+    all-append isByte (keyBytes (c .key)) (c .prec ∷ m ∷ n ∷ q) (key-bytes (c .key) (f .0))
+    (one-byte (c .prec) (m ∷ n ∷ q) (omega arith) (one-byte m (n ∷ q) (mark-byte (c .locked)) (one-byte n q (mark-byte (c .stopped)) (queue-bytes (c .writes) h i))))
+
+channels-bytes : (cs : List ChannelM) → T (all soundChannel cs) → length (writesOf cs) ≤ 64 → Ids (writesOf cs) → Bytes (channelsBytes (map channelOf cs)) × AllFilled (map channelOf cs)
+unfolding channelsBytes all writesOf
+channels-bytes [] t h i = (tt, tt)
+channels-bytes (c ∷ cs) t h i =
+    let n = length-append (c .writes) (writesOf cs) in
+    let r = channels-bytes cs (and-right (soundChannel c) (all soundChannel cs) t) (omega arith) (ids-right (c .writes) (writesOf cs) i) in
+    let b = channel-bytes c (and-left (soundChannel c) (all soundChannel cs) t) (omega arith) (ids-left (c .writes) (writesOf cs) i) in
+    (all-append isByte (channelBytes (channelOf c)) (channelsBytes (map channelOf cs)) b (r .0), (length-pad (c .writes) (omega arith), r .1))
+
+-- ---- the whole
+
+module _ (s : StateM) (p : Parts s) where
+  abbrev wide : StateM
+  wide = widen (8 - length (s .channels)) s
+
+  wide-parts : Parts wide
+  wide-parts = own-wide s p
+
+  wide-ids : Ids (writesOf (wide .channels)) × Ids (map (λ (l : Lock). l .id) (s .locks)) × Ids (map (λ (r : Request). r .id) (s .waiting))
+  unfolding ids
+  wide-ids =
+      let w = writesOf (wide .channels) in
+      let l = map (λ (l : Lock). l .id) (s .locks) in
+      let r = map (λ (r : Request). r .id) (s .waiting) in
+      let t = wide-parts .small in
+      let u = ids-left (w ++ l) r t in
+      (ids-left w l u, ids-right w l u, ids-right (w ++ l) r t)
+
+  few : length (writesOf (wide .channels)) + length (s .locks) + length (s .waiting) ≤ 64
+  few = ids-few wide wide-parts
+
+  few-locks : length (map (λ (l : Lock). l .id) (s .locks)) ≤ 64
+  few-locks = let f = few in let e = length-map (s .locks) (λ (l : Lock). l .id) in omega arith
+
+  few-waiting : length (map (λ (r : Request). r .id) (s .waiting)) ≤ 64
+  few-waiting = let f = few in let e = length-map (s .waiting) (λ (r : Request). r .id) in omega arith
+
+  parts-channels : Bytes (channelsBytes (map channelOf (wide .channels))) × AllFilled (map channelOf (wide .channels))
+  parts-channels = let f = few in channels-bytes (wide .channels) (wide-parts .channelsOK) (omega arith) (wide-ids .0)
+
+  sized-of : Sized (structOf s)
+  sized-of =
+      record {
+        eight = length-map (wide .channels) channelOf ∙ own-eight s p;
+        channels = parts-channels .1;
+        locks = length-pad (map (λ (l : Lock). l .id) (s .locks)) few-locks;
+        waiting = length-pad (map (λ (r : Request). r .id) (s .waiting)) few-waiting;
+      }
+
+  bytes-of : Bytes (imageOf (structOf s))
+  unfolding imageOf
+  bytes-of =
+      let c = channelsBytes (map channelOf (wide .channels)) in
+      let l = queueBytes (queueOf (map (λ (l : Lock). l .id) (s .locks))) in
+      let w = queueBytes (queueOf (map (λ (r : Request). r .id) (s .waiting))) in
+      let o = keyBytes (s .opens) in
+      let k = keyBytes (s .last) in
+      let n = length (s .channels) ∷ [] in
+      let m = leb→le (length (s .channels)) 8 (p .most) in
+      all-append isByte c (l ++ (w ++ (o ++ (k ++ n)))) (parts-channels .0)
+      (all-append isByte l (w ++ (o ++ (k ++ n))) (queue-bytes _ few-locks (wide-ids .1))
+      (all-append isByte w (o ++ (k ++ n)) (queue-bytes _ few-waiting (wide-ids .2))
+      (all-append isByte o (k ++ n) (key-bytes (s .opens) (leb→le (s .opens) 65535 (p .opensOK)))
+      (all-append isByte k n (key-bytes (s .last) (leb→le (s .last) 65535 (p .lastOK))) (one-byte (length (s .channels)) [] (omega arith) no-bytes)))))
+
+  pub saved-of : Saved (structOf s) (imageOf (structOf s))
+  saved-of = record { bytes = refl; sized = sized-of; whole = imageOf-whole (structOf s) sized-of (test-true (all isByte (imageOf (structOf s))) bytes-of) }

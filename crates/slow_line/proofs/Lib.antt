@@ -1,0 +1,4 @@
+pub mod Whole
+pub mod Log
+pub mod Images
+pub mod Runs

@@ -1,0 +1,34 @@
+/* Plays a log from standard input through the service port, in fragments of random lengths, some of them empty:
+   cut SEED [CHANNELS]. Its output must be that of arbiter2. */
+#include "chance.h"
+#include "port.h"
+
+#include <stdio.h>
+#include <stdlib.h>
+
+int main(int count, char **argument)
+{
+    static struct Arbiter state;
+    static struct Port port;
+    static char fragment[1000], text[LONGEST_OUTPUT];
+    size_t length, written;
+
+    if (count < 2 || count > 3) {
+        fputs("usage: cut SEED [CHANNELS] <LOG\n", stderr);
+        return 2;
+    }
+    chance_seed(strtoull(argument[1], NULL, 10));
+    arbiter_fresh(&state, count > 2 ? (unsigned)strtoul(argument[2], NULL, 10) : 4);
+    do {
+        size_t wanted = below(percent(80) ? 30 : sizeof fragment), used = 0;
+
+        length = fread(fragment, 1, wanted, stdin);
+        while (used < length) {
+            used += port_feed(&port, &state, fragment + used, length - used, text, &written);
+            fwrite(text, 1, written, stdout);
+        }
+    } while (!feof(stdin) && !ferror(stdin));
+    port_end(&port, &state, text, &written);
+    fwrite(text, 1, written, stdout);
+    return ferror(stdin) || fflush(stdout) != 0 || ferror(stdout);
+}

@@ -1,0 +1,267 @@
+/* States and tables as bytes. states.h says what each function does. */
+#include "states.h"
+
+#include "../second/chance.h"
+
+#include <string.h>
+
+#define ENTRY 23u                           /* bytes of a table's entry */
+
+int8_t twos(uint8_t b)
+{
+    return (int8_t)(b < 128 ? b : (int)b - 256);
+}
+
+static int8_t plus_128(uint8_t b)
+{
+    return (int8_t)((int)b - 128);
+}
+
+uint16_t key_at(const uint8_t *b)
+{
+    return (uint16_t)(256u * b[0] + b[1]);
+}
+
+void put_key(uint8_t *b, uint16_t key)
+{
+    b[0] = (uint8_t)(key >> 8);
+    b[1] = (uint8_t)(key & 255);
+}
+
+static void read_queue(struct Ids *q, const uint8_t *b)
+{
+    q->count = b[0];
+    memcpy(q->id, b + 1, REQUESTS);
+}
+
+static void put_queue(uint8_t *b, const struct Ids *q)
+{
+    b[0] = q->count;
+    memcpy(b + 1, q->id, REQUESTS);
+}
+
+static void read_entry(struct Request *q, const uint8_t *b)
+{
+    q->command = b[0];
+    q->key = key_at(b + 1);
+    q->map = b[3];
+    /* Only a waiting allocation has a precedence; in any other entry 0 means nothing, and stands as 0. */
+    q->precedence = b[0] == ADCMD_ALLOCATE ? plus_128(b[4]) : twos(b[4]);
+    q->nowait = b[5];
+    q->length = b[6];
+    memcpy(q->combination, b + 7, COMBINATIONS);
+}
+
+static void put_entry(uint8_t *b, const struct Request *q)
+{
+    b[0] = q->command;
+    put_key(b + 1, q->key);
+    b[3] = q->map;
+    b[4] = (uint8_t)(q->command == ADCMD_ALLOCATE ? q->precedence + 128 : q->precedence);
+    b[5] = q->nowait;
+    b[6] = q->length;
+    memcpy(b + 7, q->combination, COMBINATIONS);
+}
+
+void read_all(struct Arbiter *a, const uint8_t *state, const uint8_t *table)
+{
+    memset(a, 0, sizeof *a);
+    for (unsigned c = 0; c < MOST_CHANNELS; c++) {
+        const uint8_t *b = state + c * QAMHUDEER_CHANNEL_SIZE;
+
+        a->channel[c].key = key_at(b + QAMHUDEER_CHANNEL_KEY);
+        a->channel[c].precedence = plus_128(b[QAMHUDEER_CHANNEL_PRECEDENCE]);
+        a->channel[c].locked = b[QAMHUDEER_CHANNEL_LOCKED];
+        a->channel[c].stopped = b[QAMHUDEER_CHANNEL_STOPPED];
+        read_queue(&a->channel[c].writes, b + QAMHUDEER_CHANNEL_WRITES);
+    }
+    read_queue(&a->locks, state + QAMHUDEER_OFFSET_OF_LOCKS);
+    read_queue(&a->waiting, state + QAMHUDEER_OFFSET_OF_WAITING);
+    a->channels = state[QAMHUDEER_OFFSET_OF_CHANNELS];
+    a->open_count = key_at(state + QAMHUDEER_OFFSET_OF_OPENS);
+    a->last_key = key_at(state + QAMHUDEER_OFFSET_OF_LAST);
+    for (unsigned id = 0; id < REQUESTS; id++)
+        read_entry(&a->request[id], table + id * ENTRY);
+}
+
+void put_all(uint8_t *state, uint8_t *table, const struct Arbiter *a)
+{
+    for (unsigned c = 0; c < MOST_CHANNELS; c++) {
+        uint8_t *b = state + c * QAMHUDEER_CHANNEL_SIZE;
+
+        put_key(b + QAMHUDEER_CHANNEL_KEY, a->channel[c].key);
+        b[QAMHUDEER_CHANNEL_PRECEDENCE] = (uint8_t)(a->channel[c].precedence + 128);
+        b[QAMHUDEER_CHANNEL_LOCKED] = a->channel[c].locked;
+        b[QAMHUDEER_CHANNEL_STOPPED] = a->channel[c].stopped;
+        put_queue(b + QAMHUDEER_CHANNEL_WRITES, &a->channel[c].writes);
+    }
+    put_queue(state + QAMHUDEER_OFFSET_OF_LOCKS, &a->locks);
+    put_queue(state + QAMHUDEER_OFFSET_OF_WAITING, &a->waiting);
+    state[QAMHUDEER_OFFSET_OF_CHANNELS] = a->channels;
+    put_key(state + QAMHUDEER_OFFSET_OF_OPENS, a->open_count);
+    put_key(state + QAMHUDEER_OFFSET_OF_LAST, a->last_key);
+    for (unsigned id = 0; id < REQUESTS; id++)
+        put_entry(table + id * ENTRY, &a->request[id]);
+}
+
+int decodes(const struct Bytes *state)
+{
+    if (state->length != QAMHUDEER_STATE_SIZE)
+        return 0;
+    for (unsigned c = 0; c < MOST_CHANNELS; c++) {
+        const uint8_t *b = state->byte + c * QAMHUDEER_CHANNEL_SIZE;
+
+        if (b[QAMHUDEER_CHANNEL_LOCKED] > 1 || b[QAMHUDEER_CHANNEL_STOPPED] > 1)
+            return 0;
+    }
+    return 1;
+}
+
+int is_sound(const struct Bytes *state, const struct Bytes *table, struct Arbiter *a)
+{
+    if (state->length != QAMHUDEER_STATE_SIZE || table->length != QAMHUDEER_TABLE_SIZE)
+        return 0;
+    read_all(a, state->byte, table->byte);
+    return arbiter_sound(a);
+}
+
+/* ---- Damage */
+
+/* One of the queues of the board. */
+static uint8_t *any_queue(uint8_t *state, unsigned board)
+{
+    unsigned q = below(board + 2);
+
+    if (q < board)
+        return state + q * QAMHUDEER_CHANNEL_SIZE + QAMHUDEER_CHANNEL_WRITES;
+    return state + (q == board ? QAMHUDEER_OFFSET_OF_LOCKS : QAMHUDEER_OFFSET_OF_WAITING);
+}
+
+/* The entry of a request that is outstanding, from a random one on; any if there is none. */
+static uint8_t *any_entry(uint8_t *table)
+{
+    unsigned id = below(REQUESTS);
+
+    for (unsigned tries = 0; tries < REQUESTS && table[id * ENTRY] == 0; tries++)
+        id = (id + 1) % REQUESTS;
+    return table + id * ENTRY;
+}
+
+/* A byte that says something: most others are zeros whose damage is seen at once. */
+static uint8_t *telling_byte(uint8_t *state, uint8_t *table, unsigned board)
+{
+    unsigned odds = below(10), at = below(256);
+    uint8_t *queue;
+
+    if (odds < 3)
+        return state + at % MOST_CHANNELS * QAMHUDEER_CHANNEL_SIZE + at / MOST_CHANNELS % QAMHUDEER_CHANNEL_WRITES;
+    if (odds < 4)
+        return state + QAMHUDEER_OFFSET_OF_OPENS + at % 5;  /* the last of them is how many channels there are */
+    if (odds < 6) {
+        queue = any_queue(state, board);
+        return queue + at % ((queue[0] < REQUESTS ? queue[0] : REQUESTS - 1) + 2u);
+    }
+    return any_entry(table) + at % ENTRY;
+}
+
+static void damage_byte(uint8_t *b)
+{
+    unsigned odds = below(6), value = below(256);
+
+    if (odds == 0)
+        *b = (uint8_t)value;
+    else if (odds == 1)
+        *b = (uint8_t)(*b ^ 1u << value % 8);
+    else if (odds == 2)
+        *b = (uint8_t)(*b + 1);
+    else if (odds == 3)
+        *b = (uint8_t)(*b - 1);
+    else if (odds == 4)
+        *b = (uint8_t)(value % 16);
+    else
+        *b = (uint8_t)(value % 2);
+}
+
+/* Numbers that a good state may have at any time, in places no log puts them: sound, but not settled. */
+static void unsettle(uint8_t *state, uint8_t *table, unsigned board)
+{
+    unsigned c = below(board), value = below(256), odds = below(8);
+    uint8_t *channel = state + c * QAMHUDEER_CHANNEL_SIZE, *entry = any_entry(table);
+    int taken = key_at(channel) != 0;
+
+    if (odds < 3 && taken)
+        channel[QAMHUDEER_CHANNEL_PRECEDENCE] = (uint8_t)value;
+    else if (odds == 3 && taken)
+        channel[QAMHUDEER_CHANNEL_STOPPED] ^= 1;
+    else if (odds == 4 && taken)
+        channel[QAMHUDEER_CHANNEL_LOCKED] ^= 1;
+    else if (odds == 5)
+        put_key(state + QAMHUDEER_OFFSET_OF_OPENS, (uint16_t)(value < 80 ? 0 : value < 180 ? 65535 : 1));
+    else if (odds == 6 && value % 8 == 0)
+        state[QAMHUDEER_OFFSET_OF_CHANNELS] ^= 12;          /* 4 becomes 8, and 8 becomes 4 */
+    else if (odds == 6)
+        put_key(state + QAMHUDEER_OFFSET_OF_LAST, (uint16_t)(value < 128 ? 65535 - value % 4 : value % 8));
+    else if (entry[0] == ADCMD_ALLOCATE && value < 128)
+        entry[5] ^= 1;
+    else if (entry[0] == ADCMD_ALLOCATE && entry[6] > 0)
+        entry[7 + value % (entry[6] <= COMBINATIONS ? entry[6] : COMBINATIONS)] = (uint8_t)below(1u << board);
+}
+
+/* Two ids of a queue change places, a channel stands where another stood, or an entry in another's. */
+static void mix_up(uint8_t *state, uint8_t *table, unsigned board)
+{
+    unsigned odds = below(3), one = below(REQUESTS), two = below(REQUESTS);
+    uint8_t *to = state + one % MOST_CHANNELS * QAMHUDEER_CHANNEL_SIZE, *from = state + two % MOST_CHANNELS * QAMHUDEER_CHANNEL_SIZE;
+    uint8_t *queue = any_queue(state, board), kept;
+
+    if (odds == 0 && queue[0] >= 2 && queue[0] <= REQUESTS) {
+        one = 1 + one % queue[0];
+        two = 1 + two % queue[0];
+        kept = queue[one];
+        queue[one] = queue[two];
+        queue[two] = kept;
+    } else if (odds == 1) {
+        memmove(to, from, QAMHUDEER_CHANNEL_SIZE);
+    } else {
+        memmove(table + one * ENTRY, any_entry(table), ENTRY);
+    }
+}
+
+void damage_all(struct Bytes *state, struct Bytes *table)
+{
+    unsigned odds = below(3);
+
+    if (odds != 0)
+        fill(state, QAMHUDEER_STATE_SIZE);
+    if (odds != 1)
+        fill(table, QAMHUDEER_TABLE_SIZE);
+    if (odds != 0 && percent(50))
+        for (unsigned k = 0; k < MOST_CHANNELS; k++) {
+            state->byte[k * QAMHUDEER_CHANNEL_SIZE + QAMHUDEER_CHANNEL_LOCKED] &= 1;
+            state->byte[k * QAMHUDEER_CHANNEL_SIZE + QAMHUDEER_CHANNEL_STOPPED] &= 1;
+        }
+}
+
+void damage_state(uint8_t *state, uint8_t *table, unsigned board)
+{
+    unsigned odds = below(82), at = below(QAMHUDEER_STATE_SIZE + QAMHUDEER_TABLE_SIZE);
+
+    if (odds < 35)
+        unsettle(state, table, board);
+    else if (odds < 65)
+        damage_byte(telling_byte(state, table, board));
+    else if (odds < 75)
+        damage_byte(at < QAMHUDEER_STATE_SIZE ? state + at : table + at - QAMHUDEER_STATE_SIZE);
+    else
+        mix_up(state, table, board);
+}
+
+void damage_state_length(struct Bytes *state)
+{
+    stretch(state, any_length(QAMHUDEER_STATE_SIZE));
+}
+
+void damage_table_length(struct Bytes *table)
+{
+    stretch(table, percent(50) ? any_length(QAMHUDEER_TABLE_SIZE) : ENTRY * below(LONGEST / ENTRY));
+}
