@@ -4,9 +4,10 @@
 --   grown p bs, lineWith p bs     the started line with a fragment behind it: how many bytes stand, and the bytes
 --   lineFed p bs, portFed p bs    the line that ends in the fragment, if one does; the port after it
 --   lineLast p, portLast p        the last line, if one has started; the port after the end: nothing stands
---   Pours text k out out′          the first k bytes of a text stand in front of `out`
+--   Silent ..                     nothing is written, and nothing moves
+--   Pours text k out out′         the first k bytes of a text stand in front of `out`
 --   Says l n ..                   the first n bytes of l are answered, as a line
---   Answers o ..                  the line o is answered; where there is none, nothing is written and nothing moves
+--   Answers o ..                  the line o is answered; where there is none, it is silent
 --   Still ..                      what a refused call leaves: everything as it was, and both numbers 0
 --   Moves o q u ..                what a call leaves that is not refused: the line o answered, the port q, u bytes used
 --   Ported o q u ..               a call by a line, a port and a number of bytes; Feeds, Ends: the promises of `feed` and `feed_end`
