@@ -137,6 +137,11 @@ module _ (c : Call) (full : T (lends c)) (s : State) where
   Fits EVENT = (length (s .channels) ≤ 8) × T (not (badMap c s))
   Fits (COMMAND n) = Unit {0}
 
+  -- what is kept of it
+  event-kept : (noted EVENT c .map ≡ lowest 8 (c .map)) × (noted EVENT c .key ≡ c .key)
+  unfolding noted
+  event-kept = (refl, refl)
+
   event-refusal : Fits EVENT → refusal EVENT (noted EVENT c) s ≡ refusal EVENT c s
   unfolding refusal noted badMap
   event-refusal f =
