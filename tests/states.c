@@ -198,6 +198,16 @@ static void set_entries(uint8_t *opens, unsigned count)
     opens[0] = (uint8_t)count;
 }
 
+/* A fresh board on which the keys come round, so that the first of them can be had again. */
+static void come_round(uint8_t *state, uint8_t *table, unsigned board)
+{
+    struct Arbiter a;
+
+    arbiter_fresh(&a, board);
+    a.last_key = (uint16_t)(65535 - below(2));
+    put_all(state, table, &a);
+}
+
 /* Numbers that a good state may have at any time, in places no log puts them: sound, but not settled. */
 static void unsettle(uint8_t *state, uint8_t *table, unsigned board)
 {
@@ -215,6 +225,8 @@ static void unsettle(uint8_t *state, uint8_t *table, unsigned board)
         set_entries(state + QAMHUDEER_OFFSET_OF_OPENS, value < 80 ? 0 : value < 180 ? MOST_OPENS : 1 + value % 8);
     else if (odds == 6 && value % 8 == 0)
         state[QAMHUDEER_OFFSET_OF_CHANNELS] ^= 12;          /* 4 becomes 8, and 8 becomes 4 */
+    else if (odds == 6 && value % 8 == 1)
+        come_round(state, table, board);
     else if (odds == 6)
         put_key(state + QAMHUDEER_OFFSET_OF_LAST, (uint16_t)(value < 128 ? 65535 - value % 4 : value % 8));
     else if (entry[0] == ADCMD_ALLOCATE && value < 128)
