@@ -67,6 +67,6 @@ int main(void)
     /* What is not one's own is not freed: the map says what was. */
     call("free channels 0 and 1", ADCMD_FREE, 7, IOF_QUICK, 3, 0, mine, first, 0);
     call("close", QAMHUDEER_CLOSE, 0, 0, 0, 0, mine, first, 0);
-    printf("open count %u\n", key_in(state + QAMHUDEER_OFFSET_OF_OPENS));
+    printf("open keys: %u\n", state[QAMHUDEER_OFFSET_OF_OPENS]);
     return 0;
 }

@@ -22,7 +22,7 @@ extern "C" {
 
 /* ---- sizes in bytes */
 
-#define QAMHUDEER_STATE_SIZE 695 /* of either board */
+#define QAMHUDEER_STATE_SIZE 758 /* of either board */
 #define QAMHUDEER_TABLE_SIZE 1472
 #define QAMHUDEER_REPLIES_SIZE 384
 #define QAMHUDEER_ANSWER_SIZE 6
@@ -44,9 +44,12 @@ extern "C" {
 /* A queue is its count, then 64 request ids, front first, with zeros behind them. */
 #define QAMHUDEER_OFFSET_OF_LOCKS 560
 #define QAMHUDEER_OFFSET_OF_WAITING 625
+/* The open keys: how many there are, at most QAMHUDEER_OPENS, then so many keys of two bytes in order of opening, with zeros
+ * behind them. */
+#define QAMHUDEER_OPENS 32
 #define QAMHUDEER_OFFSET_OF_OPENS 690
-#define QAMHUDEER_OFFSET_OF_LAST 692
-#define QAMHUDEER_OFFSET_OF_CHANNELS 694
+#define QAMHUDEER_OFFSET_OF_LAST 755
+#define QAMHUDEER_OFFSET_OF_CHANNELS 757
 
 /* ---- a port: what stands of a line that has not ended. All 0 is a fresh one. */
 
@@ -127,7 +130,7 @@ extern "C" {
 
 /* Refusals of the arbiter's own; the state is as before. */
 #define QAMHUDEER_UNSOUND 1 /* the state and the table that were lent are not sound */
-#define QAMHUDEER_NOTOPEN 2 /* CLOSE or a command at open count 0 */
+#define QAMHUDEER_NOTOPEN 2 /* a command where no key is open; CLOSE where its key is not */
 #define QAMHUDEER_INUSE 3   /* the id is outstanding */
 #define QAMHUDEER_BADID 4   /* an id above 63 */
 #define QAMHUDEER_NOROOM 5  /* the reply list has room for fewer than 64 replies */

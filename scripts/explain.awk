@@ -26,7 +26,7 @@ BEGIN {
     error[5] = "refused with 5"
     error[7] = "refused with 7"
 
-    reason[-1] = "it is open 65,535 times"
+    reason[-1] = "32 keys are open"
     reason[-3] = "there is no such command"
     reason[-4] = "more than 16 combinations"
     highest = board == 8 ? 255 : 15
@@ -34,7 +34,8 @@ BEGIN {
     reason[-10] = "a channel is free or has another key"
     reason[-11] = "no combination can be had now"
     reason[1] = "the state is not sound"
-    reason[2] = "the device is not open"
+    reason[2] = "no key is open"
+    not_closed = "the key is not open"
     reason[3] = "the id is outstanding"
     reason[4] = "the id is above 63"
     reason[5] = "the reply list is too short"
@@ -195,7 +196,7 @@ function say_answer(text, op,    number, map, last) {
     if (byte(text, 0) == 161)
         add("outstanding")
     else if (number != 0)
-        add(error[number] (number in reason ? ": " reason[number] : ""))
+        add(error[number] (number in reason ? ": " (number == 2 && op == 241 ? not_closed : reason[number]) : ""))
     else if (op == 242)
         add(last == 1 ? "aborted" : "not aborted")
     else if (op == 243)

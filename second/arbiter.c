@@ -137,7 +137,17 @@ static void free_channels(struct Arbiter *a, unsigned map, struct Replies *r)
 
 /* ---- Allocation ---- */
 
-/* "A key is in use if a channel or a waiting allocation has it." */
+/* The place of the oldest entry with this key; the count where there is none. */
+static unsigned find_open(const struct Keys *open, unsigned key)
+{
+    unsigned at = 0;
+
+    while (at < open->count && open->key[at] != key)
+        at++;
+    return at;
+}
+
+/* Request #105: in use are the keys "on a channel, in a waiting request or in the table". */
 static int key_in_use(const struct Arbiter *a, unsigned key)
 {
     for (unsigned c = 0; c < a->channels; c++)
@@ -146,12 +156,12 @@ static int key_in_use(const struct Arbiter *a, unsigned key)
     for (unsigned at = 0; at < a->waiting.count; at++)
         if (a->request[a->waiting.id[at]].key == key)
             return 1;
-    return 0;
+    return find_open(&a->open, key) < a->open.count;
 }
 
 /* "Count up from the number after the last key issued, 65,535 being followed by 1, to
-   the first not in use." Four channels and 64 requests use at most 68 keys, so the
-   69th candidate is free at the latest; on eight channels the 73rd. */
+   the first not in use." Four channels, 64 requests and 32 entries use at most 100 keys, so
+   the 101st candidate is free at the latest; on eight channels the 105th. */
 uint16_t arbiter_new_key(const struct Arbiter *a)
 {
     unsigned key = a->last_key;
@@ -487,7 +497,7 @@ static struct Answer command(struct Arbiter *a, const struct Frame *f, struct Re
         return refuse(f, REFUSED_ID);
     if (a->request[f->id].command != 0)
         return refuse(f, REFUSED_OUTSTANDING);
-    if (a->open_count == 0)
+    if (a->open.count == 0)
         return refuse(f, REFUSED_CLOSED);
     error = command_error(a, f);
     if (error != DONE) {
@@ -514,23 +524,28 @@ static struct Answer open_device(struct Arbiter *a, const struct Frame *f,
 
     if (error != DONE)
         return refuse(f, error);
-    if (a->open_count == MOST_OPENS)
+    if (a->open.count == MOST_OPENS)
         return refuse(f, IOERR_OPENFAIL);
     if (arbiter_look(a, f->precedence, f->combination, f->length, &chosen) != LOOK_GRANTED)
         return refuse(f, ADIOERR_ALLOCFAILED);
     key = grant(a, f->key, f->precedence, chosen, r);
-    a->open_count++;
+    a->open.key[a->open.count++] = key;
     settle(a, r);
     return answer(DONE, chosen, key);
 }
 
-/* "CLOSE takes 1 from the count and frees every channel with its key." */
+/* Request #105: "CLOSE removes the oldest entry with its key and gets 2 if there is none".
+   As before it frees every channel with its key. */
 static struct Answer close_device(struct Arbiter *a, const struct Frame *f,
                                   struct Replies *r)
 {
-    if (a->open_count == 0)
+    unsigned at = find_open(&a->open, f->key);
+
+    if (at == a->open.count)
         return refuse(f, REFUSED_CLOSED);
-    a->open_count--;
+    a->open.count--;
+    memmove(&a->open.key[at], &a->open.key[at + 1], (a->open.count - at) * sizeof a->open.key[0]);
+    a->open.key[a->open.count] = 0;
     free_channels(a, matching(a, all_channels(a), f->key), r);
     settle(a, r);
     return answer(DONE, 0, f->key);
@@ -599,7 +614,7 @@ struct Answer arbiter_call(struct Arbiter *a, const struct Frame *f, struct Repl
 }
 
 /* "A fresh device has four free channels, nothing outstanding, open count 0, last
-   key 0." "The new board has eight channels." */
+   key 0." "The new board has eight channels." The open count is the number of entries. */
 void arbiter_fresh(struct Arbiter *a, unsigned channels)
 {
     memset(a, 0, sizeof *a);
@@ -685,11 +700,22 @@ static int sound_idle(const struct Request *q)
     return q->command == 0 && q->key == 0 && q->map == 0 && no_allocation_fields(q);
 }
 
+/* "Sound now includes at most 32 entries, none 0." */
+static int sound_open(const struct Keys *open)
+{
+    if (open->count > MOST_OPENS)
+        return 0;
+    for (unsigned at = 0; at < MOST_OPENS; at++)
+        if ((open->key[at] != 0) != (at < open->count))
+            return 0;
+    return 1;
+}
+
 int arbiter_sound(const struct Arbiter *a)
 {
     uint8_t met[REQUESTS] = {0};
 
-    if (a->channels != 4 && a->channels != 8)
+    if ((a->channels != 4 && a->channels != 8) || !sound_open(&a->open))
         return 0;
     for (unsigned c = 0; c < MOST_CHANNELS; c++)
         if (!sound_place(a, &a->channel[c].writes, CMD_WRITE, met)

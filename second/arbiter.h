@@ -10,7 +10,7 @@
 #define REQUESTS 64u
 #define COMBINATIONS 16u
 #define LAST_OF_KEYS 65535u
-#define MOST_OPENS 65535u
+#define MOST_OPENS 32u                      /* entries of the table of open keys */
 #define NO_ID 255u                          /* the last byte when it says nothing */
 
 /* exec/io.h and devices/audio.h */
@@ -40,6 +40,12 @@ struct Ids {
     uint8_t id[REQUESTS];
 };
 
+/* The table of open keys, in order of opening; the places from count on are 0. */
+struct Keys {
+    uint8_t count;
+    uint16_t key[MOST_OPENS];
+};
+
 struct Channel {
     uint16_t key;                           /* 0: the channel is free */
     int8_t precedence;
@@ -64,7 +70,8 @@ struct Arbiter {
     struct Request request[REQUESTS];
     struct Ids locks;                       /* oldest first */
     struct Ids waiting;                     /* highest precedence first, then arrival */
-    uint16_t open_count, last_key;
+    struct Keys open;                       /* one entry for each successful OPEN */
+    uint16_t last_key;
 };
 
 /* One call, with the bytes of a log frame. */

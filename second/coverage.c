@@ -14,7 +14,7 @@ static struct AnswerRow {
 } answer_rows[] = {
     {"A0   0 done", 0, DONE, 0, 0},
     {"A1   0 outstanding", 1, DONE, 0, 0},
-    {"A0  -1 OPENFAIL", 0, IOERR_OPENFAIL, 1, 0},
+    {"A0  -1 OPENFAIL", 0, IOERR_OPENFAIL, 0, 0},
     {"A0  -3 NOCMD", 0, IOERR_NOCMD, 0, 0},
     {"A0  -4 BADLENGTH", 0, IOERR_BADLENGTH, 0, 0},
     {"A0  -5 BADADDRESS", 0, IOERR_BADADDRESS, 0, 0},
@@ -87,6 +87,10 @@ static struct CallRow {
     {"OPEN 0 with combinations", 0, 0},
     {"OPEN 0 without", 0, 0},
     {"OPEN -11", 0, 0},
+    {"OPEN 0, the 32nd entry", 0, 0},
+    {"CLOSE 0", 0, 0},
+    {"CLOSE 0, another entry of its key remains", 0, 0},
+    {"CLOSE 2, the device open for others", 0, 0},
     {"event 0 with a write ended", 0, 0},
     {"event 0 with map 0", 0, 0},
     {"ABORT 0, aborted", 0, 0},
@@ -106,12 +110,15 @@ static struct CallRow {
     {"more than 60 outstanding", 0, 0},
     {"new key passes over keys in use", 0, 0},
     {"keys come round", 1, 0},
-    {"keys come round over keys in use", 1, 0}
+    {"keys come round over keys in use", 1, 0},
+    {"new key passes over one of an opener alone", 0, 0},
+    {"keys come round over such a key", 1, 0}
 };
 enum {
-    OPEN_LIST, OPEN_PLAIN, OPEN_FAILED, EVENT_ENDED, EVENT_NOTHING, ABORTED, NOT_ABORTED,
+    OPEN_LIST, OPEN_PLAIN, OPEN_FAILED, OPEN_LAST, CLOSED, CLOSED_ONE, CLOSE_FOREIGN, EVENT_ENDED, EVENT_NOTHING, ABORTED, NOT_ABORTED,
     READ_ID, READ_NONE, HELD, HELD_NOWAIT, PARTIAL, MANY_GRANTS, FEWER, FEWER_HELD, TIED,
-    SIXTEEN, SEVENTEEN, TEN_REPLIES, NEARLY_FULL, PASSES, ROUND, ROUND_PASSES
+    SIXTEEN, SEVENTEEN, TEN_REPLIES, NEARLY_FULL, PASSES, ROUND, ROUND_PASSES,
+    PASSES_OPENER, ROUND_PASSES_OPENER
 };
 
 #define COUNT_OF(array) (sizeof (array) / sizeof *(array))
@@ -220,6 +227,39 @@ static int how_won(const struct Arbiter *a, const uint8_t *list, unsigned length
     return won;
 }
 
+static int has_entry(const struct Arbiter *a, unsigned key)
+{
+    for (unsigned at = 0; at < a->open.count; at++)
+        if (a->open.key[at] == key)
+            return 1;
+    return 0;
+}
+
+/* The table of open keys has it, and no channel and no waiting request. */
+static int of_opener_alone(const struct Arbiter *a, unsigned key)
+{
+    for (unsigned c = 0; c < a->channels; c++)
+        if (a->channel[c].key == key)
+            return 0;
+    for (unsigned at = 0; at < a->waiting.count; at++)
+        if (a->request[a->waiting.id[at]].key == key)
+            return 0;
+    return has_entry(a, key);
+}
+
+static void count_new_key(const struct Arbiter *before, unsigned key)
+{
+    int round = key < before->last_key, openers = 0;
+
+    for (unsigned k = 1 + before->last_key % LAST_OF_KEYS; k != key; k = 1 + k % LAST_OF_KEYS)
+        openers += of_opener_alone(before, k);
+    call_rows[PASSES].count += !round && key > before->last_key + 1u;
+    call_rows[ROUND].count += round;
+    call_rows[ROUND_PASSES].count += round && (before->last_key < LAST_OF_KEYS || key > 1);
+    call_rows[PASSES_OPENER].count += openers > 0;
+    call_rows[ROUND_PASSES_OPENER].count += round && openers > 0;
+}
+
 static void count_call(const struct Arbiter *before, const struct Arbiter *after,
                        const struct Frame *f, const struct Answer *answer,
                        const struct Replies *replies)
@@ -233,6 +273,12 @@ static void count_call(const struct Arbiter *before, const struct Arbiter *after
         call_rows[OPEN_LIST].count += done && f->length > 0;
         call_rows[OPEN_PLAIN].count += done && f->length == 0;
         call_rows[OPEN_FAILED].count += answer->error == ADIOERR_ALLOCFAILED;
+        call_rows[OPEN_LAST].count += done && after->open.count == MOST_OPENS;
+        break;
+    case CALL_CLOSE:
+        call_rows[CLOSED].count += done;
+        call_rows[CLOSED_ONE].count += done && has_entry(after, f->key);
+        call_rows[CLOSE_FOREIGN].count += answer->error == REFUSED_CLOSED && before->open.count > 0;
         break;
     case CALL_EVENT:
         call_rows[EVENT_ENDED].count += done && answer->map != 0;
@@ -291,14 +337,8 @@ static void count_call(const struct Arbiter *before, const struct Arbiter *after
     call_rows[TEN_REPLIES].count += replies->count >= 10;
     call_rows[NEARLY_FULL].count += outstanding > 60;
     if (done && !answer->outstanding && f->key == 0
-        && (f->operation == CALL_OPEN || f->operation == ADCMD_ALLOCATE)) {
-        int round = answer->key < before->last_key;
-
-        call_rows[PASSES].count += !round && answer->key > before->last_key + 1;
-        call_rows[ROUND].count += round;
-        call_rows[ROUND_PASSES].count += round
-            && (before->last_key < LAST_OF_KEYS || answer->key > 1);
-    }
+        && (f->operation == CALL_OPEN || f->operation == ADCMD_ALLOCATE))
+        count_new_key(before, answer->key);
 }
 
 /* One row, per thousand lines; 1 if it is due and was never reached. */

@@ -37,8 +37,8 @@ enum {
     MIX, LOCKS, NOWAIT, QUEUES, FULL, ABORTS, PRECEDENCES, REFUSALS, MALFORMED, LISTS,
     BYTES, TIES, OPENS, KEYS, MANY_LOCKS, MANY_STEALS, MANY_ENTRIES, MANY_WAITING, STYLES
 };
-#define SHORT_STYLES OPENS      /* 1 to 11 take part in the mix */
-#define LONG_STRETCH 67500ul    /* lines in which the count or the keys reach their end */
+#define SHORT_STYLES KEYS       /* 1 to 12 take part in the mix */
+#define LONG_STRETCH 67500ul    /* lines in which the keys reach their end */
 #define LONG_LOG 70000ul        /* a mix this long begins with such a stretch */
 
 static const struct Style styles[STYLES] = {
@@ -55,8 +55,8 @@ static const struct Style styles[STYLES] = {
     {"lists",       {14,8, 3, 2, 1, 1, 6, 0, 0, 1, 1, 1,12, 6, 8,46, 0}, 40,12, 60,  1, 40},
     {"bytes",       {1, 1, 1, 1, 1, 1, 1, 1, 1, 1, 1, 1, 1, 1, 1, 1, 1}, 50,30, 20,  5, 50},
     {"ties",        {2, 1, 3, 1, 1, 1, 4, 0, 0, 1, 1, 1, 4,30, 1,50, 0}, 70, 2,  8,  1, 30},
-    {"opens",       {8,10, 4, 4, 2, 2, 8, 1, 1, 2, 2, 2, 8, 8, 6,20, 1}, 40, 3, 10,  1, 40},
-    {"keys",        {9, 6, 2, 2, 1, 1, 4, 1, 1, 1, 1, 1, 4, 6, 4,40, 1}, 20, 2, 10,  1, 40},
+    {"opens",       {40,22, 2, 2, 1, 1, 4, 1, 1, 1, 1, 1, 4, 3, 3,12, 1}, 40, 3, 5,  1, 40},
+    {"keys",        {6, 1, 2, 2, 1, 1, 4, 1, 1, 1, 1, 1, 4, 6, 4,40, 1}, 20, 2, 10,  1, 40},
     /* One kind of work each, for measuring: good frames, and hardly a refusal. */
     {"many-locks",  {1, 0, 2, 1, 1, 2, 4, 2, 2, 2, 2, 1, 4, 8,60, 3, 0}, 90, 0,  5,  0, 50},
     {"many-steals", {1, 0, 1, 1, 0, 1,30, 0, 0, 1, 1, 0, 1,36, 0,36, 0},100, 0,  5,  0, 50},
@@ -132,14 +132,22 @@ static unsigned next_key(void)
     return key > LAST_OF_KEYS ? key - LAST_OF_KEYS : key;
 }
 
+/* A key of the table of open keys, or 0 where it is empty. */
+static unsigned pick_open(void)
+{
+    return state.open.count == 0 ? 0 : state.open.key[below(state.open.count)];
+}
+
 static unsigned pick_key(void)
 {
     unsigned odds = below(100);
 
-    if (odds < 78)
+    if (odds < 74)
         return state.channel[pick_channel()].key;
-    if (odds < 84)
+    if (odds < 80)
         return state.request[pick_id(1)].key;
+    if (odds < 84)
+        return pick_open();
     if (odds < 88)
         return 0;
     if (odds < 91)
@@ -296,11 +304,16 @@ static void make_frame(struct Frame *f, enum Kind kind, const struct Style *s)
     case OPEN:
         if (percent(50))
             f->key = 0;
-        if (percent(60))
+        else if (percent(s == &styles[OPENS] || s == &styles[KEYS] ? 60 : 5))
+            f->key = (uint16_t)next_key();
+        if (percent(s == &styles[OPENS] ? 20 : 60))
             pick_list(f, s);
         break;
     case CLOSE:
-        if (percent(30))
+        /* The desks that opened first are to be there when the keys come round. */
+        if (percent(s == &styles[KEYS] ? 10 : 75))
+            f->key = (uint16_t)pick_open();
+        else if (percent(30))
             f->key = 0;
         break;
     case ABORT:
@@ -325,7 +338,7 @@ static void make_frame(struct Frame *f, enum Kind kind, const struct Style *s)
     case ALLOCATE:
         if (percent(50))
             f->key = 0;
-        else if (percent(s == &styles[OPENS] || s == &styles[KEYS] ? 80 : 10))
+        else if (percent(s == &styles[KEYS] ? 80 : 10))
             f->key = (uint16_t)next_key();
         pick_list(f, s);
         if (s == &styles[MANY_STEALS])
@@ -360,7 +373,7 @@ static void any_frame(struct Frame *f)
     f->length = (uint8_t)(percent(85) ? below(18) : below(256));
     for (unsigned i = 0; i < f->length; i++)
         f->combination[i] = (uint8_t)(percent(98) ? below(16) : below(256));
-    if (state.open_count == 0 && percent(50)) {
+    if (state.open.count == 0 && percent(50)) {
         f->operation = CALL_OPEN;
         f->length = 0;
     }
@@ -372,7 +385,7 @@ static enum Kind pick_kind(unsigned style)
     unsigned sum = 0, at, kind = 0;
 
     /* Closed, most calls would be refused with 2. */
-    if (state.open_count == 0 && percent(style == REFUSALS ? 30 : 80))
+    if (state.open.count == 0 && percent(style == REFUSALS ? 30 : 80))
         return OPEN;
     if (count_outstanding() > s->drain && percent(50)) {
         static const enum Kind drains[6] = {ABORT, EVENT, FLUSH, FREE, CLOSE, RESET};
@@ -384,23 +397,23 @@ static enum Kind pick_kind(unsigned style)
     at = below(sum);
     while (at >= s->weight[kind])
         at -= s->weight[kind++];
-    if (kind == CLOSE && state.open_count == 1 && style != REFUSALS && percent(60))
+    if (kind == CLOSE && state.open.count == 1 && style != REFUSALS && percent(60))
         return OPEN;
     return (enum Kind)kind;
 }
 
-/* The long styles count up with one cheap call a line; 1 if this line is such a one. */
+/* The long style counts up with one cheap call a line; 1 if this line is such a one. First
+   some desks open, so that the round meets their keys. */
 static int climb(struct Frame *f, unsigned style)
 {
     int near = state.last_key < NEAR_THE_END
             || state.last_key > LAST_OF_KEYS - NEAR_THE_END;
 
-    if (style < OPENS || style > KEYS || (style == OPENS && state.open_count == MOST_OPENS)
-        || !percent(near ? 30 : 99))
+    if (style != KEYS || !percent(near ? 30 : 99))
         return 0;
     memset(f, 0, sizeof *f);
     f->operation = CALL_OPEN;
-    if (style == KEYS && state.open_count > 0) {
+    if (state.open.count > (state.last_key < NEAR_THE_END ? 8 : 0)) {
         f->operation = ADCMD_ALLOCATE;
         f->flags = IOF_QUICK;
         f->id = (uint8_t)pick_id(0);
@@ -576,7 +589,7 @@ int main(int count, char **argument)
     arbiter_fresh(&state, channels);
     style = chosen;
     if (chosen == MIX && lines >= LONG_LOG) {
-        style = percent(50) ? OPENS : KEYS;
+        style = KEYS;
         left = LONG_STRETCH;
     }
     for (unsigned long line = 1; line <= lines; line++) {

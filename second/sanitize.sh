@@ -12,7 +12,7 @@ checks="$checks -fsanitize=address,undefined -fno-sanitize-recover=all"
 parts="arbiter.c log.c chance.c"
 $CC $checks -o "$work/arbiter2" arbiter2.c $parts &&
     $CC $checks -o "$work/generate" generate.c $parts &&
-    $CC $checks -o "$work/test" test.c $parts || exit 1
+    $CC $checks -o "$work/test" test.c stereo.c $parts || exit 1
 played=0
 
 # play NAME: $work/log through both programs.
@@ -38,7 +38,7 @@ while [ $seed -lt "$SEEDS" ]; do
         done
     done
 done
-for style in mix opens keys; do
+for style in mix keys; do
     "$work/generate" 1 72000 $style >"$work/log" || exit 1
     play "style $style, long"
 done

@@ -55,11 +55,18 @@ static int same_reply(size_t at, unsigned id, unsigned command, int error, unsig
         && got->error == error && got->map == map && got->key == key;
 }
 
-/* "Channel 0 key 5 precedence 10; 1 free; 2 and 3 key 6 precedence 3, 3 locked." */
+/* An entry of the table of open keys, as an OPEN with this key leaves it. */
+static void enter(struct Arbiter *a, unsigned key)
+{
+    a->open.key[a->open.count++] = (uint16_t)key;
+}
+
+/* "Channel 0 key 5 precedence 10; 1 free; 2 and 3 key 6 precedence 3, 3 locked." The entry
+   is of a key that is on a channel, so that it moves no example. */
 static void marked_state(struct Arbiter *a)
 {
     arbiter_fresh(a, 4);
-    a->open_count = 1;
+    enter(a, 5);
     a->channel[0].key = 5;
     a->channel[0].precedence = 10;
     a->channel[2].key = a->channel[3].key = 6;
@@ -116,7 +123,7 @@ static void test_marked(void)
                       0, IOERR_BADLENGTH, 0, 7, 255), "M11");
 
     marked_state(&a);
-    a.channel[0].key = 1;
+    a.open.key[0] = a.channel[0].key = 1;
     a.channel[2].key = a.channel[3].key = 2;
     a.last_key = 65535;
     check(arbiter_new_key(&a) == 3, "M12");
@@ -168,7 +175,7 @@ static void test_fewer_stolen(void)
         }
     /* Settling chooses by the same rule: at first all is above it, then SETPREC lowers. */
     arbiter_fresh(&a, 4);
-    a.open_count = 1;
+    enter(&a, 5);
     call(&a, ADCMD_ALLOCATE, 0, IOF_QUICK, 0, 20, 5, "\17");
     check(same_answer(call(&a, ADCMD_ALLOCATE, 1, 0, 0, 4, 7, "\7\3\14"), 1, 0, 0, 7, 255),
           "the request waits");
@@ -177,25 +184,62 @@ static void test_fewer_stolen(void)
           "settling: the first of those that steal two, and not the one before that steals three");
 }
 
-/* Keys used by waiting requests are skipped: at most 69 candidates. */
+/* Keys of channels, waiting requests and openers are skipped: at most 101 candidates. */
 static void test_most_candidates(void)
 {
     struct Arbiter a;
 
     arbiter_fresh(&a, 4);
-    a.open_count = 1;
     a.last_key = 65500;
+    for (unsigned i = 0; i < MOST_OPENS; i++)
+        check(same_answer(call(&a, CALL_OPEN, 0, 0, 0, 0, 0, ""), 0, 0, 0, 65501 + i, 255), "a new key");
     for (unsigned c = 0; c < 4; c++)
-        call(&a, ADCMD_ALLOCATE, 0, IOF_QUICK, 0, 1, 65501 + c, "\1\2\4\10");
-    for (unsigned id = 0; id < REQUESTS; id++) {
-        unsigned key = 65505 + id;
-
-        call(&a, ADCMD_ALLOCATE, id, 0, 0, 0, key > 65535 ? key - 65535 : key, "\17");
-    }
+        call(&a, ADCMD_ALLOCATE, 0, IOF_QUICK, 0, 1, 65533 + c > 65535 ? 65533 + c - 65535 : 65533 + c, "\1\2\4\10");
+    for (unsigned id = 0; id < REQUESTS; id++)
+        call(&a, ADCMD_ALLOCATE, id, 0, 0, 0, 2 + id, "\17");
     check(a.waiting.count == REQUESTS && arbiter_sound(&a), "64 wait");
-    check(arbiter_new_key(&a) == 34, "the 69th candidate");
+    a.last_key = 65500;
+    check(arbiter_new_key(&a) == 66, "the 101st candidate");
     call(&a, CALL_ABORT, 40, 0, 0, 0, 0, "");
-    check(arbiter_new_key(&a) == 10, "a key no longer waiting");
+    check(arbiter_new_key(&a) == 42, "a key no longer waiting");
+    call(&a, CALL_CLOSE, 0, 0, 0, 0, 65510, "");
+    check(arbiter_new_key(&a) == 65510, "a key no longer open");
+}
+
+/* Request #105: one entry for each successful OPEN, at most 32; CLOSE removes the oldest. */
+static void test_open_keys(void)
+{
+    struct Arbiter a, b;
+
+    arbiter_fresh(&a, 4);
+    check(same_answer(call(&a, CALL_CLOSE, 0, 0, 0, 0, 0, ""), 0, REFUSED_CLOSED, 0, 0, 255), "CLOSE at no entry");
+    call(&a, CALL_OPEN, 0, 0, 0, 5, 7, "\3");
+    call(&a, CALL_OPEN, 0, 0, 0, 0, 9, "");
+    call(&a, CALL_OPEN, 0, 0, 0, 0, 7, "");
+    check(a.open.count == 3 && a.open.key[0] == 7 && a.open.key[1] == 9 && a.open.key[2] == 7, "entries in order of opening");
+    b = a;
+    check(same_answer(call(&b, CALL_CLOSE, 0, 0, 0, 0, 0, ""), 0, REFUSED_CLOSED, 0, 0, 255)
+          && memcmp(&a, &b, sizeof a) == 0, "CLOSE with key 0 always gets 2");
+    check(same_answer(call(&b, CALL_CLOSE, 0, 0, 0, 0, 8, ""), 0, REFUSED_CLOSED, 0, 8, 255)
+          && memcmp(&a, &b, sizeof a) == 0, "CLOSE of a key that nobody opened");
+    check(same_answer(call(&b, CALL_CLOSE, 0, 0, 0, 0, 7, ""), 0, 0, 0, 7, 255) && b.open.count == 2
+          && b.open.key[0] == 9 && b.open.key[1] == 7 && b.open.key[2] == 0, "the oldest entry goes");
+    check(b.channel[0].key == 0 && b.channel[1].key == 0, "its channels are freed, though an entry remains");
+    call(&b, CALL_CLOSE, 0, 0, 0, 0, 9, "");
+    call(&b, CALL_CLOSE, 0, 0, 0, 0, 7, "");
+    check(same_answer(call(&b, CMD_CLEAR, 0, IOF_QUICK, 0, 0, 7, ""), 0, REFUSED_CLOSED, 0, 7, 255), "no entry: closed");
+    b = a;
+    call(&b, CALL_OPEN, 0, 0, 0, 0, 6, "\1");
+    check(b.open.count == 3, "an OPEN answered -11 leaves none");
+    b = a;
+    while (b.open.count < MOST_OPENS)
+        call(&b, CALL_OPEN, 0, 0, 0, 0, 0, "");
+    check(b.open.key[31] == 29 + 2 && arbiter_sound(&b), "the 32nd OPEN, past the keys 7 and 9");
+    check(same_answer(call(&b, CALL_OPEN, 0, 0, 0, 0, 0, ""), 0, IOERR_OPENFAIL, 0, 0, 255), "the 33rd gets -1");
+    check(same_answer(call(&b, CALL_OPEN, 0, 0, 0, 0, 6, "\1"), 0, IOERR_OPENFAIL, 0, 6, 255), "-1 where it would fail");
+    check(same_answer(call(&b, CALL_OPEN, 0, 0, 0, 0, 6, "\20"), 0, IOERR_BADADDRESS, 0, 6, 255), "-5 before -1");
+    call(&b, CALL_CLOSE, 0, 0, 0, 0, 9, "");
+    check(same_answer(call(&b, CALL_OPEN, 0, 0, 0, 0, 9, ""), 0, 0, 0, 9, 255) && b.open.key[31] == 9, "a place is free again");
 }
 
 /* A call may make 64 replies, and no more. */
@@ -204,7 +248,7 @@ static void test_most_replies(void)
     struct Arbiter a;
 
     arbiter_fresh(&a, 4);
-    a.open_count = 1;
+    enter(&a, 5);
     call(&a, ADCMD_ALLOCATE, 0, IOF_QUICK, 0, 1, 8, "\3");
     for (unsigned id = 0; id < REQUESTS; id++)
         call(&a, CMD_WRITE, id, 0, id % 2 + 1, 0, 8, "");
@@ -295,7 +339,8 @@ static void test_unsettled(void)
     call(&b, CMD_CLEAR, 20, 0, 0, 0, 4, "");
     check(replies.count == 0 && memcmp(&a, &b, sizeof a) == 0, "refusals do not settle");
     b = a;
-    b.open_count = 65535;
+    while (b.open.count < MOST_OPENS)
+        enter(&b, 4);
     call(&b, CALL_OPEN, 0, 0, 0, 0, 4, "");
     check(replies.count == 0 && b.waiting.count == 3, "-1 does not settle");
 
@@ -389,7 +434,14 @@ static void test_sound(void)
     SOUND(a.channel[0].locked = 1);
     SOUND(a.channel[0].stopped = 1);
     SOUND(a.request[1].map = 0xC);
-    SOUND(a.open_count = 0);
+    SOUND(a.open.count = 0; a.open.key[0] = 0);
+    SOUND(a.open.key[0] = 9);
+    SOUND(while (a.open.count < MOST_OPENS) enter(&a, 9));
+    UNSOUND(a.open.key[0] = 0);
+    UNSOUND(a.open.count = 0);
+    UNSOUND(a.open.count = 2);
+    UNSOUND(a.open.key[31] = 9);
+    UNSOUND(while (a.open.count < MOST_OPENS) enter(&a, 9); a.open.count = 33);
     SOUND(a.last_key = 65535);
     SOUND(a.request[4].nowait = 1; a.request[4].combination[0] = 0);
     SOUND(a.waiting.id[0] = 5; a.waiting.id[1] = 4);
@@ -451,13 +503,13 @@ static void test_stereo(void)
     check(!accepts(3, 0, "", 0), "no list at all is accepted for 3");
 }
 
-/* #111: maps 0 to 255, no -5, the lowest of eight bits, 73 candidates, and which boards there are. */
+/* #111: maps 0 to 255, no -5, the lowest of eight bits, 105 candidates, and which boards there are. */
 static void test_eight(void)
 {
     struct Arbiter a, b;
 
     arbiter_fresh(&a, 8);
-    a.open_count = 1;
+    enter(&a, 5);
     check(same_answer(call(&a, ADCMD_ALLOCATE, 0, IOF_QUICK, 0, 1, 5, "\360"), 0, 0, 0xF0, 5, 255), "map F0 on eight");
     check(same_answer(call(&a, CMD_WRITE, 1, 0, 0xC0, 0, 5, ""), 1, 0, 0, 5, 255) && a.channel[6].writes.count == 1,
           "the lowest of eight bits");
@@ -472,15 +524,18 @@ static void test_eight(void)
     check(same_answer(call(&a, CALL_CLOSE, 0, 0, 0, 0, 5, ""), 0, 0, 0, 5, 255) && a.channel[7].key == 0,
           "CLOSE frees the eighth channel");
     arbiter_fresh(&a, 8);
-    a.open_count = 1;
+    enter(&a, 5);
+    a.open.count = 0;
+    for (unsigned i = 0; i < MOST_OPENS; i++)
+        enter(&a, 73 + i);
     for (unsigned c = 0; c < 8; c++)
         call(&a, ADCMD_ALLOCATE, 0, IOF_QUICK, 0, 1, 1 + c, "\1\2\4\10\20\40\100\200");
     for (unsigned id = 0; id < REQUESTS; id++)
         call(&a, ADCMD_ALLOCATE, id, 0, 0, 0, 9 + id, "\377");
     check(a.waiting.count == REQUESTS && arbiter_sound(&a), "64 wait on eight channels");
-    check(arbiter_new_key(&a) == 73, "the 73rd candidate");
+    check(arbiter_new_key(&a) == 105, "the 105th candidate");
     arbiter_fresh(&a, 4);
-    a.open_count = 1;
+    enter(&a, 5);
     check(same_answer(call(&a, ADCMD_ALLOCATE, 0, IOF_QUICK, 0, 1, 5, "\20"), 0, -5, 0, 5, 255), "map 10 on four");
 }
 
@@ -490,6 +545,7 @@ int main(void)
     test_fewer_stolen();
     test_eight();
     test_most_candidates();
+    test_open_keys();
     test_most_replies();
     test_refusals();
     test_unsettled();

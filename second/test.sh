@@ -89,19 +89,20 @@ check "two empty lines"
 printf '%s\nA000000001FF\n' $bad >"$work/expected"
 check "a line of megabytes"
 
-# 65,535 opens, each with a new key; then -1. After a CLOSE the keys come round. Channel 0
-# has key 1, taken by its number, so 2 is the next one.
+# 32 opens, each with a new key; then -1. ALLOCATE takes all other keys; then they come round, over the keys of the openers,
+# of which the eleventh is closed.
 awk 'BEGIN {
-    for (i = 1; i <= 65535; i++) print "F000000000000000"
-    print "F000000000000000"; print "200001000000010101"
-    print "F100000000000000"; print "F000000000000000"; print "F000000000000900"
+    for (i = 1; i <= 33; i++) print "F000000000000000"
+    for (i = 33; i <= 65535; i++) print "2000010000000000"
+    print "F100000000000B00"; print "2000010000000000"; print "2000010000000000"; print "F100000000000B00"
 }' >"$work/log"
 awk 'BEGIN {
-    for (i = 1; i <= 65535; i++) printf "A00000%04XFF\n", i
-    print "A0FF000000FF"; print "A000010001FF"
-    print "A000000000FF"; print "A000000002FF"; print "A0FF000009FF"
+    for (i = 1; i <= 32; i++) printf "A00000%04XFF\n", i
+    print "A0FF000000FF"
+    for (i = 33; i <= 65535; i++) printf "A00000%04XFF\n", i
+    print "A00000000BFF"; print "A00000000BFF"; print "A000000021FF"; print "A00200000BFF"
 }' >"$work/expected"
-check "the open count's end and the keys' round"
+check "32 open keys and the keys' round"
 
 # The generator: same seed, same log; another seed, another log.
 ./generate 7 500 >"$work/one"

@@ -136,9 +136,8 @@ static void make_state(struct Arbiter *a)
     keys[0] = (uint16_t)(1 + a->last_key % 65535u);         /* the next to be issued */
     keys[1] = (uint16_t)(2 + below(3));
     keys[2] = (uint16_t)(percent(50) ? 65535 : 1 + below(65535));
-    a->open_count = (uint16_t)(percent(3) ? 0 : 1 + below(3));
-    if (percent(4))
-        a->open_count = MOST_OPENS;
+    for (unsigned left = percent(3) ? 0 : percent(4) ? MOST_OPENS : 1 + below(3); left > 0; left--)
+        a->open.key[a->open.count++] = percent(70) ? keys[below(3)] : (uint16_t)(1 + below(65535));
     for (unsigned c = 0; c < CHANNELS; c++)
         make_channel(a, &a->channel[c]);
     for (unsigned i = 0; i < locks; i++)
@@ -177,7 +176,7 @@ static int at_rest(const struct Arbiter *a)
     return 1;
 }
 
-#define SPOILS 8u
+#define SPOILS 9u
 
 /* One thing that a sound state may not have, where both programs can say it. */
 static void spoil(struct Arbiter *a, unsigned kind)
@@ -217,6 +216,10 @@ static void spoil(struct Arbiter *a, unsigned kind)
     case 6:                                 /* an id above 63 */
         if (channel->writes.count > 0)
             channel->writes.id[channel->writes.count - 1] = 64;
+        break;
+    case 7:                                 /* an entry of the open keys that is 0 */
+        if (a->open.count > 0)
+            a->open.key[a->open.count - 1] = 0;
         break;
     default:                                /* a waiting request without a combination */
         if (a->waiting.count > 0) {
@@ -336,6 +339,32 @@ static int two_new_keys(void)               /* the call's and at least one of th
         && after.last_key != answer.key && after.last_key != before.last_key;
 }
 static int closed(void) { return answer.error == REFUSED_CLOSED && unchanged(); }
+static unsigned entries(const struct Arbiter *a, unsigned key)
+{
+    unsigned count = 0;
+
+    for (unsigned at = 0; at < a->open.count; at++)
+        count += a->open.key[at] == key;
+    return count;
+}
+static int foreign_close(void) { return closed() && before.open.count > 0; }
+static int oldest_close(void)               /* and another entry stands between the two */
+{
+    return answer.error == DONE && entries(&before, call.key) == 2
+        && before.open.key[0] == call.key && before.open.key[1] != call.key;
+}
+static int passes_opener(void)              /* the next key to be issued has an entry, and nothing else has it */
+{
+    if (answer.error != DONE || answer.outstanding || call.key != 0 || entries(&before, keys[0]) == 0)
+        return 0;
+    for (unsigned c = 0; c < CHANNELS; c++)
+        if (before.channel[c].key == keys[0])
+            return 0;
+    for (unsigned at = 0; at < before.waiting.count; at++)
+        if (before.request[before.waiting.id[at]].key == keys[0])
+            return 0;
+    return 1;
+}
 static int id_outstanding(void) { return answer.error == REFUSED_OUTSTANDING && unchanged(); }
 static int id_high(void) { return answer.error == REFUSED_ID && unchanged(); }
 static int no_command(void) { return answer.error == IOERR_NOCMD; }
@@ -391,6 +420,11 @@ static const struct Wish wishes[] = {
     {"new-keys", 4, {CALL_OPEN, ADCMD_ALLOCATE}, two_new_keys,
      "a new key for the call and one for the walk"},
     {"closed-device", 2, {CMD_WRITE, CALL_CLOSE}, closed, "refused with 2: nothing is settled"},
+    {"foreign-closes", 2, {CALL_CLOSE}, foreign_close,
+     "CLOSE without an entry of its key: 2, and nothing is settled"},
+    {"oldest-closes", 3, {CALL_CLOSE}, oldest_close, "CLOSE removes the oldest of two entries"},
+    {"passed-openers", 4, {CALL_OPEN, ADCMD_ALLOCATE}, passes_opener,
+     "a new key passes over one that only an opener has"},
     {"outstanding-ids", 2, {CMD_WRITE, ADCMD_ALLOCATE}, id_outstanding,
      "refused with 3: nothing is settled"},
     {"high-ids", 2, {CALL_ABORT, ADCMD_LOCK}, id_high, "refused with 4: nothing is settled"},
@@ -399,7 +433,7 @@ static const struct Wish wishes[] = {
      "refused with -4: nothing is settled"},
     {"bad-addresses", 4, {ADCMD_ALLOCATE, CALL_OPEN, CMD_STOP, CALL_EVENT}, bad_address,
      "refused with -5: nothing is settled"},
-    {"no-more-opens", 2, {CALL_OPEN}, open_end, "OPEN at open count 65,535: -1"},
+    {"no-more-opens", 2, {CALL_OPEN}, open_end, "OPEN at 32 entries: -1"},
     {"short-lists", 2, {CMD_READ, CALL_OPEN}, short_list, "a reply list of 63 records: 5"},
     {"unsound-states", SPOILS,
      {CMD_READ, CALL_OPEN, CALL_ABORT, ADCMD_ALLOCATE, CALL_CLOSE, CALL_EVENT}, unsound,
@@ -449,6 +483,14 @@ static void put_numbers(const uint8_t *number, unsigned count)
     printf("[])");
 }
 
+static void put_keys(const struct Keys *open)
+{
+    putchar('(');
+    for (unsigned at = 0; at < open->count; at++)
+        printf("%u ∷ ", open->key[at]);
+    printf("[])");
+}
+
 static const char *truth(int holds)
 {
     return holds ? "true" : "false";
@@ -493,7 +535,9 @@ static void put_state(const struct Arbiter *a)
         put_numbers(q->combination, q->length);
         printf(" ∷ ");
     }
-    printf("[]) %u %u)", a->open_count, a->last_key);
+    printf("[]) ");
+    put_keys(&a->open);
+    printf(" %u)", a->last_key);
 }
 
 static void put_call(void)

@@ -50,6 +50,7 @@ log of-malformed-lines 10 malformed
 log of-lists 11 lists
 log of-bytes 12 bytes
 log of-ties 14 ties
+log of-opens 15 opens
 
 printf '\n%s\n' '-- ---- Calls on a board of four channels'
 ./vectors calls 1 || exit 1

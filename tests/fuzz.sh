@@ -24,7 +24,7 @@ trap 'rm -rf "$work"' EXIT
 trap 'exit 2' HUP INT TERM
 cd "$root" || exit 2
 
-styles='mix locks nowait queues full aborts precedences refusals malformed lists bytes ties'
+styles='mix locks nowait queues full aborts precedences refusals malformed lists bytes ties opens'
 styles="$styles many-locks many-steals many-entries many-waiting"
 lines=150
 tries=8
@@ -205,6 +205,10 @@ play_wrong() {
     wrong "a stolen lock unlocks" $arbiter 'if ((map & chosen) != 0)' 'if ((map & chosen) != 0 && (a->channel[lowest_channel(map)].locked = 0, 1))'
     wrong "65,535 is followed by 2" $arbiter 'LAST_OF_KEYS ? 1' 'LAST_OF_KEYS ? 2'
     wrong "63 records are enough" $arbiter 'r->capacity < REQUESTS' 'r->capacity < REQUESTS - 1'
+    wrong "a key of an opener is issued again" $arbiter 'return find_open(&a->open, key) < a->open.count;' 'return 0;'
+    wrong "CLOSE removes the newest entry" $arbiter 'unsigned at = find_open(&a->open, f->key);' 'unsigned at = a->open.count; for (unsigned i = 0; i < a->open.count; i++) if (a->open.key[i] == f->key) at = i;'
+    wrong "31 entries are the most" $arbiter 'if (a->open.count == MOST_OPENS)' 'if (a->open.count == MOST_OPENS - 1)'
+    wrong "an entry of 0 is sound" $arbiter 'if ((open->key[at] != 0) != (at < open->count))' 'if (open->key[at] != 0 && at >= open->count)'
     wrong "sixteen combinations are too many" $arbiter 'f->length > COMBINATIONS' 'f->length >= COMBINATIONS'
     wrong "a map of 16 is beyond eight channels" $arbiter 'return (1u << a->channels) - 1u;' 'return 15u;'
     wrong "five channels are a board" $arbiter 'a->channels != 4 && a->channels != 8' 'a->channels < 4 || a->channels > 8'

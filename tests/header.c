@@ -40,7 +40,10 @@ static void places(void)
     same("oldest lock", 9, state[QAMHUDEER_OFFSET_OF_LOCKS + 1]);
     same("waiting", 1, state[QAMHUDEER_OFFSET_OF_WAITING]);
     same("first waiting", 11, state[QAMHUDEER_OFFSET_OF_WAITING + 1]);
-    same("open count", 2, 256u * state[QAMHUDEER_OFFSET_OF_OPENS] + state[QAMHUDEER_OFFSET_OF_OPENS + 1]);
+    same("open keys", 2, state[QAMHUDEER_OFFSET_OF_OPENS]);
+    same("the oldest", 258, 256u * state[QAMHUDEER_OFFSET_OF_OPENS + 1] + state[QAMHUDEER_OFFSET_OF_OPENS + 2]);
+    same("the newest", 1, 256u * state[QAMHUDEER_OFFSET_OF_OPENS + 3] + state[QAMHUDEER_OFFSET_OF_OPENS + 4]);
+    same("the place of the last", QAMHUDEER_OFFSET_OF_LAST, QAMHUDEER_OFFSET_OF_OPENS + 1 + 2 * QAMHUDEER_OPENS);
     same("channels", 4, state[QAMHUDEER_OFFSET_OF_CHANNELS]);
     same("last key", 1, 256u * state[QAMHUDEER_OFFSET_OF_LAST] + state[QAMHUDEER_OFFSET_OF_LAST + 1]);
 }

@@ -78,7 +78,9 @@ void read_all(struct Arbiter *a, const uint8_t *state, const uint8_t *table)
     read_queue(&a->locks, state + QAMHUDEER_OFFSET_OF_LOCKS);
     read_queue(&a->waiting, state + QAMHUDEER_OFFSET_OF_WAITING);
     a->channels = state[QAMHUDEER_OFFSET_OF_CHANNELS];
-    a->open_count = key_at(state + QAMHUDEER_OFFSET_OF_OPENS);
+    a->open.count = state[QAMHUDEER_OFFSET_OF_OPENS];
+    for (unsigned at = 0; at < MOST_OPENS; at++)
+        a->open.key[at] = key_at(state + QAMHUDEER_OFFSET_OF_OPENS + 1 + 2 * at);
     a->last_key = key_at(state + QAMHUDEER_OFFSET_OF_LAST);
     for (unsigned id = 0; id < REQUESTS; id++)
         read_entry(&a->request[id], table + id * ENTRY);
@@ -98,7 +100,9 @@ void put_all(uint8_t *state, uint8_t *table, const struct Arbiter *a)
     put_queue(state + QAMHUDEER_OFFSET_OF_LOCKS, &a->locks);
     put_queue(state + QAMHUDEER_OFFSET_OF_WAITING, &a->waiting);
     state[QAMHUDEER_OFFSET_OF_CHANNELS] = a->channels;
-    put_key(state + QAMHUDEER_OFFSET_OF_OPENS, a->open_count);
+    state[QAMHUDEER_OFFSET_OF_OPENS] = a->open.count;
+    for (unsigned at = 0; at < MOST_OPENS; at++)
+        put_key(state + QAMHUDEER_OFFSET_OF_OPENS + 1 + 2 * at, a->open.key[at]);
     put_key(state + QAMHUDEER_OFFSET_OF_LAST, a->last_key);
     for (unsigned id = 0; id < REQUESTS; id++)
         put_entry(table + id * ENTRY, &a->request[id]);
@@ -156,7 +160,8 @@ static uint8_t *telling_byte(uint8_t *state, uint8_t *table, unsigned board)
     if (odds < 3)
         return state + at % MOST_CHANNELS * QAMHUDEER_CHANNEL_SIZE + at / MOST_CHANNELS % QAMHUDEER_CHANNEL_WRITES;
     if (odds < 4)
-        return state + QAMHUDEER_OFFSET_OF_OPENS + at % 5;  /* the last of them is how many channels there are */
+        return at % 2 == 0 ? state + QAMHUDEER_OFFSET_OF_OPENS + at / 2 % 10     /* the count and the first open keys */
+                           : state + QAMHUDEER_OFFSET_OF_LAST + at / 2 % 3;      /* the last key, the number of channels */
     if (odds < 6) {
         queue = any_queue(state, board);
         return queue + at % ((queue[0] < REQUESTS ? queue[0] : REQUESTS - 1) + 2u);
@@ -182,6 +187,27 @@ static void damage_byte(uint8_t *b)
         *b = (uint8_t)(value % 2);
 }
 
+/* So many open keys: those that stood, then others. */
+static void set_entries(uint8_t *opens, unsigned count)
+{
+    for (unsigned at = 0; at < MOST_OPENS; at++)
+        if (at >= count)
+            put_key(opens + 1 + 2 * at, 0);
+        else if (key_at(opens + 1 + 2 * at) == 0)
+            put_key(opens + 1 + 2 * at, (uint16_t)(1 + below(percent(50) ? 8 : 65535)));
+    opens[0] = (uint8_t)count;
+}
+
+/* A fresh board on which the keys come round, so that the first of them can be had again. */
+static void come_round(uint8_t *state, uint8_t *table, unsigned board)
+{
+    struct Arbiter a;
+
+    arbiter_fresh(&a, board);
+    a.last_key = (uint16_t)(65535 - below(2));
+    put_all(state, table, &a);
+}
+
 /* Numbers that a good state may have at any time, in places no log puts them: sound, but not settled. */
 static void unsettle(uint8_t *state, uint8_t *table, unsigned board)
 {
@@ -196,9 +222,11 @@ static void unsettle(uint8_t *state, uint8_t *table, unsigned board)
     else if (odds == 4 && taken)
         channel[QAMHUDEER_CHANNEL_LOCKED] ^= 1;
     else if (odds == 5)
-        put_key(state + QAMHUDEER_OFFSET_OF_OPENS, (uint16_t)(value < 80 ? 0 : value < 180 ? 65535 : 1));
+        set_entries(state + QAMHUDEER_OFFSET_OF_OPENS, value < 80 ? 0 : value < 180 ? MOST_OPENS : 1 + value % 8);
     else if (odds == 6 && value % 8 == 0)
         state[QAMHUDEER_OFFSET_OF_CHANNELS] ^= 12;          /* 4 becomes 8, and 8 becomes 4 */
+    else if (odds == 6 && value % 8 == 1)
+        come_round(state, table, board);
     else if (odds == 6)
         put_key(state + QAMHUDEER_OFFSET_OF_LAST, (uint16_t)(value < 128 ? 65535 - value % 4 : value % 8));
     else if (entry[0] == ADCMD_ALLOCATE && value < 128)

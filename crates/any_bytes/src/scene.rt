@@ -6,6 +6,7 @@ use answers::Request;
 use board::Board;
 use board::Outcome;
 use channel::Channel;
+use open_keys::Keys;
 use queue::Queue;
 use store::State;
 ghost use Prim.Native.Nat.{_≤_};
@@ -129,6 +130,16 @@ fn edited(q: Queue, w: &[u8]) -> Queue {
     Queue { n: at(w, 1), ids }
 }
 
+// The open keys with another count, and another key at a place.
+fn opened(q: Keys, w: &[u8]) -> Keys {
+    let mut keys = q.keys;
+    let k = words::large(at(w, 1));
+    if k < Keys::ROOM {
+        keys[k] = words::pair(at(w, 2), at(w, 3));
+    }
+    Keys { n: at(w, 0), keys }
+}
+
 impl Scene {
     // Any number of channels may be said, and 0 is four.
     pub fn new(channels: u8) -> Self {
@@ -197,9 +208,10 @@ impl Scene {
         self
     }
 
-    fn with_opens(self, opens: u16) -> Self {
+    fn with_opens(self, w: &[u8]) -> Self {
         let mut s = self.state();
-        s.opens = opens;
+        let q = s.opens;
+        s.opens = opened(q, w);
         self.with_state(s)
     }
 
@@ -286,7 +298,7 @@ impl Scene {
             b'B' => self.with_byte(place(first, at(w, 1)), at(w, 2)),
             b'C' => self.with_numbers(words::large(first), w),
             b'W' => self.with_edit(words::large(first), w),
-            b'O' => self.with_opens(words::pair(first, at(w, 1))),
+            b'O' => self.with_opens(w),
             _ => self.with_size(kind, words::triple(first, at(w, 1), at(w, 2))),
         }
     }

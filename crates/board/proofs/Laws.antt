@@ -11,6 +11,7 @@ use lib.ListN.{length, take, drop, length-map, length-take, take-append-drop}
 use lib.Seq.{take-at, drop-at}
 use Rattle.machine.specs.State.{Channel as ChannelM, State as StateM, Call, Op, frees, freshOn, withChannels}
 use Rattle.machine.specs.Sound.{sound, soundRequest}
+use Rattle.machine.specs.Numbers.{ENTRIES}
 use Rattle.machine.specs.Lists.{all}
 use Rattle.machine.specs.Machine.{machine}
 use Rattle.machine.specs.Refusals.{accepted, refusal}
@@ -20,7 +21,8 @@ use Rattle.channel.specs.Channel.{channelOf, channelIn}
 use Rattle.channel.proofs.Laws.{channelsIn-of}
 use Rattle.store.specs.declared.State.{State}
 use Rattle.store.specs.Store.{structOf as wideOf, stateIn as wideIn, tableOf, items, writeItems, Held as WideHeld}
-use Rattle.store.proofs.Store.{stateIn-of as wideIn-of, held-next as wide-next, held-parts as wide-parts, length-tableOf, parts-long}
+use Rattle.open_keys.specs.OpenKeys.{keysIn}
+use Rattle.store.proofs.Store.{stateIn-of as wideIn-of, held-next as wide-next, held-parts as wide-parts, opens-count, length-tableOf, parts-long}
 use Rattle.widening.specs.Widening.{wider, widen}
 use Rattle.widening.proofs.Maps.{length-wider, length-frees}
 use Rattle.widening.proofs.Sound.{sound-wide, sound-narrow}
@@ -134,6 +136,9 @@ module _ {b : Board} {tb : List ℕ} (h : Held b tb) where
 
   pub held-eight : length (b .state .channels) ≡ 8
   held-eight = held-wide .0 .eight
+
+  pub held-opens-count : (b .state .opens .n ≡ length (keysIn (b .state .opens))) × (b .state .opens .n ≤ ENTRIES)
+  held-opens-count = opens-count (held-wide .0)
 
   pub held-length : length tb ≡ 1472
   held-length = ap length (h .table) ∙ length-tableOf (stateIn b tb) (parts-long (stateIn b tb) (held-parts h))

@@ -27,7 +27,7 @@ use Rattle.board.specs.declared.Outcome.{Outcome}
 use Rattle.answers.specs.declared.Request.{Request}
 use Rattle.refusals.specs.declared.Op.{Op}
 use Rattle.arbiter.proofs.Outcome.{Same, held-after, one-outcome}
-use Rattle.two_runs.specs.TwoRuns.{Party, Start, Step, our, their, Keeps as KeepsM, Run as RunM, balance, reached, calls, lends, own, said, mask, view, ownReplies, Seen, answered, received, owning, seen}
+use Rattle.two_runs.specs.TwoRuns.{Party, Start, Step, our, their, Keeps as KeepsM, Run as RunM, reached, calls, lends, own, said, mask, view, ownReplies, Seen, answered, received, owning, seen}
 use Rattle.two_runs.proofs.Part.{project}
 use Rattle.two_runs.proofs.TwoRuns.{K-sees-its-part, others-leave-K-alone}
 use Rattle.code_runs.specs.CodeRuns.{Turn, asked, Took, Move, ours, others, Chained, Keeps, Full, Run, ownCalls, records, recordsTo, ownRecords, maskOf, viewOf, Sight, told, got, has, sights, Demand3·code, stateAfter, tableAfter}
@@ -141,14 +141,12 @@ sights-spelt p st tb (others t ∷ ms) h c =
 
 -- ---- the premises are those of the machine's run
 
-keeps-steps : (p : Party) (n : ℕ) (st : Board) (tb : List ℕ) (ms : List Move) → Held st tb → Chained st tb ms → Keeps p n st tb ms
-    → KeepsM p n (stateIn st tb) (steps ms)
-keeps-steps p n st tb [] h c k = tt
-keeps-steps p n st tb (ours t ∷ ms) h c k =
-    (k .0, subst (λ (s : StateM). KeepsM p n s (steps ms)) (took-next h (c .0)) (keeps-steps p n (t .outcome .state) (t .table) ms (took-held h (c .0)) (c .1) (k .1)))
-keeps-steps p n st tb (others t ∷ ms) h c k =
-    let rest = keeps-steps p (balance (asked t .op) (answerIn (t .outcome .answer)) n) (t .outcome .state) (t .table) ms (took-held h (c .0)) (c .1) (k .1) in
-    (k .0, rw (took-told h (c .0) .answer, took-next h (c .0)) at rest)
+keeps-steps : (p : Party) (st : Board) (tb : List ℕ) (ms : List Move) → Held st tb → Chained st tb ms → Keeps p st tb ms → KeepsM p (stateIn st tb) (steps ms)
+keeps-steps p st tb [] h c k = tt
+keeps-steps p st tb (ours t ∷ ms) h c k =
+    (k .0, subst (λ (s : StateM). KeepsM p s (steps ms)) (took-next h (c .0)) (keeps-steps p (t .outcome .state) (t .table) ms (took-held h (c .0)) (c .1) (k .1)))
+keeps-steps p st tb (others t ∷ ms) h c k =
+    (k .0, subst (λ (s : StateM). KeepsM p s (steps ms)) (took-next h (c .0)) (keeps-steps p (t .outcome .state) (t .table) ms (took-held h (c .0)) (c .1) (k .1)))
 
 took-range : {st : Board} {tb : List ℕ} {t : Turn} → Took st tb t → T (inRange (asked t))
 unfolding inRange
@@ -174,7 +172,7 @@ full-steps (others t ∷ ms) f = and-both (lends (asked t)) (all lends (calls (s
 
 pub run-steps : (p : Party) (st : Board) (tb : List ℕ) (ms : List Move) → Held st tb → Run p st tb ms → RunM p (stateIn st tb) (steps ms)
 run-steps p st tb ms h r =
-    record { keeps = keeps-steps p 0 st tb ms h (r .chained) (r .keeps); full = full-steps ms (r .full); fits = fits-steps st tb ms (r .chained) }
+    record { keeps = keeps-steps p st tb ms h (r .chained) (r .keeps); full = full-steps ms (r .full); fits = fits-steps st tb ms (r .chained) }
 
 -- ---- the claim
 

@@ -29,7 +29,7 @@ start =
           ∷ [];
       locks = [];
       waiting = [];
-      opens = 1;
+      opens = 1 ∷ [];
       last = 7;
     }
 
@@ -43,7 +43,7 @@ busy =
     ∷ their (ask (COMMAND 32) 31 0 138 0 (32 ∷ []))
     ∷ their (ask (COMMAND 32) 32 0 138 0 (64 ∷ []))
     ∷ our (ask EVENT 0 64 128 0 [])
-    ∷ their (ask CLOSE 0 0 0 9 [])
+    ∷ their (ask CLOSE 0 0 0 8 [])
     ∷ our (ask (COMMAND 6) 5 192 0 1 [])
     ∷ []
 

@@ -26,7 +26,7 @@ use Rattle.answers.specs.Answers.{answerOf}
 use Rattle.refusals.specs.declared.Op.{Op}
 use Rattle.refusals.specs.declared.Op.the-variants.{Open, Close, Abort, Event, Command}
 use Rattle.refusals.specs.Refusals.{opIn}
-use Rattle.two_runs.specs.TwoRuns.{Party, Step, our, their, Keeps as KeepsM, Run as RunM, balance, calls, lends, own, said}
+use Rattle.two_runs.specs.TwoRuns.{Party, Step, our, their, Keeps as KeepsM, Run as RunM, calls, lends, own, said}
 use Rattle.code_runs.specs.CodeRuns.{Turn, asked, Took, Move, ours, others, Chained, Keeps, Full, Run, ownCalls}
 
 -- ---- the call of the code
@@ -133,19 +133,19 @@ chained-moves s (their c ∷ xs) b f =
     let g = and-left (inRange c) (all inRange (calls xs)) f in
     (made-took b c g, chained-moves (call s c .next) xs (board-next s c g b) (and-right (inRange c) (all inRange (calls xs)) f))
 
-keeps-moves : (p : Party) (n : ℕ) (s : StateM) (xs : List Step) → OnBoard s → T (all inRange (calls xs)) → KeepsM p n s xs
-    → Keeps p n (structOf s) (tableOf s) (moves s xs)
+keeps-moves : (p : Party) (s : StateM) (xs : List Step) → OnBoard s → T (all inRange (calls xs)) → KeepsM p s xs
+    → Keeps p (structOf s) (tableOf s) (moves s xs)
 unfolding calls all
-keeps-moves p n s [] b f k = tt
-keeps-moves p n s (our c ∷ xs) b f k =
+keeps-moves p s [] b f k = tt
+keeps-moves p s (our c ∷ xs) b f k =
     let g = and-left (inRange c) (all inRange (calls xs)) f in (
       rw (board-state b, asked-made s c) (k .0),
-      keeps-moves p n (call s c .next) xs (board-next s c g b) (and-right (inRange c) (all inRange (calls xs)) f) (k .1),
+      keeps-moves p (call s c .next) xs (board-next s c g b) (and-right (inRange c) (all inRange (calls xs)) f) (k .1),
     )
-keeps-moves p n s (their c ∷ xs) b f k =
+keeps-moves p s (their c ∷ xs) b f k =
     let g = and-left (inRange c) (all inRange (calls xs)) f in (
       rw (board-state b, asked-made s c) (k .0),
-      rw (op-out (c .op)) (keeps-moves p (balance (c .op) (call s c .answer) n) (call s c .next) xs (board-next s c g b) (and-right (inRange c) (all inRange (calls xs)) f) (k .1)),
+      keeps-moves p (call s c .next) xs (board-next s c g b) (and-right (inRange c) (all inRange (calls xs)) f) (k .1),
     )
 
 made-full : (c : Call) → T (lends c) → 384 ≤ length (blank (c .room))
@@ -160,4 +160,4 @@ full-moves s (their c ∷ xs) l = (made-full c (and-left (lends c) (all lends (c
 
 pub machine-runs-are-code-runs : (p : Party) (s : StateM) (xs : List Step) → OnBoard s → RunM p s xs → Run p (structOf s) (tableOf s) (moves s xs)
 machine-runs-are-code-runs p s xs b r =
-    record { chained = chained-moves s xs b (r .fits); keeps = keeps-moves p 0 s xs b (r .fits) (r .keeps); full = full-moves s xs (r .full) }
+    record { chained = chained-moves s xs b (r .fits); keeps = keeps-moves p s xs b (r .fits) (r .keeps); full = full-moves s xs (r .full) }

@@ -10,6 +10,7 @@ use lib.Dec.{eqb}
 use Rattle.machine.specs.State.{Call, Op, OPEN, CLOSE, EVENT, COMMAND, State as StateM, free}
 use Rattle.machine.specs.Machine.{machine}
 use Rattle.memory.specs.Splice.{splice}
+use Rattle.open_keys.specs.OpenKeys.{keysOf}
 use Rattle.store.specs.Store.{tableOf}
 use Rattle.board.specs.Board.{structOf}
 use Rattle.two_runs.specs.TwoRuns.{Party, Start, Step, our, own, their, claim, Run as RunM}
@@ -34,7 +35,7 @@ start =
           ∷ [];
       locks = [];
       waiting = [];
-      opens = 1;
+      opens = 1 ∷ [];
       last = 7;
     }
 
@@ -53,7 +54,7 @@ busy =
     ∷ their (ask (COMMAND 32) 31 0 138 0 (8 ∷ []))
     ∷ their (ask (COMMAND 32) 32 0 138 0 (1 ∷ []))
     ∷ our (ask EVENT 0 1 128 0 [])
-    ∷ their (ask CLOSE 0 0 0 9 [])
+    ∷ their (ask CLOSE 0 0 0 8 [])
     ∷ our (ask (COMMAND 6) 5 3 0 1 [])
     ∷ []
 
@@ -78,11 +79,11 @@ pub bytes-seen : allRecords party (moves start busy) ≡ (5 ∷ 3 ∷ 0 ∷ 1 �
 unfolding machine codeClaim splice
 bytes-seen = refl
 
--- and the runs end unlike: the open count and the last key
-pub quiet-end : (stateAfter (structOf start) (moves start quiet) .state .opens ≡ 1) × (stateAfter (structOf start) (moves start quiet) .state .last ≡ 7)
+-- and the runs end unlike: the others closed the key that they had opened, but keys were issued
+pub quiet-end : (stateAfter (structOf start) (moves start quiet) .state .opens ≡ keysOf (1 ∷ [])) × (stateAfter (structOf start) (moves start quiet) .state .last ≡ 7)
 unfolding machine codeClaim
 quiet-end = (refl, refl)
 
-pub busy-end : (stateAfter (structOf start) (moves start busy) .state .opens ≡ 1) × (stateAfter (structOf start) (moves start busy) .state .last ≡ 9)
+pub busy-end : (stateAfter (structOf start) (moves start busy) .state .opens ≡ keysOf (1 ∷ [])) × (stateAfter (structOf start) (moves start busy) .state .last ≡ 9)
 unfolding machine codeClaim
 busy-end = (refl, refl)

@@ -12,7 +12,7 @@
 --   Move, ours t, others t   a call of the K party or an event on a channel of K's; any other call
 --   turn m               the call itself
 --   Chained st tb ms     each call took what the one before it left; the first took st and tb
---   Keeps p n st tb ms   each is as the demand asks, with n openings of the others at its beginning that they have not closed
+--   Keeps p st tb ms     each is as the demand asks
 --   Full ms              each lent a reply list of 64 records or more, of six bytes each
 --   Run p st tb ms       all that the demand asks of a run
 --   ownCalls ms          the numbers of the K party's calls, in order; the list that a call lends is no part of them
@@ -43,11 +43,10 @@ use Rattle.board.specs.Board.{stateIn, Held}
 use Rattle.answers.specs.declared.Request.{Request}
 use Rattle.answers.specs.declared.Answer.{Answer}
 use Rattle.board.specs.declared.Outcome.{Outcome}
-use Rattle.answers.specs.Answers.{answerIn}
 use Rattle.refusals.specs.declared.Op.{Op}
 use Rattle.refusals.specs.Refusals.{askedOf}
 use Rattle.arbiter.specs.Arbiter.{Called}
-use Rattle.two_runs.specs.TwoRuns.{Party, Start, ByK, ByOthers, balance, said}
+use Rattle.two_runs.specs.TwoRuns.{Party, Start, ByK, ByOthers, said}
 
 -- ---- a call of the code
 
@@ -82,13 +81,11 @@ abbrev pub Chained : Board → List ℕ → List Move → Type 0
 Chained st tb [] = Unit {0}
 Chained st tb (m ∷ ms) = Took st tb (turn m) × Chained (turn m .outcome .state) (turn m .table) ms
 
--- as `Keeps` of crates/two_runs, on the structs, tables and answers of the run itself
-abbrev pub Keeps : Party → ℕ → Board → List ℕ → List Move → Type 0
-Keeps p n st tb [] = Unit {0}
-Keeps p n st tb (ours t ∷ ms) = ByK p (stateIn st tb) (asked t) × Keeps p n (t .outcome .state) (t .table) ms
-Keeps p n st tb (others t ∷ ms) =
-    ByOthers p n (stateIn st tb) (asked t)
-    × Keeps p (balance (asked t .op) (answerIn (t .outcome .answer)) n) (t .outcome .state) (t .table) ms
+-- as `Keeps` of crates/two_runs, on the structs and tables of the run itself
+abbrev pub Keeps : Party → Board → List ℕ → List Move → Type 0
+Keeps p st tb [] = Unit {0}
+Keeps p st tb (ours t ∷ ms) = ByK p (stateIn st tb) (asked t) × Keeps p (t .outcome .state) (t .table) ms
+Keeps p st tb (others t ∷ ms) = ByOthers p (stateIn st tb) (asked t) × Keeps p (t .outcome .state) (t .table) ms
 
 abbrev pub Full : List Move → Type 0
 Full [] = Unit {0}
@@ -97,8 +94,8 @@ Full (m ∷ ms) = (384 ≤ length (turn m .lent)) × Full ms
 pub record Run (p : Party) (st : Board) (tb : List ℕ) (ms : List Move) : Type 0 where
   -- the code made these calls, one on what the other left
   pub chained : Chained st tb ms
-  -- the K party's calls and the others' are as the demand says; the others have neither opened nor closed yet
-  pub keeps : Keeps p 0 st tb ms
+  -- the K party's calls and the others' are as the demand says
+  pub keeps : Keeps p st tb ms
   -- "and if every call lends a full reply list"
   pub full : Full ms
 

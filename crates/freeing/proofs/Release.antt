@@ -1,5 +1,5 @@
 -- Channels freed: their writes aborted, then the locks sifted on the table without those writes. Assumes nothing.
-use Prim.Native.Nat.{ℕ, pred, _+_, _-_, _*_, _≤_, _<_}
+use Prim.Native.Nat.{ℕ, _+_, _*_, _≤_, _<_}
 use mathlib.Core.Path.{_≡_, refl, ap, sym, subst, _∙_}
 use mathlib.Core.Bool.{false, not}
 use mathlib.Core.List.{List, [], _∷_, _++_, map}
@@ -7,14 +7,18 @@ use native.Mathlib.Omega.{arith}
 use lib.ListN.{length, length-append}
 use Rattle.reply.specs.Replies.{sent}
 use Rattle.reply.proofs.Laws.{sent-append, length-sent}
+use Rattle.machine.specs.Numbers.{ENTRIES}
 use Rattle.machine.specs.Lists.{keep}
 use Rattle.machine.specs.State.{Channel as ChannelM, Lock, Reply}
 use Rattle.machine.specs.Maps.{odd, half, change}
 use Rattle.machine.specs.Granting.{abortedIn}
-use Rattle.machine.specs.Commands.{matching, freed, cleared, isEmpty, freeing, freeingReplies, done, each, silent, owned, doFree, doClose}
+use Rattle.machine.specs.Commands.{matching, freed, cleared, isEmpty, freeing, freeingReplies, done, each, silent, closed, owned, doFree, doClose}
 use Rattle.machine.proofs.Tests.{if-elim}
 use Rattle.machine_laws.proofs.Lists.{Sub, end, sub-refl, sub-nil, sub-append}
 use Rattle.queue.specs.Queue.{queueOf}
+use Rattle.open_keys.specs.declared.Keys.{Keys}
+use Rattle.open_keys.specs.OpenKeys.{keysOf, keysIn, Tidy}
+use Rattle.open_keys.proofs.Laws.{keysIn-keysOf, tidy-of}
 use Rattle.channel.specs.declared.Change.the-variants.{Free}
 use Rattle.channel.specs.declared.Channel.{Channel}
 use Rattle.channel.specs.Channel.{channelOf, changedOf, changeEach, matchingEach}
@@ -22,7 +26,7 @@ use Rattle.store.specs.declared.State.{State}
 use Rattle.store.specs.Store.{writeItem, lockItem, waitItem, writeItems, items, tableOf, stateIn, Held}
 use Rattle.store.specs.Work.{Ready, Did}
 use Rattle.store.proofs.Table.{good-sub}
-use Rattle.store.proofs.Store.{held-parts, held-eight, good-of}
+use Rattle.store.proofs.Store.{held-parts, held-eight, good-of, held-opens, opens-count}
 use Rattle.granting.specs.Granting.{idled, writesIn}
 use Rattle.granting.proofs.Laws.{held-changed, held-cleared}
 use Rattle.locks.specs.declared.Sifted.{Sifted}
@@ -117,7 +121,7 @@ module _ {st : State} {tb l : List ℕ} (m : ℕ) (p : Ready st tb l 0 (length (
         v .queue ∙ ap (λ (ls : List Lock). queueOf (map (λ x. x .id) ls)) (left-is m h) in
         let x : st .waiting ≡ queueOf (map (λ y. y .id) (s .waiting)) = ap (λ (y : State). y .waiting) (h .struct) in
         record {
-          struct = λ i. record { channels = c i; locks = q i; waiting = x i; opens = st .opens; last = st .last };
+          struct = λ i. record { channels = c i; locks = q i; waiting = x i; opens = held-opens h i; last = st .last };
           table = v .table
               ∙ ap (λ (ls : List Lock). Rattle.store.specs.Store.entries 64 0 (writeItems (change freed m (s .channels)) ++ map lockItem ls ++ map waitItem (s .waiting))) (left-is m h);
           list = v .replies ∙ (rw (w .1, w .0, ← replies-are m h) (sent-append l 0 (abortedIn m (s .channels)) (over m h) (omega arith)));
@@ -158,9 +162,6 @@ module _ {st : State} {tb : List ℕ} (r : Request) (h : Held st tb) (b : r .map
 
 -- ---- CLOSE
 
-less : (n : ℕ) → n - 1 ≡ pred n
-less n = omega arith
-
 owned-eight : (k : ℕ) (cs : List ChannelM) → length cs ≡ 8 → owned k cs ≡ matching k 255 cs
 unfolding owned matching odd half
 owned-eight k [] f = absurd (omega arith)
@@ -182,32 +183,36 @@ module _ {st : State} {tb : List ℕ} (r : Request) (h : Held st tb) {ok : ℕ} 
       → Ready st tb l 0 (length (freeingReplies ok (stateIn st tb)))
   close-ready p = record { held = h; room = p .room; fits = rw owned-is (p .fits) }
 
-  pub close-opens : {l l₁ tb₁ : List ℕ} {t : State} {n : ℕ} → Did (freeing ok (stateIn st tb)) (freeingReplies ok (stateIn st tb)) l 0 t tb₁ l₁ n → t .opens ≡ st .opens
-  unfolding freeing
-  close-opens g = ap (λ (y : State). y .opens) (g .struct)
+  module _ {l l₁ tb₁ : List ℕ} {t : State} {n : ℕ} (g : Did (freeing ok (stateIn st tb)) (freeingReplies ok (stateIn st tb)) l 0 t tb₁ l₁ n) where
+    -- freeing leaves the open keys
+    close-opens : t .opens ≡ keysOf (keysIn (st .opens))
+    unfolding freeing
+    close-opens = ap (λ (y : State). y .opens) (g .struct)
 
-  pub told-close : {l l₁ tb₁ : List ℕ} {t : State} {n : ℕ} {x : Answer} → x ≡ answerOf (done 0 0 (r .key) 255)
-      → Did (freeing ok (stateIn st tb)) (freeingReplies ok (stateIn st tb)) l 0 t tb₁ l₁ n
-      → Told (doClose (callOf r []) (stateIn st tb)) l
-      (record { answer = x; state = record { channels = t .channels; locks = t .locks; waiting = t .waiting; opens = t .opens - 1; last = t .last }; n = n }) tb₁ l₁
-  unfolding doClose silent tableOf items
-  told-close {l} {l₁} {tb₁} {t} {n} {x} v g =
-      let s = stateIn st tb in
-      let q : Did (freeing (owned (r .key) (s .channels)) s) (freeingReplies (owned (r .key) (s .channels)) s) l 0 t tb₁ l₁ n =
-      subst (λ (y : ℕ). Did (freeing y s) (freeingReplies y s) l 0 t tb₁ l₁ n) owned-is g in
-      let o : t .opens - 1 ≡ pred (s .opens) = ap (λ (y : ℕ). y - 1) (close-opens g) ∙ less (s .opens) in
-      record {
-        answer = v;
-        did = record {
-          struct = λ i. record {
-            channels = q .struct i .channels;
-            locks = q .struct i .locks;
-            waiting = q .struct i .waiting;
-            opens = o i;
-            last = q .struct i .last;
+    pub close-tidy : Tidy (t .opens) × (t .opens .n ≤ ENTRIES)
+    close-tidy = (tidy-of (keysIn (st .opens)) close-opens, omega (arith, ap (λ (x : Keys). x .n) close-opens, opens-count h .0, opens-count h .1))
+
+    pub told-close : {x : Answer} {q : Keys} → x ≡ answerOf (done 0 0 (r .key) 255) → q ≡ keysOf (closed (r .key) (keysIn (t .opens)))
+        → Told (doClose (callOf r []) (stateIn st tb)) l
+        (record { answer = x; state = record { channels = t .channels; locks = t .locks; waiting = t .waiting; opens = q; last = t .last }; n = n }) tb₁ l₁
+    unfolding doClose silent tableOf items
+    told-close {q = k} v eq =
+        let s = stateIn st tb in
+        let q : Did (freeing (owned (r .key) (s .channels)) s) (freeingReplies (owned (r .key) (s .channels)) s) l 0 t tb₁ l₁ n =
+        subst (λ (y : ℕ). Did (freeing y s) (freeingReplies y s) l 0 t tb₁ l₁ n) owned-is g in
+        let o : k ≡ keysOf (closed (r .key) (s .opens)) = eq ∙ ap (λ (y : List ℕ). keysOf (closed (r .key) y)) (ap keysIn close-opens ∙ keysIn-keysOf (keysIn (st .opens))) in
+        record {
+          answer = v;
+          did = record {
+            struct = λ i. record {
+              channels = q .struct i .channels;
+              locks = q .struct i .locks;
+              waiting = q .struct i .waiting;
+              opens = o i;
+              last = q .struct i .last;
+            };
+            table = q .table;
+            list = q .list;
+            count = q .count;
           };
-          table = q .table;
-          list = q .list;
-          count = q .count;
-        };
-      }
+        }

@@ -50,16 +50,17 @@ pub fn free(r: Request, s: State, table: &mut [u8], replies: &mut [u8]) -> Outco
     answers::finished(r, a, t, replies, f.n)
 }
 
-// CLOSE: one opening less, and every channel with the key freed.
+// CLOSE: the oldest entry of the key goes, and every channel with the key is freed.
 pub fn close(r: Request, s: State, table: &mut [u8], replies: &mut [u8]) -> Outcome
-    requires { ⌜ Ready s (now table) (now replies) 0 (length (ownedReplies r (stateIn s (now table)))) × (1 ≤ s .opens) ⌝ }
+    requires { ⌜ Ready s (now table) (now replies) 0 (length (ownedReplies r (stateIn s (now table)))) ⌝ }
     ensures { λ d. ⌜ Does (doClose (callOf r [])) s (now (table .entry)) (now (replies .entry)) d (now (table .exit)) (now (replies .exit)) ⌝ }
 {
     let cs = s.channels;
     let ok = channel::matching(cs, r.key, State::TOP);
     let f = freeing(s, ok, table, replies);
     let mut t = f.state;
-    t.opens = t.opens - 1;
+    let opens = t.opens;
+    t.opens = opens.close(r.key);
     let a = answers::done(0, 0, r.key, 255);
     Outcome {
         answer: a,

@@ -14,9 +14,10 @@ use Rattle.memory.proofs.Splice.{splice-none, set-splice, splice-append, splice
 use Rattle.machine.specs.Lists.{all}
 use Rattle.machine.proofs.Tests.{and-left}
 use Rattle.queue.specs.declared.Queue.{Queue}
+use Rattle.open_keys.specs.declared.Keys.{Keys}
 use Rattle.channel.specs.declared.Channel.{Channel}
 use Rattle.board.specs.declared.Board.{Board}
-use Rattle.image.specs.Image.{markOf, keyBytes, queueBytes, channelBytes, channelsBytes, imageOf, keyAt, queueAt, channelAt, channelsAt, stateOf, isByte, marksAt, allMarks, isWhole, Whole, Filled, AllFilled, Wrote, Entered}
+use Rattle.image.specs.Image.{markOf, keyBytes, keysBytes, openBytes, queueBytes, channelBytes, channelsBytes, imageOf, keyAt, keysFrom, openAt, queueAt, channelAt, channelsAt, stateOf, isByte, marksAt, allMarks, isWhole, Whole, Filled, AllFilled, Wrote, Entered}
 
 -- ---- the test
 
@@ -31,17 +32,17 @@ bytes-all [] h = refl
 bytes-all (b ∷ bs) h = rw (lt-ltb b 256 (h 0)) (bytes-all bs (λ i. h (suc i)))
 
 module _ (bs : List ℕ) where
-  pub not-long : (length bs ≡ 695 → ⊥) → false ≡ isWhole bs
+  pub not-long : (length bs ≡ 758 → ⊥) → false ≡ isWhole bs
   unfolding isWhole
-  not-long n = rw (ne-eqb (length bs) 695 n)
+  not-long n = rw (ne-eqb (length bs) 758 n)
 
-  pub whole-long : Whole bs → length bs ≡ 695
+  pub whole-long : Whole bs → length bs ≡ 758
   unfolding isWhole
-  whole-long w = eqb→eq (length bs) 695 (and-left (eqb (length bs) 695) _ w)
+  whole-long w = eqb→eq (length bs) 758 (and-left (eqb (length bs) 758) _ w)
 
-  pub the-marks : length bs ≡ 695 → ((i : ℕ) → getD bs i 0 < 256) → allMarks 8 bs 0 ≡ isWhole bs
+  pub the-marks : length bs ≡ 758 → ((i : ℕ) → getD bs i 0 < 256) → allMarks 8 bs 0 ≡ isWhole bs
   unfolding isWhole
-  the-marks l h = rw (eq-eqb (length bs) 695 l, bytes-all bs h) (sym (and-on (allMarks 8 bs 0)))
+  the-marks l h = rw (eq-eqb (length bs) 758 l, bytes-all bs h) (sym (and-on (allMarks 8 bs 0)))
 
 -- the marks of the channels left are those of all, where the ones before are marks
 pub record Marked (bs : List ℕ) (i : ℕ) : Type 0 where
@@ -185,46 +186,111 @@ channels-more-at bs cs i {c} h t e =
     let z : 0 + i * 70 ≡ i * 70 = omega arith in
     rw (add-one i) (take-suc-set cs i c h ∙ (ap₂ (λ (l : List Channel) (d : Channel). l ++ (d ∷ [])) t (e ∙ ap (channelAt bs) (sym z)) ∙ sym (channels-snoc i bs 0)))
 
+-- ---- the open keys
+
+keys-append : (js ks : List ℕ) → keysBytes (js ++ ks) ≡ keysBytes js ++ keysBytes ks
+unfolding keysBytes
+keys-append [] ks = refl
+keys-append (j ∷ js) ks = ap (λ (x : List ℕ). keyBytes j ++ x) (keys-append js ks) ∙ sym (append-assoc (keyBytes j) (keysBytes js) (keysBytes ks))
+
+keys-one : (k : ℕ) → keysBytes (k ∷ []) ≡ keyBytes k
+unfolding keysBytes
+keys-one k = refl
+
+keys-none : keysBytes [] ≡ []
+unfolding keysBytes
+keys-none = refl
+
+pub keys-start : (l : List ℕ) (at : ℕ) (ks : List ℕ) → Wrote l at (keysBytes (take 0 ks)) 0 l
+keys-start l at ks = record { bytes = rw keys-none (sym (splice-none l at)); size = rw keys-none refl }
+
+-- one key more
+pub keys-turn : (l : List ℕ) (at : ℕ) (ks : List ℕ) (i : ℕ) {l₁ l₂ : List ℕ} → i < length ks → at + i * 2 ≤ length l
+    → Wrote l at (keysBytes (take i ks)) (i * 2) l₁ → l₂ ≡ splice l₁ (at + 2 * i) (keyBytes (getD ks i 0))
+    → Wrote l at (keysBytes (take (i + 1) ks)) ((i + 1) * 2) l₂
+keys-turn l at ks i h g p w =
+    let k = getD ks i 0 in
+    let vs = keysBytes (take i ks) in
+    let e : keysBytes (take (i + 1) ks) ≡ vs ++ keyBytes k =
+    rw (add-one, take-suc ks i 0 h) (keys-append (take i ks) (k ∷ []) ∙ ap (λ (x : List ℕ). vs ++ x) (keys-one k)) in
+    let z = p .size in
+    record {
+      bytes = w ∙ (rw (p .bytes, e) (splice-then l at vs (keyBytes k) (at + 2 * i) (omega arith) (omega arith)));
+      size = rw (e, length-append) (omega arith);
+    }
+
+pub keys-all : (l : List ℕ) (at : ℕ) (ks : List ℕ) {l₁ : List ℕ} → length ks ≡ 32 → Wrote l at (keysBytes (take 32 ks)) 64 l₁ → Wrote l at (keysBytes ks) 64 l₁
+keys-all l at ks h w = rw (take-all 32 ks (omega arith)) at w
+
+pub open-wrote : (l : List ℕ) (at : ℕ) (q : Keys) {l₂ : List ℕ} → at + 65 ≤ length l → Wrote (set l at (q .n)) (at + 1) (keysBytes (q .keys)) 64 l₂ → Wrote l at (openBytes q) 65 l₂
+open-wrote l at q h w =
+    record {
+      bytes = w .bytes ∙ (rw (set-splice l at (q .n) (omega arith)) (splice-append l at (q .n ∷ []) (keysBytes (q .keys)) (omega arith)));
+      size = let e = w .size in omega arith;
+    }
+
+keys-twice : (ks : List ℕ) → length (keysBytes ks) ≡ length ks * 2
+unfolding keysBytes
+keys-twice [] = refl
+keys-twice (k ∷ ks) = let h = keys-twice ks in omega arith
+
+pub open-filled : {l : List ℕ} {at : ℕ} (q : Keys) {l′ : List ℕ} → Wrote l at (openBytes q) 65 l′ → length (q .keys) ≡ 32
+open-filled q w = let e = w .size in let k = keys-twice (q .keys) in omega arith
+
+-- keys read one after another
+keys-snoc : (n : ℕ) (bs : List ℕ) (at : ℕ) → keysFrom (suc n) bs at ≡ keysFrom n bs at ++ (keyAt bs (at + 2 * n) ∷ [])
+unfolding keysFrom
+keys-snoc zero bs at = let e : at ≡ at + 2 * 0 = omega arith in ap (λ (k : ℕ). keyAt bs k ∷ []) e
+keys-snoc (suc n) bs at =
+    let e : at + 2 + 2 * n ≡ at + 2 * suc n = omega arith in
+    ap (λ (l : List ℕ). keyAt bs at ∷ l) (keys-snoc n bs (at + 2) ∙ ap (λ (k : ℕ). keysFrom n bs (at + 2) ++ (keyAt bs k ∷ [])) e)
+
+pub keys-more-at : (bs : List ℕ) (at : ℕ) (ks : List ℕ) (i : ℕ) {k : ℕ} → i < length ks → take i ks ≡ keysFrom i bs at → k ≡ keyAt bs (at + 2 * i)
+    → take (i + 1) (set ks i k) ≡ keysFrom (i + 1) bs at
+keys-more-at bs at ks i {k} h t e =
+    rw (add-one i) (take-suc-set ks i k h ∙ (ap₂ (λ (l : List ℕ) (d : ℕ). l ++ (d ∷ [])) t e ∙ sym (keys-snoc i bs at)))
+
 -- ---- the whole
 
 regroup : (u v w x y z : List ℕ) → ((((u ++ v) ++ w) ++ x) ++ y) ++ z ≡ u ++ (v ++ (w ++ (x ++ (y ++ z))))
 regroup u v w x y z = simp append-assoc
 
-module _ (l : List ℕ) (b : Board) (h : length l ≡ 695) where
+module _ (l : List ℕ) (b : Board) (h : length l ≡ 758) where
   pub state-wrote : {l₁ l₂ l₃ l₄ l₅ : List ℕ} → Wrote l 0 (channelsBytes (b .state .channels)) 560 l₁ → Wrote l₁ 560 (queueBytes (b .state .locks)) 65 l₂
-      → Wrote l₂ 625 (queueBytes (b .state .waiting)) 65 l₃ → l₄ ≡ splice l₃ 690 (keyBytes (b .state .opens)) → l₅ ≡ splice l₄ 692 (keyBytes (b .state .last))
-      → set l₅ 694 (b .width) ≡ imageOf b
+      → Wrote l₂ 625 (queueBytes (b .state .waiting)) 65 l₃ → Wrote l₃ 690 (openBytes (b .state .opens)) 65 l₄ → l₅ ≡ splice l₄ 755 (keyBytes (b .state .last))
+      → set l₅ 757 (b .width) ≡ imageOf b
   unfolding imageOf
   state-wrote {l₁} {l₂} {l₃} {l₄} {l₅} a b′ c d e =
       let u = channelsBytes (b .state .channels) in
       let v = queueBytes (b .state .locks) in
       let w = queueBytes (b .state .waiting) in
-      let x = keyBytes (b .state .opens) in
+      let x = openBytes (b .state .opens) in
       let y = keyBytes (b .state .last) in
       let p = a .size in
       let q = b′ .size in
       let r = c .size in
+      let t = d .size in
       let uv : length (u ++ v) ≡ 625 = rw length-append (omega arith) in
       let uvw : length ((u ++ v) ++ w) ≡ 690 = rw length-append (omega arith) in
-      let uvwx : length (((u ++ v) ++ w) ++ x) ≡ 692 = rw length-append (omega arith) in
-      let uvwxy : length ((((u ++ v) ++ w) ++ x) ++ y) ≡ 694 = rw length-append (omega arith) in
-      let all : length (((((u ++ v) ++ w) ++ x) ++ y) ++ b .width ∷ []) ≡ 695 = rw length-append (omega arith) in
-      ap (λ (k : List ℕ). set k 694 (b .width)) e ∙ (rw (d, c .bytes, b′ .bytes, a .bytes)
+      let uvwx : length (((u ++ v) ++ w) ++ x) ≡ 755 = rw length-append (omega arith) in
+      let uvwxy : length ((((u ++ v) ++ w) ++ x) ++ y) ≡ 757 = rw length-append (omega arith) in
+      let all : length (((((u ++ v) ++ w) ++ x) ++ y) ++ b .width ∷ []) ≡ 758 = rw length-append (omega arith) in
+      ap (λ (k : List ℕ). set k 757 (b .width)) e ∙ (rw (d .bytes, c .bytes, b′ .bytes, a .bytes)
       (rw (
         splice-then l 0 u v 560 (omega arith) (omega arith),
         splice-then l 0 (u ++ v) w 625 (omega arith) (omega arith),
         splice-then l 0 ((u ++ v) ++ w) x 690 (omega arith) (omega arith),
-        splice-then l 0 (((u ++ v) ++ w) ++ x) y 692 (omega arith) (omega arith),
+        splice-then l 0 (((u ++ v) ++ w) ++ x) y 755 (omega arith) (omega arith),
         last-byte ((((u ++ v) ++ w) ++ x) ++ y) uvwxy,
         splice-whole l (((((u ++ v) ++ w) ++ x) ++ y) ++ b .width ∷ []) (omega arith),
       )
       (regroup u v w x y (b .width ∷ []))))
     where
-      last-byte : (vs : List ℕ) → length vs ≡ 694 → set (splice l 0 vs) 694 (b .width) ≡ splice l 0 (vs ++ b .width ∷ [])
-      last-byte vs k = let z : 694 ≡ 0 + length vs = omega arith in ap (λ (n : ℕ). set (splice l 0 vs) n (b .width)) z ∙ splice-snoc l 0 vs (b .width) (omega arith)
+      last-byte : (vs : List ℕ) → length vs ≡ 757 → set (splice l 0 vs) 757 (b .width) ≡ splice l 0 (vs ++ b .width ∷ [])
+      last-byte vs k = let z : 757 ≡ 0 + length vs = omega arith in ap (λ (n : ℕ). set (splice l 0 vs) n (b .width)) z ∙ splice-snoc l 0 vs (b .width) (omega arith)
 
-pub state-parts : (bs : List ℕ) {cs : List Channel} {p q : Queue} {m n : ℕ} → cs ≡ channelsAt 8 bs 0
-    → p ≡ queueAt bs 560 → q ≡ queueAt bs 625 → m ≡ keyAt bs 690 → n ≡ keyAt bs 692
-    → _≡_ {A = Board} (record { width = getD bs 694 0; state = record { channels = cs; locks = p; waiting = q; opens = m; last = n } }) (stateOf bs)
+pub state-parts : (bs : List ℕ) {cs : List Channel} {p q : Queue} {m : Keys} {n : ℕ} → cs ≡ channelsAt 8 bs 0
+    → p ≡ queueAt bs 560 → q ≡ queueAt bs 625 → m ≡ openAt bs 690 → n ≡ keyAt bs 755
+    → _≡_ {A = Board} (record { width = getD bs 757 0; state = record { channels = cs; locks = p; waiting = q; opens = m; last = n } }) (stateOf bs)
 unfolding stateOf
-state-parts bs e j k m n i = record { width = getD bs 694 0; state = record { channels = e i; locks = j i; waiting = k i; opens = m i; last = n i } }
+state-parts bs e j k m n i = record { width = getD bs 757 0; state = record { channels = e i; locks = j i; waiting = k i; opens = m i; last = n i } }

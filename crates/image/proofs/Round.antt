@@ -13,9 +13,10 @@ use borrow.Author.Tests.{eq-eqb}
 use Rattle.machine.specs.Lists.{all}
 use Rattle.machine.proofs.Tests.{and-left, and-right}
 use Rattle.queue.specs.declared.Queue.{Queue}
+use Rattle.open_keys.specs.declared.Keys.{Keys}
 use Rattle.channel.specs.declared.Channel.{Channel}
 use Rattle.board.specs.declared.Board.{Board}
-use Rattle.image.specs.Image.{markOf, keyBytes, queueBytes, channelBytes, channelsBytes, imageOf, keyAt, queueAt, channelAt, channelsAt, stateOf, isByte, isMark, marksAt, allMarks, isWhole, Whole, Filled, AllFilled, Sized, Saved}
+use Rattle.image.specs.Image.{markOf, keyBytes, keysBytes, openBytes, queueBytes, channelBytes, channelsBytes, imageOf, keyAt, keysFrom, openAt, queueAt, channelAt, channelsAt, stateOf, isByte, isMark, marksAt, allMarks, isWhole, Whole, Filled, AllFilled, Sized, Saved}
 use Rattle.image.proofs.Laws.{whole-long, bytes-all}
 
 -- ---- what stands behind a list
@@ -107,6 +108,32 @@ module _ (vs : List ℕ) where
       let b = ap (λ (l : List ℕ). allMarks (length cs) l (at + 70)) (e ∙ g) ∙ channels-marks cs (f .1) (us ++ channelBytes c) (at + 70) n in
       ap₂ _&&_ a b
 
+-- keys, one behind the other
+keys-long : (ks : List ℕ) → length (keysBytes ks) ≡ length ks * 2
+unfolding keysBytes
+keys-long [] = refl
+keys-long (k ∷ ks) = let h = keys-long ks in omega arith
+
+keys-back : (vs ks us : List ℕ) (at : ℕ) → length us ≡ at → keysFrom (length ks) (us ++ (keysBytes ks ++ vs)) at ≡ ks
+unfolding keysFrom keysBytes
+keys-back vs [] us at h = refl
+keys-back vs (k ∷ ks) us at h =
+    let e : us ++ ((keyBytes k ++ keysBytes ks) ++ vs) ≡ us ++ (keyBytes k ++ (keysBytes ks ++ vs)) = ap (λ (l : List ℕ). us ++ l) (append-assoc (keyBytes k) (keysBytes ks) vs) in
+    let g : us ++ (keyBytes k ++ (keysBytes ks ++ vs)) ≡ (us ++ keyBytes k) ++ (keysBytes ks ++ vs) = sym (append-assoc us (keyBytes k) (keysBytes ks ++ vs)) in
+    let n : length (us ++ keyBytes k) ≡ at + 2 = length-append us (keyBytes k) ∙ omega arith in
+    let a = ap (λ (l : List ℕ). keyAt l at) e ∙ key-back us at h (keysBytes ks ++ vs) k in
+    let b = ap (λ (l : List ℕ). keysFrom (length ks) l (at + 2)) (e ∙ g) ∙ keys-back vs ks (us ++ keyBytes k) (at + 2) n in
+    λ i. a i ∷ b i
+
+open-back : (us : List ℕ) (at : ℕ) → length us ≡ at → (vs : List ℕ) (q : Keys) → length (q .keys) ≡ 32 → openAt (us ++ (openBytes q ++ vs)) at ≡ q
+unfolding openAt
+open-back us at h vs q f =
+    let e : us ++ (openBytes q ++ vs) ≡ (us ++ q .n ∷ []) ++ (keysBytes (q .keys) ++ vs) = sym (append-assoc us (q .n ∷ []) (keysBytes (q .keys) ++ vs)) in
+    let a : getD (us ++ (openBytes q ++ vs)) at 0 ≡ q .n = first-behind us (openBytes q ++ vs) at h in
+    let b : keysFrom 32 (us ++ (openBytes q ++ vs)) (at + 1) ≡ q .keys =
+    ap₂ (λ (n : ℕ) (l : List ℕ). keysFrom n l (at + 1)) (sym f) e ∙ keys-back vs (q .keys) (us ++ q .n ∷ []) (at + 1) (length-append us (q .n ∷ []) ∙ omega arith) in
+    λ i. record { n = a i; keys = b i }
+
 -- the parts of an image, in their order
 module _ (b : Board) (z : Sized b) where
   abbrev Q : List ℕ
@@ -116,7 +143,7 @@ module _ (b : Board) (z : Sized b) where
   W = queueBytes (b .state .waiting)
 
   abbrev M : List ℕ
-  M = keyBytes (b .state .opens)
+  M = openBytes (b .state .opens)
 
   abbrev N : List ℕ
   N = keyBytes (b .state .last)
@@ -124,7 +151,7 @@ module _ (b : Board) (z : Sized b) where
   abbrev E : List ℕ
   E = b .width ∷ []
 
-  -- what stands before the locks, the waiting requests, the open count, the last key and the number of channels
+  -- what stands before the locks, the waiting requests, the open keys, the last key and the number of channels
   abbrev P4 : List ℕ
   P4 = channelsBytes (b .state .channels)
 
@@ -165,13 +192,13 @@ module _ (b : Board) (z : Sized b) where
   long-6 : length P6 ≡ 690
   long-6 = length-append P5 W ∙ ap₂ _+_ long-5 (ap suc (z .waiting))
 
-  long-7 : length P7 ≡ 692
-  long-7 = length-append P6 M ∙ ap (λ (x : ℕ). x + 2) long-6
+  long-7 : length P7 ≡ 755
+  long-7 = length-append P6 M ∙ ap₂ _+_ long-6 (ap suc (keys-long (b .state .opens .keys) ∙ ap (λ (n : ℕ). n * 2) (z .opens)))
 
-  long-8 : length P8 ≡ 694
+  long-8 : length P8 ≡ 757
   long-8 = length-append P7 N ∙ ap (λ (x : ℕ). x + 2) long-7
 
-  image-long : length (imageOf b) ≡ 695
+  image-long : length (imageOf b) ≡ 758
   image-long = ap length at-width ∙ length-append P8 E ∙ ap (λ (x : ℕ). x + 1) long-8
 
   -- the bytes of a board hold it
@@ -182,9 +209,9 @@ module _ (b : Board) (z : Sized b) where
       ap₂ (λ (n : ℕ) (l : List ℕ). channelsAt n l 0) (sym (z .eight)) at-locks ∙ channels-back (Q ++ (W ++ (M ++ (N ++ E)))) (b .state .channels) (z .channels) [] 0 refl in
       let q = ap (λ (x : List ℕ). queueAt x 560) at-locks ∙ queue-back P4 560 long-4 (W ++ (M ++ (N ++ E))) (b .state .locks) (z .locks) in
       let w = ap (λ (x : List ℕ). queueAt x 625) at-waiting ∙ queue-back P5 625 long-5 (M ++ (N ++ E)) (b .state .waiting) (z .waiting) in
-      let m = ap (λ (x : List ℕ). keyAt x 690) at-opens ∙ key-back P6 690 long-6 (N ++ E) (b .state .opens) in
-      let n = ap (λ (x : List ℕ). keyAt x 692) at-last ∙ key-back P7 692 long-7 E (b .state .last) in
-      let v : getD (imageOf b) 694 0 ≡ b .width = ap (λ (x : List ℕ). getD x 694 0) at-width ∙ first-behind P8 E 694 long-8 in
+      let m = ap (λ (x : List ℕ). openAt x 690) at-opens ∙ open-back P6 690 long-6 (N ++ E) (b .state .opens) (z .opens) in
+      let n = ap (λ (x : List ℕ). keyAt x 755) at-last ∙ key-back P7 755 long-7 E (b .state .last) in
+      let v : getD (imageOf b) 757 0 ≡ b .width = ap (λ (x : List ℕ). getD x 757 0) at-width ∙ first-behind P8 E 757 long-8 in
       λ i. record { width = v i; state = record { channels = c i; locks = q i; waiting = w i; opens = m i; last = n i } }
 
   -- the bytes of a board are whole
@@ -193,7 +220,7 @@ module _ (b : Board) (z : Sized b) where
   imageOf-whole y =
       let m : allMarks 8 (imageOf b) 0 ≡ true =
       ap₂ (λ (n : ℕ) (l : List ℕ). allMarks n l 0) (sym (z .eight)) at-locks ∙ channels-marks (Q ++ (W ++ (M ++ (N ++ E)))) (b .state .channels) (z .channels) [] 0 refl in
-      rw (eq-eqb (length (imageOf b)) 695 image-long, m, y) tt
+      rw (eq-eqb (length (imageOf b)) 758 image-long, m, y) tt
 
 pub saved : (b : Board) {l : List ℕ} → Sized b → l ≡ imageOf b → ((i : ℕ) → getD l i 0 < 256) → Saved b l
 saved b {l} z e h =
@@ -272,17 +299,30 @@ channels-part bs y (suc n) at h t =
     let e : 70 + n * 70 ≡ suc n * 70 = omega arith in
     ap₂ _++_ a b ∙ (part-add bs at 70 (n * 70) ∙ ap (λ (k : ℕ). take k (drop at bs)) e)
 
+keys-part : (bs : List ℕ) → ((i : ℕ) → getD bs i 0 < 256) → (n at : ℕ) → at + n * 2 ≤ length bs → keysBytes (keysFrom n bs at) ≡ take (n * 2) (drop at bs)
+unfolding keysBytes keysFrom
+keys-part bs y zero at h = let e : 0 * 2 ≡ 0 = omega arith in sym (ap (λ (n : ℕ). take n (drop at bs)) e)
+keys-part bs y (suc n) at h =
+    let a = key-part bs y at (omega arith) in
+    let b = keys-part bs y n (at + 2) (omega arith) in
+    let e : 2 + n * 2 ≡ suc n * 2 = omega arith in
+    ap₂ _++_ a b ∙ (part-add bs at 2 (n * 2) ∙ ap (λ (k : ℕ). take k (drop at bs)) e)
+
+open-part : (bs : List ℕ) → ((i : ℕ) → getD bs i 0 < 256) → (at : ℕ) → at + 65 ≤ length bs → openBytes (openAt bs at) ≡ take 65 (drop at bs)
+unfolding openAt
+open-part bs y at h = ap (λ (l : List ℕ). getD bs at 0 ∷ l) (keys-part bs y 32 (at + 1) (omega arith)) ∙ sym (part-cons bs at 64 (omega arith))
+
 pub imageOf-stateOf : (bs : List ℕ) → Whole bs → imageOf (stateOf bs) ≡ bs
 unfolding imageOf stateOf isWhole
 imageOf-stateOf bs w =
-    let t = and-right (eqb (length bs) 695) (allMarks 8 bs 0 && all isByte bs) w in
+    let t = and-right (eqb (length bs) 758) (allMarks 8 bs 0 && all isByte bs) w in
     let y = bytes-each bs (and-right (allMarks 8 bs 0) (all isByte bs) t) in
     let l = whole-long bs w in
     let cs : channelsBytes (channelsAt 8 bs 0) ≡ take 560 (drop 0 bs) = channels-part bs y 8 0 (omega arith) (and-left (allMarks 8 bs 0) (all isByte bs) t) in
     let q = queue-part bs y 560 (omega arith) in
     let r = queue-part bs y 625 (omega arith) in
-    let m = key-part bs y 690 (omega arith) in
-    let n = key-part bs y 692 (omega arith) in
-    let v : getD bs 694 0 ∷ [] ≡ take 1 (drop 694 bs) = sym (part-cons bs 694 0 (omega arith)) in
-    ap₂ _++_ cs (ap₂ _++_ q (ap₂ _++_ r (ap₂ _++_ m (ap₂ _++_ n v ∙ part-add bs 692 2 1) ∙ part-add bs 690 2 3) ∙ part-add bs 625 65 5) ∙ part-add bs 560 65 70)
-    ∙ part-add bs 0 560 135 ∙ take-all 695 bs (omega arith)
+    let m = open-part bs y 690 (omega arith) in
+    let n = key-part bs y 755 (omega arith) in
+    let v : getD bs 757 0 ∷ [] ≡ take 1 (drop 757 bs) = sym (part-cons bs 757 0 (omega arith)) in
+    ap₂ _++_ cs (ap₂ _++_ q (ap₂ _++_ r (ap₂ _++_ m (ap₂ _++_ n v ∙ part-add bs 755 2 1) ∙ part-add bs 690 65 3) ∙ part-add bs 625 65 68) ∙ part-add bs 560 65 133)
+    ∙ part-add bs 0 560 198 ∙ take-all 758 bs (omega arith)

@@ -1,20 +1,22 @@
--- The state as 695 bytes that a caller keeps: eight channels of 70 bytes from 0 on, the locks at 560, the waiting requests at 625,
--- the open count at 690, the last key at 692, and at 694 how many channels the board has. One size for both boards: behind four
+-- The state as 758 bytes that a caller keeps: eight channels of 70 bytes from 0 on, the locks at 560, the waiting requests at 625,
+-- the open keys at 690, the last key at 755, and at 757 how many channels the board has. One size for both boards: behind four
 -- channels of its own a board keeps four that are free. Assumes nothing.
 --
 --   CHANNEL, LOCKS, WAITING, OPENS, LAST, CHANNELS, STATE   the size of a channel, where the other parts begin, the size of all
 --   markOf b              a mark as a byte: 1 or 0
---   keyBytes k            2 bytes, the high one first: a key, or the open count
+--   keyBytes k            2 bytes, the high one first; keysBytes ks: the bytes of keys, one behind the other
+--   openBytes q           65 bytes: how many keys are open, then 32 keys
 --   queueBytes q          65 bytes: the count, then the 64 ids
 --   channelBytes c        70 bytes: its key, its precedence as it is stored (itself plus 128), its lock mark, its stop mark, its queue
 --   channelsBytes cs      the bytes of channels, one behind the other
---   imageOf b             the 695 bytes of a board
---   keyAt, queueAt, channelAt bs at   the key, the queue, the channel that stand at a place
+--   imageOf b             the 758 bytes of a board
+--   keyAt, queueAt, openAt, channelAt bs at   the key, the queue, the open keys, the channel that stand at a place
+--   keysFrom n bs at      n keys from a place on
 --   channelsAt n bs at    n channels from a place on
---   stateOf bs            the board that 695 bytes hold
+--   stateOf bs            the board that 758 bytes hold
 --   isByte b, isMark b    a number that a byte can have; one that a mark can have
 --   marksAt bs at         the two marks of the channel at a place are marks; allMarks n bs at: those of n channels from there on
---   isWhole bs, Whole bs  695 bytes, each below 256, and every mark of theirs is 0 or 1; others hold no struct
+--   isWhole bs, Whole bs  758 bytes, each below 256, and every mark of theirs is 0 or 1; others hold no struct
 --   Wrote l at vs n l′    the n bytes vs were written at a place, and every other byte is as before
 --   Filled q, AllFilled cs, Sized b   a queue, the queues of channels, a struct, of the lengths that the code's types keep
 --   Entered l cs l′       the bytes of eight channels were written in front of a list
@@ -28,6 +30,7 @@ use lib.ListN.{length, getD, take, drop}
 use Rattle.memory.specs.Splice.{splice}
 use Rattle.machine.specs.Lists.{if_then_else_, all}
 use Rattle.queue.specs.declared.Queue.{Queue}
+use Rattle.open_keys.specs.declared.Keys.{Keys}
 use Rattle.channel.specs.declared.Channel.{Channel}
 use Rattle.board.specs.declared.Board.{Board}
 use Rattle.store.specs.Store.{Each}
@@ -45,13 +48,13 @@ abbrev pub OPENS : ℕ
 OPENS = 690
 
 abbrev pub LAST : ℕ
-LAST = 692
+LAST = 755
 
 abbrev pub CHANNELS : ℕ
-CHANNELS = 694
+CHANNELS = 757
 
 abbrev pub STATE : ℕ
-STATE = 695
+STATE = 758
 
 -- ---- to bytes
 
@@ -64,6 +67,13 @@ keyBytes k = (k / 256) ∷ (k % 256) ∷ []
 abbrev pub queueBytes : Queue → List ℕ
 queueBytes q = q .n ∷ q .ids
 
+unfoldable pub keysBytes : List ℕ → List ℕ
+keysBytes [] = []
+keysBytes (k ∷ ks) = keyBytes k ++ keysBytes ks
+
+abbrev pub openBytes : Keys → List ℕ
+openBytes q = q .n ∷ keysBytes (q .keys)
+
 unfoldable pub channelBytes : Channel → List ℕ
 channelBytes c = keyBytes (c .key) ++ (c .prec ∷ markOf (c .locked) ∷ markOf (c .stopped) ∷ queueBytes (c .writes))
 
@@ -75,7 +85,7 @@ unfoldable pub imageOf : Board → List ℕ
 imageOf b =
     let s = b .state in
     channelsBytes (s .channels)
-    ++ (queueBytes (s .locks) ++ (queueBytes (s .waiting) ++ (keyBytes (s .opens) ++ (keyBytes (s .last) ++ (b .width ∷ [])))))
+    ++ (queueBytes (s .locks) ++ (queueBytes (s .waiting) ++ (openBytes (s .opens) ++ (keyBytes (s .last) ++ (b .width ∷ [])))))
 
 -- ---- from bytes
 
@@ -84,6 +94,13 @@ keyAt bs at = getD bs at 0 * 256 + getD bs (at + 1) 0
 
 unfoldable pub queueAt : List ℕ → ℕ → Queue
 queueAt bs at = record { n = getD bs at 0; ids = take 64 (drop (at + 1) bs) }
+
+unfoldable pub keysFrom : ℕ → List ℕ → ℕ → List ℕ
+keysFrom zero bs at = []
+keysFrom (suc n) bs at = keyAt bs at ∷ keysFrom n bs (at + 2)
+
+unfoldable pub openAt : List ℕ → ℕ → Keys
+openAt bs at = record { n = getD bs at 0; keys = keysFrom 32 bs (at + 1) }
 
 unfoldable pub channelAt : List ℕ → ℕ → Channel
 channelAt bs at =
@@ -108,7 +125,7 @@ stateOf bs =
             channels = channelsAt 8 bs 0;
             locks = queueAt bs LOCKS;
             waiting = queueAt bs WAITING;
-            opens = keyAt bs OPENS;
+            opens = openAt bs OPENS;
             last = keyAt bs LAST;
           };
     }
@@ -147,6 +164,7 @@ pub record Sized (b : Board) : Type 0 where
   pub channels : AllFilled (b .state .channels)
   pub locks : Filled (b .state .locks)
   pub waiting : Filled (b .state .waiting)
+  pub opens : length (b .state .opens .keys) ≡ 32
 
 -- ---- the promises
 

@@ -21,7 +21,7 @@ use Rattle.machine_laws.proofs.Lists.{Sub, sub-refl, sub-nil, sub-append, sub-d
 use Rattle.machine_laws.proofs.Sound.{Parts}
 use Rattle.store.specs.declared.State.{State}
 use Rattle.store.specs.Store.{structOf, stateIn, requestIn, Held, Each}
-use Rattle.store.proofs.Store.{held-parts, held-waiting, waiting-count, ids-few}
+use Rattle.store.proofs.Store.{held-parts, held-waiting, waiting-count, ids-few, held-opens}
 use Rattle.granting.proofs.Laws.{held-channels}
 use Rattle.leaving.specs.Leaving.{others, Tidy, struck, cleaned, leaving, left}
 
@@ -182,4 +182,4 @@ leave-struct {st} {tb} h i =
     let cs : map (cleaned i) (st .channels) ≡ map channelOf (map (without i) (s .channels)) = ap (map (cleaned i)) (held-channels h) ∙ cleaned-all i (s .channels) in
     let ls = ap (λ (x : State). x .locks) (h .struct) in
     let ws : struck i (st .waiting) ≡ queueOf (map (λ r. r .id) (left i s .waiting)) = ap queueOf (kept-ids i tb (listOf (st .waiting))) in
-    λ k. record { channels = cs k; locks = ls k; waiting = ws k; opens = st .opens; last = st .last }
+    λ k. record { channels = cs k; locks = ls k; waiting = ws k; opens = held-opens h k; last = st .last }

@@ -1,12 +1,13 @@
-// The state read from the 695 bytes that a caller keeps, which `image` has tested. Assumes nothing.
+// The state read from the 758 bytes that a caller keeps, which `image` has tested. Assumes nothing.
 use board::Board;
 use channel::Channel;
+use open_keys::Keys;
 use queue::Queue;
 use store::State;
 ghost use mathlib.Core.Path.{_≡_};
 ghost use Prim.Native.Nat.{_+_, _≤_};
 ghost use lib.ListN.{length};
-ghost use Rattle.image.specs.Image.{queueAt, channelAt, channelsAt, stateOf, Whole};
+ghost use Rattle.image.specs.Image.{keysFrom, openAt, queueAt, channelAt, channelsAt, stateOf, Whole};
 
 fn queue_at(bytes: &[u8], at: usize) -> Queue
     requires { ⌜ at + 65 ≤ length (now bytes) ⌝ }
@@ -48,6 +49,28 @@ fn channels_at(bytes: &[u8]) -> [Channel; 8]
     cs
 }
 
+fn keys_at(bytes: &[u8], at: usize) -> [u16; Keys::ROOM]
+    requires { ⌜ at + 64 ≤ length (now bytes) ⌝ }
+    ensures { λ r. ⌜ r ≡ keysFrom 32 (now (bytes .entry)) at ⌝ }
+{
+    let mut keys = [0u16; Keys::ROOM];
+    let mut i: usize = 0;
+    while i < Keys::ROOM {
+        let k = memory::key_at(bytes, at + 2 * i);
+        keys[i] = k;
+        i += 1;
+    }
+    keys
+}
+
+fn open_at(bytes: &[u8], at: usize) -> Keys
+    requires { ⌜ at + 65 ≤ length (now bytes) ⌝ }
+    ensures { λ r. ⌜ r ≡ openAt (now (bytes .entry)) at ⌝ }
+{
+    let keys = keys_at(bytes, at + 1);
+    Keys { n: bytes[at], keys }
+}
+
 pub fn load(bytes: &[u8]) -> Board
     requires { ⌜ Whole (now bytes) ⌝ }
     ensures { λ r. ⌜ r ≡ stateOf (now (bytes .entry)) ⌝ }
@@ -55,15 +78,16 @@ pub fn load(bytes: &[u8]) -> Board
     let cs = channels_at(bytes);
     let locks = queue_at(bytes, 560);
     let waiting = queue_at(bytes, 625);
+    let opens = open_at(bytes, 690);
     let s = State {
         channels: cs,
         locks,
         waiting,
-        opens: memory::key_at(bytes, 690),
-        last: memory::key_at(bytes, 692),
+        opens,
+        last: memory::key_at(bytes, 755),
     };
     Board {
-        width: bytes[694],
+        width: bytes[757],
         state: s,
     }
 }

@@ -28,7 +28,7 @@ use Rattle.store.specs.declared.State.{State}
 use Rattle.store.specs.Store.{Item, lockItem, waitItem, writeItems, items, structOf, tableOf, stateIn, Held}
 use Rattle.store.specs.Work.{Ready, Did}
 use Rattle.store.proofs.Table.{Ins, ins-left, ins-right, ins-at, table-add}
-use Rattle.store.proofs.Store.{held-parts, keys-items, long-items, short-waits}
+use Rattle.store.proofs.Store.{held-parts, keys-items, long-items, short-waits, held-opens}
 use Rattle.granting.proofs.Laws.{held-changed}
 use Rattle.answers.specs.declared.Request.{Request}
 use Rattle.answers.specs.declared.Answer.{Answer}
@@ -96,7 +96,7 @@ module _ {st : State} {tb : List ℕ} (r : Request) (h : Held st tb) (b : r .id 
       let g : q ≡ queueOf (map (λ (y : LockM). y .id) (s .locks ++ lockOf r ∷ [])) =
       p ∙ ap (λ (y : Queue). pushed y (r .id)) o ∙ pushed-of is (r .id) k ∙ ap queueOf (sym (ids-more (s .locks) (lockOf r))) in
       let z : st .waiting ≡ queueOf (map (λ y. y .id) (s .waiting)) = ap (λ (y : State). y .waiting) (h .struct) in
-      λ i. record { channels = c i; locks = g i; waiting = z i; opens = st .opens; last = st .last }
+      λ i. record { channels = c i; locks = g i; waiting = z i; opens = held-opens h i; last = st .last }
 
 -- ---- LOCK
 

@@ -10,7 +10,7 @@ use borrow.Author.Tests.{lt-ltb, le-ltb, lt-leb}
 use native.Mathlib.Omega.{arith}
 use lib.Dec.{T, T-not, not-T, eqb, leb, ltb, eqb→eq, eqb-refl, eqb·suc-zero, nltb→le, nleb→lt, ltb→lt}
 use lib.ListN.{length}
-use Rattle.machine.specs.Numbers.{OPENFAIL, NOCMD, BADLENGTH, BADADDRESS, UNSOUND, NOTOPEN, INUSE, BADID, NOROOM, REQUESTS, COMBOS, ADCMD·ALLOCATE}
+use Rattle.machine.specs.Numbers.{OPENFAIL, NOCMD, BADLENGTH, BADADDRESS, UNSOUND, NOTOPEN, INUSE, BADID, NOROOM, REQUESTS, ENTRIES, COMBOS, ADCMD·ALLOCATE}
 use Rattle.machine.specs.Lists.{if_then_else_, any, all, among}
 use Rattle.machine.specs.State.{State, Call, Op, OPEN, CLOSE, ABORT, EVENT, COMMAND}
 use Rattle.machine.specs.Sound.{sound, ids}
@@ -152,15 +152,15 @@ accepted-exactly OPEN c s = (
     not-not (sound s) .0 (n .0),
     enough (c .room) REQUESTS .0 (n .1 .0),
     (counted c .0 (n .1 .1 .0), placed c s .0 (n .1 .1 .1 .0)),
-    short (s .opens) 65535 .0 (n .1 .1 .1 .1 .0),
+    short (length (s .opens)) ENTRIES .0 (n .1 .1 .1 .1 .0),
   ),
   λ p. none-first _
-      (not-not (sound s) .1 (p .0), (enough (c .room) REQUESTS .1 (p .1), (counted c .1 (p .2 .0), (placed c s .1 (p .2 .1), (short (s .opens) 65535 .1 (p .3), tt))))),
+      (not-not (sound s) .1 (p .0), (enough (c .room) REQUESTS .1 (p .1), (counted c .1 (p .2 .0), (placed c s .1 (p .2 .1), (short (length (s .opens)) ENTRIES .1 (p .3), tt))))),
 )
 accepted-exactly CLOSE c s = (
   λ e. let n = first-none _ e in
-      (not-not (sound s) .0 (n .0), enough (c .room) REQUESTS .0 (n .1 .0), some (s .opens) .0 (n .1 .1 .0)),
-  λ p. none-first _ (not-not (sound s) .1 (p .0), (enough (c .room) REQUESTS .1 (p .1), (some (s .opens) .1 (p .2), tt))),
+      (not-not (sound s) .0 (n .0), enough (c .room) REQUESTS .0 (n .1 .0), not-not (among (c .key) (s .opens)) .0 (n .1 .1 .0)),
+  λ p. none-first _ (not-not (sound s) .1 (p .0), (enough (c .room) REQUESTS .1 (p .1), (not-not (among (c .key) (s .opens)) .1 (p .2), tt))),
 )
 accepted-exactly ABORT c s = (
   λ e. let n = first-none _ e in
@@ -178,11 +178,11 @@ accepted-exactly (COMMAND n) c s = (
     enough (c .room) REQUESTS .0 (f .1 .0),
     enough 63 (c .id) .0 (f .1 .1 .0),
     f .1 .1 .1 .0,
-    some (s .opens) .0 (f .1 .1 .1 .1 .0),
+    some (length (s .opens)) .0 (f .1 .1 .1 .1 .0),
     known n .0 (f .1 .1 .1 .1 .1 .0),
     reads (allocates (kind n)) n c s (allocates-alone n) .0 (f .1 .1 .1 .1 .1 .1 .0, f .1 .1 .1 .1 .1 .1 .1 .0),
   ),
   λ p. let r = reads (allocates (kind n)) n c s (allocates-alone n) .1 (p .6) in
       none-first _
-      (not-not (sound s) .1 (p .0), (enough (c .room) REQUESTS .1 (p .1), (enough 63 (c .id) .1 (p .2), (p .3, (some (s .opens) .1 (p .4), (known n .1 (p .5), (r .0, (r .1, tt)))))))),
+      (not-not (sound s) .1 (p .0), (enough (c .room) REQUESTS .1 (p .1), (enough 63 (c .id) .1 (p .2), (p .3, (some (length (s .opens)) .1 (p .4), (known n .1 (p .5), (r .0, (r .1, tt)))))))),
 )

@@ -1,6 +1,7 @@
 -- Document 01, "Numbers a caller can get back": which steps of the order concern each operation, and what a call must meet to be
 -- accepted. "Order: 1, 5, 4, 3, 2, -3, -4, -5, then -1 for OPEN, .. Steps that don't concern a call are skipped: OPEN, CLOSE and
 -- the event carry no id; OPEN, ABORT and the event don't need an open device; ABORT isn't refused for an outstanding id."
+-- Document 02, #105: "OPEN at 32 entries gets -1"; "CLOSE .. gets 2 if there is none".
 -- Assumes nothing.
 --
 --   steps o         the numbers with which the operation may be refused, in their order
@@ -12,7 +13,7 @@ use mathlib.Core.Bool.{not}
 use mathlib.Core.List.{List, [], _∷_}
 use lib.Dec.{T, ltb}
 use lib.ListN.{length}
-use Rattle.machine.specs.Numbers.{OPENFAIL, NOCMD, BADLENGTH, BADADDRESS, UNSOUND, NOTOPEN, INUSE, BADID, NOROOM, REQUESTS, COMBOS, ADCMD·ALLOCATE}
+use Rattle.machine.specs.Numbers.{OPENFAIL, NOCMD, BADLENGTH, BADADDRESS, UNSOUND, NOTOPEN, INUSE, BADID, NOROOM, REQUESTS, COMBOS, ENTRIES, ADCMD·ALLOCATE}
 use Rattle.machine.specs.Lists.{among, all}
 use Rattle.machine.specs.State.{State, Call, Op, OPEN, CLOSE, ABORT, EVENT, COMMAND}
 use Rattle.machine.specs.Sound.{sound, ids}
@@ -37,10 +38,10 @@ abbrev pub Reads : ℕ → Call → State → Type 0
 Reads n c s = (n ≡ ADCMD·ALLOCATE → Listed c s) × ((n ≡ ADCMD·ALLOCATE → ⊥) → Mapped c s)
 
 unfoldable pub Passes : Op → Call → State → Type 0
-Passes OPEN c s = T (sound s) × (REQUESTS ≤ c .room) × Listed c s × (s .opens < 65535)
-Passes CLOSE c s = T (sound s) × (REQUESTS ≤ c .room) × (0 < s .opens)
+Passes OPEN c s = T (sound s) × (REQUESTS ≤ c .room) × Listed c s × (length (s .opens) < ENTRIES)
+Passes CLOSE c s = T (sound s) × (REQUESTS ≤ c .room) × T (among (c .key) (s .opens))
 Passes ABORT c s = T (sound s) × (REQUESTS ≤ c .room) × (c .id ≤ 63)
 Passes EVENT c s = T (sound s) × (REQUESTS ≤ c .room) × Mapped c s
 Passes (COMMAND n) c s =
-    T (sound s) × (REQUESTS ≤ c .room) × (c .id ≤ 63) × T (not (among (c .id) (ids s))) × (0 < s .opens) × T (among n listed)
+    T (sound s) × (REQUESTS ≤ c .room) × (c .id ≤ 63) × T (not (among (c .id) (ids s))) × (0 < length (s .opens)) × T (among n listed)
     × Reads n c s

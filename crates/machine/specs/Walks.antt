@@ -6,7 +6,7 @@
 --   Computes vs         each call, on its state, gives the outcome beside it
 --   chan, lock, wait    a channel (key, precedence + 128, locked, stopped, writes), a lock (id, key, map), a waiting
 --                       request (id, key, precedence + 128, NOWAIT, combinations)
---   stands              a state: channels, locks, waiting requests, open count, last key
+--   stands              a state: channels, locks, waiting requests, open keys, last key
 --   asks                a call: operation, id, flags, map, precedence + 128, key, combinations, reply records lent
 --   says, reply         an answer (outstanding, error, map, key, last byte); a reply (id, command, error, map, key)
 --   gets                an outcome: answer, replies, next state
@@ -40,8 +40,8 @@ lock i k m = record { id = i; key = k; map = m }
 abbrev pub wait : ℕ → ℕ → ℕ → Bool → List ℕ → Request
 wait i k p n ms = record { id = i; key = k; prec = p; impatient = n; combos = ms }
 
-abbrev pub stands : List Channel → List Lock → List Request → ℕ → ℕ → State
-stands cs ls ws n k = record { channels = cs; locks = ls; waiting = ws; opens = n; last = k }
+abbrev pub stands : List Channel → List Lock → List Request → List ℕ → ℕ → State
+stands cs ls ws os k = record { channels = cs; locks = ls; waiting = ws; opens = os; last = k }
 
 abbrev pub asks : Op → ℕ → ℕ → ℕ → ℕ → ℕ → List ℕ → ℕ → Call
 asks o i f m p k ms n = record { op = o; id = i; flags = f; map = m; prec = p; key = k; combos = ms; room = n }
@@ -57,10 +57,10 @@ gets a rs s = record { answer = a; replies = rs; next = s }
 
 -- channel 0 is taken at precedence 127; request 60 waits for channels 2 and 3, which are free
 abbrev pub unrested : State
-unrested = stands (chan 1 255 false false [] ∷ free ∷ free ∷ free ∷ []) [] (wait 60 0 128 false (12 ∷ []) ∷ []) 1 1
+unrested = stands (chan 1 255 false false [] ∷ free ∷ free ∷ free ∷ []) [] (wait 60 0 128 false (12 ∷ []) ∷ []) (1 ∷ []) 1
 
 abbrev pub rested : State
-rested = stands (chan 1 255 false false [] ∷ free ∷ chan 2 128 false false [] ∷ chan 2 128 false false [] ∷ []) [] [] 1 2
+rested = stands (chan 1 255 false false [] ∷ free ∷ chan 2 128 false false [] ∷ chan 2 128 false false [] ∷ []) [] [] (1 ∷ []) 2
 
 -- "After every call, except one answered 1 to 5, -1, -3, -4 or -5 and an OPEN answered -11, walk from the head."
 abbrev pub walks : List Vector

@@ -9,6 +9,7 @@ pub mod Looking
 pub mod Refusals
 pub mod Commands
 pub mod Opens
+pub mod OpenKeys
 pub mod Allocating
 pub mod Resting
 pub mod Keeping

@@ -1,4 +1,4 @@
--- Why settling leaves the open count: it grants, drops and holds, and none of these touches the count.
+-- Why settling leaves the open keys: it grants, drops and holds, and none of these touches the table.
 -- Assumes nothing.
 use Prim.Native.Nat.{ℕ, zero, suc}
 use mathlib.Core.Path.{_≡_, refl}

@@ -13,15 +13,16 @@ ghost use Rattle.store.specs.Store.{stateIn};
 ghost use Rattle.store.specs.Work.{Ready};
 ghost use Rattle.answers.specs.Answers.{callOf, Does};
 
-// It is granted a map, and the device is open once more.
+// It is granted a map, and the key that it is answered has an entry behind the others.
 fn enter(r: Request, s: State, table: &mut [u8], replies: &mut [u8], map: u8) -> Outcome
-    requires { ⌜ Ready s (now table) (now replies) 0 (length (abortedIn map (stateIn s (now table) .channels))) × (s .opens < 65535) ⌝ }
+    requires { ⌜ Ready s (now table) (now replies) 0 (length (abortedIn map (stateIn s (now table) .channels))) × (s .opens .n < 32) ⌝ }
     ensures { λ d. ⌜ ((ms : List ℕ) → Does (opening (grants map) (callOf r ms)) s (now (table .entry)) (now (replies .entry)) d (now (table .exit)) (now (replies .exit))) ⌝ }
 {
     let g = granting::grant(s, table, replies, 0, map, r.key, r.prec);
     let yes = answers::done(0, map, g.key, 255);
     let mut t = g.state;
-    t.opens = t.opens + 1;
+    let opens = t.opens;
+    t.opens = opens.add(g.key);
     Outcome {
         answer: yes,
         state: t,
@@ -31,7 +32,7 @@ fn enter(r: Request, s: State, table: &mut [u8], replies: &mut [u8], map: u8) ->
 
 // OPEN never waits: failing or held, it is answered -11 and nothing is changed.
 pub fn open(r: Request, s: State, combos: &[u8], table: &mut [u8], replies: &mut [u8]) -> Outcome
-    requires { ⌜ Ready s (now table) (now replies) 0 1 × (s .opens < 65535) ⌝ }
+    requires { ⌜ Ready s (now table) (now replies) 0 1 × (s .opens .n < 32) ⌝ }
     ensures { λ d. ⌜ Does (doOpen (callOf r (now (combos .entry)))) s (now (table .entry)) (now (replies .entry)) d (now (table .exit)) (now (replies .exit)) ⌝ }
 {
     let cs = s.channels;

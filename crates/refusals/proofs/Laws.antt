@@ -14,9 +14,10 @@ use Rattle.machine.specs.Sound.{sound, ids}
 use Rattle.machine.specs.Kinds.{kind, unknown, allocates}
 use Rattle.machine.specs.Refusals.{refused, first, badList, badMaps, badMap, refusal}
 use Rattle.machine.proofs.Tests.{by-test, test-true, test-false}
+use Rattle.open_keys.specs.OpenKeys.{keysIn}
 use Rattle.board.specs.declared.Board.{Board}
 use Rattle.board.specs.Board.{topOf, stateIn, Held}
-use Rattle.board.proofs.Laws.{top-pow, held-parts, held-width, held-sized}
+use Rattle.board.proofs.Laws.{top-pow, held-parts, held-width, held-sized, held-opens-count}
 use Rattle.answers.specs.declared.Request.{Request}
 use Rattle.refusals.specs.declared.Op.{Op}
 use Rattle.refusals.specs.declared.Op.the-variants.{Open, Close, Abort, Event, Command}
@@ -44,7 +45,7 @@ module _ (c : Call) (s : StateM) (ok : T (sound s)) where
   short-list (COMMAND n) h = rw (test-true (sound s) ok, lt-ltb _ _ h)
 
   module _ (h : 64 ≤ c .room) where
-    close-left : refusal CLOSE c s ≡ first (closeTests (s .opens))
+    close-left : refusal CLOSE c s ≡ first (closeTests (c .key) (s .opens))
     unfolding refusal first
     close-left = rw (test-true (sound s) ok, le-ltb _ _ h)
 
@@ -53,7 +54,7 @@ module _ (c : Call) (s : StateM) (ok : T (sound s)) where
     abort-left = rw (test-true (sound s) ok, le-ltb _ _ h)
 
     module _ (bound : ℕ) (wide : 2 ^ length (s .channels) ≡ bound) where
-      open-left : refusal OPEN c s ≡ first (openTests bound (c .combos) (s .opens))
+      open-left : refusal OPEN c s ≡ first (openTests bound (c .combos) (length (s .opens)))
       unfolding refusal first badList
       open-left = rw (test-true (sound s) ok, le-ltb _ _ h, maps-below bound c s wide)
 
@@ -66,7 +67,7 @@ module _ (c : Call) (s : StateM) (ok : T (sound s)) where
           ≡ first
           ((ltb 63 (c .id), 4)
           ∷ (u, 3)
-          ∷ (eqb (s .opens) 0, 2)
+          ∷ (eqb (length (s .opens)) 0, 2)
           ∷ (unknown (kind n), 253)
           ∷ (allocates (kind n) && ltb 16 (length (c .combos)), 252)
           ∷ (if allocates (kind n) then any (high bound) (c .combos) else high bound (c .map), 251)
@@ -92,10 +93,16 @@ module _ {o : Op} {r : Request} {b : Board} {ms tb : List ℕ} {len : ℕ} (h : 
   no-room l = record { number = sym (ap numberOf (short-list (askedOf o r ms len) (stateIn b tb) (h .sane) (opIn o (r .command)) (omega arith))) }
 
 module _ {r : Request} {b : Board} {ms tb : List ℕ} {len : ℕ} (h : Held b tb) (l : 384 ≤ len) {top : ℕ} (t : top ≡ topOf (b .width)) {e : ℕ} where
-  pub open-told : e ≡ numberOf (first (openTests (top + 1) ms (b .state .opens))) → Refuses Open r b ms tb len e
-  open-told q = record { number = q ∙ sym (ap numberOf (open-left (askedOf Open r ms len) (stateIn b tb) (h .sane) (room-six len l) (top + 1) (bound-is h t))) }
+  pub open-told : e ≡ numberOf (first (openTests (top + 1) ms (b .state .opens .n))) → Refuses Open r b ms tb len e
+  open-told q =
+      record {
+        number =
+            q
+            ∙ ap (λ (n : ℕ). numberOf (first (openTests (top + 1) ms n))) (held-opens-count h .0)
+            ∙ sym (ap numberOf (open-left (askedOf Open r ms len) (stateIn b tb) (h .sane) (room-six len l) (top + 1) (bound-is h t)));
+      }
 
-  pub close-told : e ≡ numberOf (first (closeTests (b .state .opens))) → Refuses Close r b ms tb len e
+  pub close-told : e ≡ numberOf (first (closeTests (r .key) (keysIn (b .state .opens)))) → Refuses Close r b ms tb len e
   close-told q = record { number = q ∙ sym (ap numberOf (close-left (askedOf Close r ms len) (stateIn b tb) (h .sane) (room-six len l))) }
 
   pub abort-told : e ≡ numberOf (first (abortTests (r .id))) → Refuses Abort r b ms tb len e
@@ -104,11 +111,12 @@ module _ {r : Request} {b : Board} {ms tb : List ℕ} {len : ℕ} (h : Held b tb
   pub event-told : e ≡ numberOf (first (eventTests (top + 1) (r .map))) → Refuses Event r b ms tb len e
   event-told q = record { number = q ∙ sym (ap numberOf (event-left (askedOf Event r ms len) (stateIn b tb) (h .sane) (room-six len l) (top + 1) (bound-is h t))) }
 
-  pub command-told : e ≡ numberOf (first (commandTests (top + 1) r ms tb (b .state .opens))) → Refuses Command r b ms tb len e
+  pub command-told : e ≡ numberOf (first (commandTests (top + 1) r ms tb (b .state .opens .n))) → Refuses Command r b ms tb len e
   command-told q =
       record {
         number =
             q
+            ∙ ap (λ (n : ℕ). numberOf (first (commandTests (top + 1) r ms tb n))) (held-opens-count h .0)
             ∙ sym
             (ap numberOf
             (command-left (askedOf Command r ms len) (stateIn b tb) (h .sane) (room-six len l) (top + 1) (bound-is h t) (r .command) (used tb (r .id))

@@ -4,16 +4,16 @@
 --   opIn o n               the machine's operation; a command has its number n
 --   askedOf o r ms len     the machine's call: a request with combinations ms and a reply list of len bytes, six to a record
 --   openTests .. commandTests    the tests after 1 and 5, which every operation has, each with its number; the board's maps are
---                          those below the bound
+--                          those below the bound, and so many keys are open
 --   Refuses .. e           what `refusal` promises of a sound state: the number of the machine's refusal
 use Prim.Native.Nat.{ℕ, _/_}
 use mathlib.Core.Path.{_≡_}
-use mathlib.Core.Bool.{Bool, _&&_}
+use mathlib.Core.Bool.{Bool, not, _&&_}
 use mathlib.Core.List.{List, [], _∷_}
 use lib.Dec.{eqb, leb, ltb}
 use lib.ListN.{length}
-use Rattle.machine.specs.Numbers.{OPENFAIL, NOCMD, BADLENGTH, BADADDRESS, NOTOPEN, INUSE, BADID, COMBOS}
-use Rattle.machine.specs.Lists.{if_then_else_, any}
+use Rattle.machine.specs.Numbers.{OPENFAIL, NOCMD, BADLENGTH, BADADDRESS, NOTOPEN, INUSE, BADID, COMBOS, ENTRIES}
+use Rattle.machine.specs.Lists.{if_then_else_, any, among}
 use Rattle.machine.specs.State.{Call, Op as OpM, OPEN, CLOSE, ABORT, EVENT, COMMAND}
 use Rattle.machine.specs.Kinds.{kind, unknown, allocates}
 use Rattle.machine.specs.Refusals.{refusal}
@@ -45,10 +45,10 @@ askedOf o r ms len =
     }
 
 abbrev pub openTests : ℕ → List ℕ → ℕ → List (Bool × ℕ)
-openTests bound ms opens = (ltb COMBOS (length ms), BADLENGTH) ∷ (any (high bound) ms, BADADDRESS) ∷ (leb 65535 opens, OPENFAIL) ∷ []
+openTests bound ms opens = (ltb COMBOS (length ms), BADLENGTH) ∷ (any (high bound) ms, BADADDRESS) ∷ (leb ENTRIES opens, OPENFAIL) ∷ []
 
-abbrev pub closeTests : ℕ → List (Bool × ℕ)
-closeTests opens = (eqb opens 0, NOTOPEN) ∷ []
+abbrev pub closeTests : ℕ → List ℕ → List (Bool × ℕ)
+closeTests key os = (not (among key os), NOTOPEN) ∷ []
 
 abbrev pub abortTests : ℕ → List (Bool × ℕ)
 abortTests id = (ltb 63 id, BADID) ∷ []

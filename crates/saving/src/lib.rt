@@ -1,12 +1,13 @@
-// The state written as the 695 bytes that a caller keeps (image's specs/Image.antt has the layout, and what is promised).
+// The state written as the 758 bytes that a caller keeps (image's specs/Image.antt has the layout, and what is promised).
 // Assumes nothing.
 use board::Board;
 use channel::Channel;
+use open_keys::Keys;
 use queue::Queue;
 ghost use mathlib.Core.Path.{_≡_};
 ghost use Prim.Native.Nat.{_+_, _≤_, _<_};
 ghost use lib.ListN.{length, set};
-ghost use Rattle.image.specs.Image.{markOf, queueBytes, channelBytes, Wrote, Entered, Saved};
+ghost use Rattle.image.specs.Image.{markOf, keysBytes, openBytes, queueBytes, channelBytes, Wrote, Entered, Saved};
 
 fn mark(on: bool) -> u8
     ensures { λ r. ⌜ r ≡ markOf on ⌝ }
@@ -47,26 +48,48 @@ fn put_channels(bytes: &mut [u8], cs: [Channel; 8])
     }
 }
 
+fn put_keys(bytes: &mut [u8], at: usize, keys: [u16; Keys::ROOM])
+    requires { ⌜ at + 64 ≤ length (now bytes) ⌝ }
+    ensures { λ _. ⌜ Wrote (now (bytes .entry)) at (keysBytes keys) 64 (now (bytes .exit)) ⌝ }
+{
+    let mut i: usize = 0;
+    while i < Keys::ROOM {
+        let k = keys[i];
+        memory::put_key(bytes, at + 2 * i, k);
+        i += 1;
+    }
+}
+
+fn put_open(bytes: &mut [u8], at: usize, opens: Keys)
+    requires { ⌜ at + 65 ≤ length (now bytes) ⌝ }
+    ensures { λ _. ⌜ Wrote (now (bytes .entry)) at (openBytes opens) 65 (now (bytes .exit)) ⌝ }
+{
+    let keys = opens.keys;
+    bytes[at] = opens.n;
+    put_keys(bytes, at + 1, keys);
+}
+
 // How many channels the board has, in the last byte.
 fn put_width(bytes: &mut [u8], width: u8)
-    requires { ⌜ 694 < length (now bytes) ⌝ }
-    ensures { λ _. ⌜ now (bytes .exit) ≡ set (now (bytes .entry)) 694 width ⌝ }
+    requires { ⌜ 757 < length (now bytes) ⌝ }
+    ensures { λ _. ⌜ now (bytes .exit) ≡ set (now (bytes .entry)) 757 width ⌝ }
 {
-    bytes[694] = width;
+    bytes[757] = width;
 }
 
 pub fn save(b: Board, bytes: &mut [u8])
-    requires { ⌜ length (now bytes) ≡ 695 ⌝ }
+    requires { ⌜ length (now bytes) ≡ 758 ⌝ }
     ensures { λ _. ⌜ Saved b (now (bytes .exit)) ⌝ }
 {
     let s = b.state;
     let cs = s.channels;
     let locks = s.locks;
     let waiting = s.waiting;
+    let opens = s.opens;
     put_channels(bytes, cs);
     put_queue(bytes, 560, locks);
     put_queue(bytes, 625, waiting);
-    memory::put_key(bytes, 690, s.opens);
-    memory::put_key(bytes, 692, s.last);
+    put_open(bytes, 690, opens);
+    memory::put_key(bytes, 755, s.last);
     put_width(bytes, b.width);
 }

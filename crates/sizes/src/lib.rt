@@ -7,7 +7,7 @@ ghost use Rattle.sizes.specs.Sizes.{TABLE, REPLIES, ANSWER, PORT, ROOM};
 pub fn state_size() -> usize
     ensures { λ r. ⌜ r ≡ STATE ⌝ }
 {
-    695
+    758
 }
 
 pub fn table_size() -> usize
@@ -67,11 +67,11 @@ pub fn offset_of_opens() -> usize
 pub fn offset_of_last() -> usize
     ensures { λ r. ⌜ r ≡ LAST ⌝ }
 {
-    692
+    755
 }
 
 pub fn offset_of_channels() -> usize
     ensures { λ r. ⌜ r ≡ CHANNELS ⌝ }
 {
-    694
+    757
 }

@@ -1,4 +1,5 @@
--- Every sound state has its bytes: each number of it fits, and no queue of it has more than 64 ids. Assumes nothing.
+-- Every sound state has its bytes: each number of it fits, no queue of it has more than 64 ids, and no more than 32 keys are open.
+-- Assumes nothing.
 use Prim.Native.Nat.{ℕ, zero, suc, _+_, _-_, _/_, _%_, _≤_, _<_}
 use mathlib.Core.Path.{refl, ap, _∙_}
 use mathlib.Core.Bool.{Bool, true, false, not, _&&_}
@@ -8,17 +9,21 @@ use lib.Dec.{T, eqb, leb, ltb, eqb→eq, leb→le, ltb→lt, lt→ltb}
 use lib.ListN.{length, replicate, length-append, length-map}
 use Rattle.machine.specs.Lists.{all}
 use Rattle.machine.specs.State.{State as StateM, Channel as ChannelM, Lock, Request, isFree}
-use Rattle.machine.specs.Sound.{soundChannel, writesOf, ids}
+use Rattle.machine.specs.Numbers.{KEYS, ENTRIES}
+use Rattle.machine.specs.Sound.{soundChannel, writesOf, ids, soundOpens}
 use Rattle.machine.proofs.Tests.{by-test, test-true, test-false, and-left, and-right, and-both}
+use Rattle.machine.proofs.Closing.{opens-most}
 use Rattle.machine_laws.proofs.Lists.{all-append}
 use Rattle.machine_laws.proofs.Sound.{Parts, ids-few}
 use Rattle.queue.specs.Queue.{queueOf}
 use Rattle.queue.proofs.Laws.{length-pad}
+use Rattle.open_keys.specs.OpenKeys.{keysOf}
+use Rattle.open_keys.proofs.Laws.{length-pad as length-keys}
 use Rattle.channel.specs.Channel.{channelOf}
 use Rattle.widening.specs.Widening.{widen}
 use Rattle.board.specs.Board.{structOf}
 use Rattle.board.proofs.Laws.{own-wide, own-eight}
-use Rattle.image.specs.Image.{markOf, keyBytes, queueBytes, channelBytes, channelsBytes, imageOf, isByte, Filled, AllFilled, Sized, Saved}
+use Rattle.image.specs.Image.{markOf, keyBytes, keysBytes, openBytes, queueBytes, channelBytes, channelsBytes, imageOf, isByte, Filled, AllFilled, Sized, Saved}
 use Rattle.image.proofs.Round.{imageOf-whole}
 
 -- ---- all of a list
@@ -67,6 +72,24 @@ ids-bytes (x ∷ l) t =
 
 queue-bytes : (l : List ℕ) → length l ≤ 64 → Ids l → Bytes (queueBytes (queueOf l))
 queue-bytes l h t = one-byte (length l) (l ++ replicate (64 - length l) 0) (omega arith) (all-append isByte l (replicate (64 - length l) 0) (ids-bytes l t) (zero-bytes (64 - length l)))
+
+no-keys : (n : ℕ) → Bytes (keysBytes (replicate n 0))
+unfolding keysBytes
+no-keys zero = no-bytes
+no-keys (suc n) = all-append isByte (keyBytes 0) (keysBytes (replicate n 0)) (key-bytes 0 (omega arith)) (no-keys n)
+
+keys-bytes : (ks : List ℕ) (n : ℕ) → T (all (λ k. leb 1 k && leb k KEYS) ks) → Bytes (keysBytes (ks ++ replicate n 0))
+unfolding keysBytes all
+keys-bytes [] n t = no-keys n
+keys-bytes (k ∷ ks) n t =
+    let h = leb→le k KEYS (and-right (leb 1 k) (leb k KEYS) (and-left (leb 1 k && leb k KEYS) (all (λ k. leb 1 k && leb k KEYS) ks) t)) in
+    all-append isByte (keyBytes k) (keysBytes (ks ++ replicate n 0)) (key-bytes k h) (keys-bytes ks n (and-right (leb 1 k && leb k KEYS) (all (λ k. leb 1 k && leb k KEYS) ks) t))
+
+open-bytes : (ks : List ℕ) → T (soundOpens ks) → Bytes (openBytes (keysOf ks))
+unfolding soundOpens
+open-bytes ks t =
+    let h = opens-most ks t in
+    one-byte (length ks) (keysBytes (ks ++ replicate (ENTRIES - length ks) 0)) (omega arith) (keys-bytes ks (ENTRIES - length ks) (and-right (leb (length ks) ENTRIES) (all (λ k. leb 1 k && leb k KEYS) ks) t))
 
 mark-byte : (b : Bool) → markOf b < 256
 mark-byte true = omega arith
@@ -140,6 +163,7 @@ module _ (s : StateM) (p : Parts s) where
         channels = parts-channels .1;
         locks = length-pad (map (λ (l : Lock). l .id) (s .locks)) few-locks;
         waiting = length-pad (map (λ (r : Request). r .id) (s .waiting)) few-waiting;
+        opens = length-keys (s .opens) (opens-most (s .opens) (p .opensOK));
       }
 
   bytes-of : Bytes (imageOf (structOf s))
@@ -148,14 +172,14 @@ module _ (s : StateM) (p : Parts s) where
       let c = channelsBytes (map channelOf (wide .channels)) in
       let l = queueBytes (queueOf (map (λ (l : Lock). l .id) (s .locks))) in
       let w = queueBytes (queueOf (map (λ (r : Request). r .id) (s .waiting))) in
-      let o = keyBytes (s .opens) in
+      let o = openBytes (keysOf (s .opens)) in
       let k = keyBytes (s .last) in
       let n = length (s .channels) ∷ [] in
       let m = leb→le (length (s .channels)) 8 (p .most) in
       all-append isByte c (l ++ (w ++ (o ++ (k ++ n)))) (parts-channels .0)
       (all-append isByte l (w ++ (o ++ (k ++ n))) (queue-bytes _ few-locks (wide-ids .1))
       (all-append isByte w (o ++ (k ++ n)) (queue-bytes _ few-waiting (wide-ids .2))
-      (all-append isByte o (k ++ n) (key-bytes (s .opens) (leb→le (s .opens) 65535 (p .opensOK)))
+      (all-append isByte o (k ++ n) (open-bytes (s .opens) (p .opensOK))
       (all-append isByte k n (key-bytes (s .last) (leb→le (s .last) 65535 (p .lastOK))) (one-byte (length (s .channels)) [] (omega arith) no-bytes)))))
 
   pub saved-of : Saved (structOf s) (imageOf (structOf s))

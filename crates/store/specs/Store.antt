@@ -1,7 +1,7 @@
 -- The representation: which struct and which table stand for a state of the machine, and which state they hold.
 -- Assumes nothing.
 --
---   structOf s        the struct of a state: its channels, the ids of its locks and waiting requests, its two numbers
+--   structOf s        the struct of a state: its channels, the ids of its locks and waiting requests, its open keys, its last key
 --   Item, items s     the outstanding ids, each with the bytes of its entry: writes by channel, locks, waiting requests
 --   keys xs, Long xs, Good xs   the ids of items; each entry is 23 bytes; no id stands twice, and all fit the table
 --   lookup i xs       the entry of id i: that of its item, and all 0 where it has none
@@ -18,6 +18,7 @@ use mathlib.Core.List.{List, [], _∷_, _++_, map}
 use lib.Dec.{T, eqb}
 use lib.ListN.{length, getD}
 use Rattle.queue.specs.Queue.{queueOf, listOf}
+use Rattle.open_keys.specs.OpenKeys.{keysOf, keysIn}
 use Rattle.channel.specs.Channel.{channelOf, channelIn}
 use Rattle.memory.specs.Splice.{block}
 use Rattle.table.specs.Entry.{idle, writeEntry, lockEntry, waitEntry, keyIn, listIn}
@@ -32,7 +33,7 @@ structOf s =
       channels = map channelOf (s .channels);
       locks = queueOf (map (λ l. l .id) (s .locks));
       waiting = queueOf (map (λ r. r .id) (s .waiting));
-      opens = s .opens;
+      opens = keysOf (s .opens);
       last = s .last;
     }
 
@@ -104,7 +105,7 @@ stateIn st tb =
       channels = map channelIn (st .channels);
       locks = map (lockIn tb) (listOf (st .locks));
       waiting = map (requestIn tb) (listOf (st .waiting));
-      opens = st .opens;
+      opens = keysIn (st .opens);
       last = st .last;
     }
 

@@ -2,6 +2,7 @@
 // table stand for a state of the machine. A board of four keeps the channels behind its own free (crate `board`): nothing here and
 // nothing below the call reads how many a board has. Assumes nothing.
 use channel::Channel;
+use open_keys::Keys;
 use queue::Queue;
 use table::Head;
 ghost use mathlib.Core.Path.{_≡_};
@@ -14,16 +15,18 @@ pub struct State {
     pub channels: [Channel; 8],
     pub locks: Queue,
     pub waiting: Queue,
-    pub opens: u16,
+    pub opens: Keys,
     pub last: u16,
 }
 
 impl State {
-    // How many requests the table has, how many combinations a list may have, and the map of all eight channels. A board's highest
+    // How many requests the table has, how many combinations a list may have, how many keys may be open, and the map of all eight channels. A board's highest
     // map is the board's to say.
     pub const REQUESTS: u8 = Queue::ROOM as u8;
 
     pub const COMBOS: usize = Head::COMBOS;
+
+    pub const OPENS: u8 = Keys::ROOM as u8;
 
     pub const TOP: u8 = 255;
 
@@ -37,7 +40,7 @@ impl State {
             channels: cs,
             locks: q,
             waiting: q,
-            opens: 0,
+            opens: Keys::none(),
             last: 0,
         }
     }

@@ -1,14 +1,15 @@
 -- Any call of the K party does to its part what it does to the state, refused or accepted: the tests that refuse it come out the
 -- same, since part and state are both sound and open, are of one length and have the same ids of the party's outstanding.
 -- Assumes nothing.
+use Rattle.machine_laws.proofs.OpenKeys.{not-empty}
 use Prim.Native.Nat.{_^_, _≤_, suc, zero, ℕ}
 use mathlib.Core.Path.{_∙_, _≡_, refl, sym}
 use mathlib.Core.Bool.{Bool, false, not, true}
 use mathlib.Core.List.{[]}
 use native.Mathlib.Omega.{arith}
-use lib.Dec.{T, eqb, eqb→eq, leb, ltb}
+use lib.Dec.{T, eqb, eqb→eq, leb, leb→le, ltb}
 use lib.ListN.{length, length-map}
-use Rattle.machine.specs.Lists.{all, if_then_else_}
+use Rattle.machine.specs.Lists.{all, if_then_else_, among}
 use Rattle.machine.specs.State.{ABORT, CLOSE, COMMAND, Call, EVENT, OPEN, Op, State}
 use Rattle.machine.specs.Maps.{at, lowest}
 use Rattle.machine.specs.Commands.{doAbort, doEvent, done, finished, flushed, reset, same, setStop, silent}
@@ -19,12 +20,14 @@ use Rattle.machine.specs.Sound.{sound}
 use Rattle.machine.proofs.Tests.{and-left, and-right, by-test, test-false, test-true}
 use Rattle.machine_laws.proofs.Refusals.{refuse-same}
 use Rattle.machine.proofs.Steps.{first-none}
-use Rattle.two_runs.specs.TwoRuns.{Party, holds, mask, maySend, ofK, onK}
+use Rattle.two_runs.specs.TwoRuns.{Party, holds, mask, maySend, onK}
+use Rattle.two_runs.specs.Core.{mayAlso, ofParty}
 use Rattle.two_runs.proofs.Part.{Ours, Ready, allowed, allowed-kind, project, projectOut}
 use Rattle.two_runs.proofs.Settle.{Loop, ready-loop, settle-calm}
 use Rattle.two_runs.proofs.OursPart.{Tame, finished-own, fit-own, none-own, own-floor, own-writes, settling-own, silent-own}
 use Rattle.two_runs.proofs.OursEach.{each-tame, setprec-tame}
 use Rattle.two_runs.proofs.OursQueue.{lock-loop, lock-own, read-loop, read-own, write-loop, write-own}
+use Rattle.two_runs.proofs.OursFree.{free-loop, free-own}
 use Rattle.two_runs.proofs.OursEvent.{event-loop, event-own}
 use Rattle.two_runs.proofs.OursAbort.{abort-loop, abort-own}
 use Rattle.two_runs.proofs.OursSound.{among-ids, project-sound}
@@ -43,7 +46,7 @@ module _ (p : Party) (real : T (not (eqb (p .key) 0))) where
   perform-tame STOP c s k m a u b lp = each-tame p real 6 (setStop true) (λ d. refl) false c s k m lp (λ d h f. fit-own p real (setStop true d) h (own-floor p real d h f) (own-writes p real d h f))
   perform-tame START c s k m a u b lp = each-tame p real 7 (setStop false) (λ d. refl) false c s k m lp (λ d h f. fit-own p real (setStop false d) h (own-floor p real d h f) (own-writes p real d h f))
   perform-tame FLUSH c s k m a u b lp = each-tame p real 8 flushed (λ d. refl) true c s k m lp (λ d h f. fit-own p real (flushed d) h (own-floor p real d h f) tt)
-  perform-tame FREE c s k m a u b lp = absurd a
+  perform-tame FREE c s k m a u b lp = record { alike = free-own p real c s k m lp; loop = free-loop p real c s lp }
   perform-tame SETPREC c s k m a u b lp = setprec-tame p real c s k m a lp
   perform-tame LOCK c s k m a u b lp = record { alike = lock-own p real c s k m; loop = lock-loop p real c s k m b lp }
   perform-tame ALLOCATE c s k m a u b lp = absurd a
@@ -72,7 +75,7 @@ not-both p LOCK c s a z = z
 not-both p ALLOCATE c s a z = a
 not-both p UNKNOWN c s a z = z
 
-module _ (p : Party) (n : ℕ) (s : State) (r : Ready p n s) where
+module _ (p : Party) (s : State) (r : Ready p s) where
   badMap-same : (c : Call) → badMap c (project p s) ≡ badMap c s
   unfolding badMap project
   badMap-same c = rw (length-map (s .channels) (mask p))
@@ -82,14 +85,14 @@ module _ (p : Party) (n : ℕ) (s : State) (r : Ready p n s) where
   badMaps-same c = rw (length-map (s .channels) (mask p))
 
   sound-same : sound (project p s) ≡ sound s
-  sound-same = test-true (sound (project p s)) (project-sound p (r .real) s (r .sane)) ∙ sym (test-true (sound s) (r .sane))
+  sound-same = test-true (sound (project p s)) (project-sound p (r .real) s (r .sane) (r .entered)) ∙ sym (test-true (sound s) (r .sane))
 
-  opens-same : eqb (project p s .opens) 0 ≡ eqb (s .opens) 0
+  opens-same : eqb (length (project p s .opens)) 0 ≡ eqb (length (s .opens)) 0
   unfolding project
-  opens-same = sym (not-zero n (s .opens) (r .opened))
+  opens-same = sym (not-empty (p .key) (s .opens) (r .entered))
 
   refusal-same : (o : Op) (c : Call) → Ours p s o c → refusal o c (project p s) ≡ refusal o c s
-  unfolding refusal ofK maySend
+  unfolding refusal ofParty maySend mayAlso
   refusal-same OPEN c t = absurd (t .sends)
   refusal-same CLOSE c t = absurd (t .sends)
   refusal-same ABORT c t = rw sound-same
@@ -121,28 +124,28 @@ module _ (p : Party) (n : ℕ) (s : State) (r : Ready p n s) where
       go x a v = by-test (allocates x) (λ z. absurd (not-both p x c s a z)) (λ z. nn (ltb (c .map) (2 ^ length (s .channels))) (rw (test-false (allocates x) z) at v))
 
   command-tame : (k : ℕ) (c : Call) → Ours p s (COMMAND k) c → refusal (COMMAND k) c s ≡ accepted → Tame p (r .real) s (perform (kind k) c s) (perform (kind k) c (project p s))
-  unfolding ofK
+  unfolding ofParty
   command-tame k c t e =
       let a = eqb (c .key) (p .key) in
       let b = p .mine (c .id) in
       let d = allowed-kind p s k c t e in
-      perform-tame p (r .real) (kind k) c s (eqb→eq (c .key) (p .key) (and-left a b (t .party))) (and-right a b (t .party)) d (command-known k c e) (command-map k c d e) (ready-loop p n s r)
+      perform-tame p (r .real) (kind k) c s (eqb→eq (c .key) (p .key) (and-left a b (t .party))) (and-right a b (t .party)) d (command-known k c e) (command-map k c d e) (ready-loop p s r)
 
   event-on : (c : Call) → Ours p s EVENT c → T (holds p (at (lowest (length (s .channels)) (c .map)) (s .channels)))
-  unfolding ofK onK
+  unfolding ofParty onK
   event-on c t = and-right (not (badMap c s)) (holds p (at (lowest (length (s .channels)) (c .map)) (s .channels))) (t .party)
 
   -- ---- every operation
 
   accept-own : (o : Op) (c : Call) → Ours p s o c → refusal o c s ≡ accepted → accept o c (project p s) ≡ projectOut p (accept o c s)
-  unfolding accept ofK maySend
+  unfolding accept ofParty maySend mayAlso
   accept-own OPEN c t e = absurd (t .sends)
   accept-own CLOSE c t e = absurd (t .sends)
   accept-own ABORT c t e =
-      settling-own p (r .real) (doAbort c s) (doAbort c (project p s)) (abort-loop p (r .real) c s (ready-loop p n s r))
-      (abort-own p (r .real) c s (and-right (eqb (c .key) (p .key)) (p .mine (c .id)) (t .party)) (r .fit) (r .low))
+      settling-own p (r .real) (doAbort c s) (doAbort c (project p s)) (abort-loop p (r .real) c s (ready-loop p s r))
+      (abort-own p (r .real) c s (t .party) (r .fit) (r .low))
   accept-own EVENT c t e =
-      settling-own p (r .real) (doEvent c s) (doEvent c (project p s)) (event-loop p (r .real) c s (ready-loop p n s r) (event-on c t)) (event-own p (r .real) c s (r .fit) (event-on c t))
+      settling-own p (r .real) (doEvent c s) (doEvent c (project p s)) (event-loop p (r .real) c s (ready-loop p s r) (event-on c t)) (event-own p (r .real) c s (r .fit) (event-on c t))
   accept-own (COMMAND k) c t e =
       let tame = command-tame k c t e in
       settling-own p (r .real) (perform (kind k) c s) (perform (kind k) c (project p s)) (tame .loop) (tame .alike)
@@ -150,7 +153,7 @@ module _ (p : Party) (n : ℕ) (s : State) (r : Ready p n s) where
   -- ---- refusals
 
   refuse-own : (o : Op) (x : ℕ) (c : Call) → Ours p s o c → refuse o x c (project p s) ≡ projectOut p (refuse o x c s)
-  unfolding refuse ofK maySend
+  unfolding refuse ofParty maySend mayAlso
   refuse-own OPEN x c t = absurd (t .sends)
   refuse-own CLOSE x c t = absurd (t .sends)
   refuse-own ABORT x c t = silent-own p (r .real) _ [] [] s _ (none-own p (r .real)) refl
@@ -178,11 +181,11 @@ module _ (p : Party) (n : ℕ) (s : State) (r : Ready p n s) where
   -- ---- and settling may follow again
 
   accept-loop : (o : Op) (c : Call) → Ours p s o c → refusal o c s ≡ accepted → Loop p (accept o c s .next)
-  unfolding accept ofK maySend settling
+  unfolding accept ofParty maySend mayAlso settling
   accept-loop OPEN c t e = absurd (t .sends)
   accept-loop CLOSE c t e = absurd (t .sends)
-  accept-loop ABORT c t e = settle-calm p (doAbort c s .next) (abort-loop p (r .real) c s (ready-loop p n s r)) .loop
-  accept-loop EVENT c t e = settle-calm p (doEvent c s .next) (event-loop p (r .real) c s (ready-loop p n s r) (event-on c t)) .loop
+  accept-loop ABORT c t e = settle-calm p (doAbort c s .next) (abort-loop p (r .real) c s (ready-loop p s r)) .loop
+  accept-loop EVENT c t e = settle-calm p (doEvent c s .next) (event-loop p (r .real) c s (ready-loop p s r) (event-on c t)) .loop
   accept-loop (COMMAND k) c t e = settle-calm p (perform (kind k) c s .next) (command-tame k c t e .loop) .loop
 
   pub ours-loop : (c : Call) → Ours p s (c .op) c → Loop p (call s c .next)
@@ -191,4 +194,4 @@ module _ (p : Party) (n : ℕ) (s : State) (r : Ready p n s) where
     where
       go : (f : Refusal) → refusal (c .op) c s ≡ f → Loop p (answering f c s .next)
       go accepted e = accept-loop (c .op) c t e
-      go (refused x) e = rw (refuse-same (c .op) x c s) (ready-loop p n s r)
+      go (refused x) e = rw (refuse-same (c .op) x c s) (ready-loop p s r)

@@ -1,15 +1,15 @@
--- The K party's part of a state, and what stays true between the calls of a run: every state of a run is sound, open beyond
--- the openings of the others, and fits the party; so each call sees a state like the first. Definitions that only the proofs
+-- The K party's part of a state, and what stays true between the calls of a run: every state of a run is sound, has an
+-- entry for K, and fits the party; so each call sees a state like the first. Definitions that only the proofs
 -- need, and their first laws.
 -- Assumes nothing.
 --
 --   ownLocks p ls      the locks with K
---   project p s        the K party's part of a state: its channels and locks; nobody waits and the device is open
+--   project p s        the K party's part of a state: its channels and locks; nobody waits, and K alone is open
 --   projectOut p o     its part of an outcome: the answer, the replies to its ids, its part of the next state
 --   fitting p c        a channel with K is at P or more and has writes of the party's alone; another has none of them
 --   fittingLock p l    a lock has an id of the party's exactly if it has K
 --   lower p r          a waiting allocation is at most P, without K and without an id of the party's
---   Ready p n s        all of it, with n openings of the others that they have not closed
+--   Ready p s          all of it, in a sound state with an entry for K
 --   allowed, modestly  what the premises leave of a command of the K party's, and of the others', by its kind
 --   Ours, Theirs       the premises about one call, of an operation o
 use Prim.Native.Nat.{_≤_, suc, ℕ}
@@ -18,7 +18,7 @@ use mathlib.Core.Bool.{Bool, _&&_, _||_, false, not, true}
 use mathlib.Core.List.{List, [], _∷_, map}
 use lib.Dec.{T, T-not, eqb, eqb→eq, leb}
 use Rattle.machine.specs.Numbers.{ADCMD·ALLOCATE, ADCMD·FREE, ADCMD·SETPREC}
-use Rattle.machine.specs.Lists.{all, any, if_then_else_, keep}
+use Rattle.machine.specs.Lists.{all, among, if_then_else_, keep}
 use Rattle.machine.specs.State.{COMMAND, Call, Channel, Lock, Op, Outcome, Reply, Request, State, free}
 use Rattle.machine.specs.Commands.{matching}
 use Rattle.machine.specs.Kinds.{ALLOCATE, CLEAR, FLUSH, FREE, Kind, LOCK, READ, RESET, SETPREC, START, STOP, UNKNOWN, UPDATE, WRITE, kind}
@@ -26,7 +26,8 @@ use Rattle.machine.specs.Refusals.{accepted, refusal}
 use Rattle.machine.specs.Sound.{sound}
 use Rattle.machine.proofs.Tests.{and-left, and-right, by-test, if-elim, or-named, test-false, test-true}
 use Rattle.machine_laws.proofs.Lists.{keep-twice}
-use Rattle.two_runs.specs.TwoRuns.{ByK, ByOthers, Party, avoids, holds, keepsFloor, mask, mayClose, maySend, modest, ofK, ownReplies, selected, sets, view}
+use Rattle.two_runs.specs.TwoRuns.{Party, avoids, holds, keepsFloor, mask, maySend, modest, ownReplies, selected, sets, view}
+use Rattle.two_runs.specs.Core.{OfK, OfOthers, mayAlso, ofParty}
 
 -- ---- the part
 
@@ -34,7 +35,7 @@ unfoldable pub ownLocks : Party → List Lock → List Lock
 ownLocks p ls = keep (λ l. eqb (l .key) (p .key)) ls
 
 unfoldable pub project : Party → State → State
-project p s = record { channels = map (mask p) (s .channels); locks = ownLocks p (s .locks); waiting = []; opens = 1; last = 0 }
+project p s = record { channels = map (mask p) (s .channels); locks = ownLocks p (s .locks); waiting = []; opens = p .key ∷ []; last = 0 }
 
 unfoldable pub projectOut : Party → Outcome → Outcome
 projectOut p o = record { answer = o .answer; replies = ownReplies p (o .replies); next = project p (o .next) }
@@ -50,11 +51,10 @@ fittingLock p l = if eqb (l .key) (p .key) then p .mine (l .id) else not (p .min
 unfoldable pub lower : Party → Request → Bool
 lower p r = leb (r .prec) (p .floor) && not (eqb (r .key) (p .key)) && not (p .mine (r .id))
 
-pub record Ready (p : Party) (n : ℕ) (s : State) : Type 0 where
+pub record Ready (p : Party) (s : State) : Type 0 where
   pub sane : T (sound s)
-  pub opened : suc n ≤ s .opens
   pub real : T (not (eqb (p .key) 0))
-  pub present : T (any (holds p) (s .channels))
+  pub entered : T (among (p .key) (s .opens))
   pub fit : T (all (fitting p) (s .channels))
   pub fitLocks : T (all (fittingLock p) (s .locks))
   pub low : T (all (lower p) (s .waiting))
@@ -62,20 +62,19 @@ pub record Ready (p : Party) (n : ℕ) (s : State) : Type 0 where
 -- ---- one call
 
 pub record Ours (p : Party) (s : State) (o : Op) (c : Call) : Type 0 where
-  pub party : T (ofK p o c s)
-  pub sends : T (maySend o)
+  pub party : T (ofParty p o c s)
+  pub sends : T (mayAlso o || maySend o)
   pub high : T (keepsFloor p o c s)
 
-pub record Theirs (p : Party) (n : ℕ) (s : State) (o : Op) (c : Call) : Type 0 where
+pub record Theirs (p : Party) (s : State) (o : Op) (c : Call) : Type 0 where
   pub apart : T (avoids p o c s)
   pub low : T (modest p o c)
-  pub closes : T (mayClose n o)
 
-pub ours-of : (p : Party) (s : State) (c : Call) → ByK p s c → Ours p s (c .op) c
+pub ours-of : (p : Party) (s : State) (c : Call) → OfK p s c → Ours p s (c .op) c
 ours-of p s c k = record { party = k .party; sends = k .sends; high = k .high }
 
-pub theirs-of : (p : Party) (n : ℕ) (s : State) (c : Call) → ByOthers p n s c → Theirs p n s (c .op) c
-theirs-of p n s c k = record { apart = k .apart; low = k .low; closes = k .closes }
+pub theirs-of : (p : Party) (s : State) (c : Call) → OfOthers p s c → Theirs p s (c .op) c
+theirs-of p s c k = record { apart = k .apart; low = k .low }
 
 unfoldable pub allowed : Party → Kind → Call → State → Bool
 allowed p RESET c s = true
@@ -86,7 +85,7 @@ allowed p CLEAR c s = true
 allowed p STOP c s = true
 allowed p START c s = true
 allowed p FLUSH c s = true
-allowed p FREE c s = false
+allowed p FREE c s = true
 allowed p SETPREC c s = leb (p .floor) (c .prec) || eqb (matching (c .key) (c .map) (s .channels)) 0
 allowed p LOCK c s = true
 allowed p ALLOCATE c s = false
@@ -122,15 +121,21 @@ setprec-sets : (n : ℕ) (c : Call) (s : State) → T (eqb n ADCMD·SETPREC) →
 unfolding sets selected
 setprec-sets n c s t e = rw (subst (λ (x : ℕ). refusal (COMMAND x) c s ≡ accepted) (eqb→eq n ADCMD·SETPREC t) e)
 
+no-allocate : (n : ℕ) → T (eqb n ADCMD·FREE || (not (eqb n ADCMD·ALLOCATE) && not (eqb n ADCMD·FREE))) → T (eqb n ADCMD·ALLOCATE) → ⊥
+no-allocate n t u = go (subst (λ (x : ℕ). T (eqb x ADCMD·FREE || (not (eqb x ADCMD·ALLOCATE) && not (eqb x ADCMD·FREE)))) (eqb→eq n ADCMD·ALLOCATE u) t)
+  where
+    go : T (eqb 32 9 || (not (eqb 32 32) && not (eqb 32 9))) → ⊥
+    go v = v
+
 pub allowed-kind : (p : Party) (s : State) (n : ℕ) (c : Call) → Ours p s (COMMAND n) c → refusal (COMMAND n) c s ≡ accepted → T (allowed p (kind n) c s)
-unfolding allowed maySend keepsFloor
+unfolding allowed maySend mayAlso keepsFloor
 allowed-kind p s n c k e =
     kind-elim (λ x. T (allowed p x c s)) n tt tt tt tt tt tt tt tt
-    (λ t. T-not (eqb n ADCMD·FREE) (and-right (not (eqb n ADCMD·ALLOCATE)) (not (eqb n ADCMD·FREE)) (k .sends)) t)
+    (λ _. tt)
     (λ t. subst (λ (x : ℕ). T (leb (p .floor) (c .prec) || eqb x 0)) (setprec-sets n c s t e)
     (or-named (eqb n ADCMD·SETPREC) (leb (p .floor) (c .prec) || eqb (sets c s) 0) (k .high) t))
     tt
-    (λ t. T-not (eqb n ADCMD·ALLOCATE) (and-left (not (eqb n ADCMD·ALLOCATE)) (not (eqb n ADCMD·FREE)) (k .sends)) t)
+    (λ t. no-allocate n (k .sends) t)
     tt
 
 pub modest-kind : (p : Party) (n : ℕ) (c : Call) → T (modest p (COMMAND n) c) → T (modestly p (kind n) c)

@@ -10,7 +10,7 @@ use native.Mathlib.Omega.{arith}
 use lib.Dec.{T, eqb, eqb→eq, leb, leb→le, ltb}
 use lib.ListN.{length, length-map}
 use Rattle.machine.specs.Numbers.{ALLOCFAILED, CHANNELSTOLEN}
-use Rattle.machine.specs.Lists.{all, any, if_then_else_, keep}
+use Rattle.machine.specs.Lists.{all, any, if_then_else_, keep, among}
 use Rattle.machine.specs.State.{Channel, Lock, Reply, Request, State}
 use Rattle.machine.specs.Maps.{at, change, meets, named}
 use Rattle.machine.specs.Choosing.{Look, fails, grants, held, look}
@@ -22,7 +22,7 @@ use Rattle.machine.proofs.Tests.{and-both, and-left, and-right, by-test, if-eli
 use Rattle.machine_laws.proofs.Choosing.{Spares, look-spares}
 use Rattle.machine_laws.proofs.Lists.{all-keep}
 use Rattle.machine_laws.proofs.Maps.{apart-meets, length-change, named-mono}
-use Rattle.machine_laws.proofs.Sound.{parts, waiting-few}
+use Rattle.machine_laws.proofs.Sound.{parts, in-use-few}
 use Rattle.two_runs.specs.TwoRuns.{Party, holds, mask, ownReplies}
 use Rattle.two_runs.proofs.Part.{Ready, fitting, fittingLock, lower, ownLocks, project}
 use Rattle.two_runs.proofs.Away.{abortedIn-quiet, any-view, change-fit, change-view, keyFor-not, named-view, own-append, spared}
@@ -38,11 +38,11 @@ ownLock p cs l = if eqb (l .key) (p .key) then p .mine (l .id) && lockFits p cs 
 
 pub record Loop (p : Party) (s : State) : Type 0 where
   pub real : T (not (eqb (p .key) 0))
-  pub present : T (any (holds p) (s .channels))
+  pub entered : T (among (p .key) (s .opens))
   pub fit : T (all (fitting p) (s .channels))
   pub locksOK : T (all (ownLock p (s .channels)) (s .locks))
   pub low : T (all (lower p) (s .waiting))
-  pub few : length (s .channels) + length (s .waiting) < 65535
+  pub few : length (s .channels) + length (s .waiting) + length (s .opens) < 65535
 
 -- ---- locks over channels without K are not K's
 
@@ -226,7 +226,7 @@ pub record SettleCalm (p : Party) (s : State) (t : Settled) : Type 0 where
 -- a grant to another key, over channels without K
 module _ (p : Party) (s : State) (m k prec : ℕ) (lp : Loop p s) (off : T (named (λ c. not (holds p c)) m (s .channels))) (other : T (not (eqb k (p .key)))) where
   pub newKeyNot : T (not (eqb (keyFor k s) (p .key)))
-  newKeyNot = keyFor-not p s k (lp .few) (lp .present) other
+  newKeyNot = keyFor-not p s k (lp .few) (lp .entered) other
 
   grant-view : map (mask p) (change (taken (keyFor k s) prec) m (s .channels)) ≡ map (mask p) (s .channels)
   unfolding taken
@@ -237,7 +237,7 @@ module _ (p : Party) (s : State) (m k prec : ℕ) (lp : Loop p s) (off : T (name
   grant-loop =
       record {
         real = lp .real;
-        present = rw (any-same p (s .channels) (change (taken (keyFor k s) prec) m (s .channels)) (lp .real) grant-view) at (lp .present);
+        entered = lp .entered;
         fit = change-fit p (taken (keyFor k s) prec) (λ c _. newKeyNot) (λ c _ _. rw (test-false (eqb (keyFor k s) (p .key)) newKeyNot) tt) m (s .channels) off (lp .fit);
         locksOK = ownLock-view p (s .channels) (change (taken (keyFor k s) prec) m (s .channels)) (lp .real) grant-view (s .locks) (lp .locksOK);
         low = lp .low;
@@ -253,7 +253,7 @@ module _ (p : Party) (s : State) (m k prec : ℕ) (lp : Loop p s) (off : T (name
 walked-loop : (p : Party) (s : State) (w : Walk) → Loop p s → WalkCalm p (s .channels) (length (s .waiting)) (s .locks) w → Loop p (walked w s)
 unfolding walked
 walked-loop p s w lp c =
-    record { real = lp .real; present = lp .present; fit = lp .fit; locksOK = c .locksOK; low = c .low; few = omega (arith, c .fewer, lp .few) }
+    record { real = lp .real; entered = lp .entered; fit = lp .fit; locksOK = c .locksOK; low = c .low; few = omega (arith, c .fewer, lp .few) }
 
 walked-still : (p : Party) (s : State) (w : Walk) → WalkCalm p (s .channels) (length (s .waiting)) (s .locks) w → project p (walked w s) ≡ project p s
 unfolding walked
@@ -332,14 +332,14 @@ ready-locks p cs (l ∷ ls) f t =
     (ready-lock p cs l (and-left (fittingLock p l) (all (fittingLock p) ls) f) (and-left (soundLock cs l) (all (soundLock cs) ls) t))
     (ready-locks p cs ls (and-right (fittingLock p l) (all (fittingLock p) ls) f) (and-right (soundLock cs l) (all (soundLock cs) ls) t))
 
-pub ready-loop : (p : Party) (n : ℕ) (s : State) → Ready p n s → Loop p s
-ready-loop p n s r =
+pub ready-loop : (p : Party) (s : State) → Ready p s → Loop p s
+ready-loop p s r =
     let q = parts s (r .sane) in
     record {
       real = r .real;
-      present = r .present;
+      entered = r .entered;
       fit = r .fit;
       locksOK = ready-locks p (s .channels) (s .locks) (r .fitLocks) (q .locksOK);
       low = r .low;
-      few = omega (arith, waiting-few s q);
+      few = omega (arith, in-use-few s q);
     }

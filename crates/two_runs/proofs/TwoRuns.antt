@@ -3,15 +3,18 @@
 -- to none of its ids. So a run shows it what its own calls would show it, made alone from its part of the first state, and
 -- two runs with the same such calls show it the same.
 -- Assumes nothing.
-use Prim.Native.Nat.{_≤_, suc, ℕ}
+use Prim.Native.Nat.{_≤_, _^_, _/_, _%_, suc, zero, ℕ}
 use mathlib.Core.Path.{_∙_, _≡_, ap, ap₂, refl, sym}
-use mathlib.Core.Bool.{Bool, _&&_, false, not, true}
+use mathlib.Core.Bool.{Bool, _&&_, _||_, false, not, true}
 use mathlib.Core.List.{List, [], _++_, _∷_, map}
 use native.Mathlib.Omega.{arith}
-use lib.Dec.{T, eqb, leb→le, ltb, ltb→lt, not-T}
+use lib.Dec.{T, eqb, eqb→eq, leb→le, le→leb, ltb, ltb→lt, not-T}
+use lib.ListN.{length, length-map}
+use borrow.Author.Tests.{lt-ltb}
 use Rattle.machine.specs.Numbers.{REQUESTS}
 use Rattle.machine.specs.Lists.{all, if_then_else_}
 use Rattle.machine.specs.State.{ABORT, CLOSE, COMMAND, Call, Channel, EVENT, Lock, OPEN, Op, State}
+use Rattle.machine.specs.Maps.{bit, half, lowest, odd}
 use Rattle.machine.specs.Choosing.{Look, fails, grants, held, look}
 use Rattle.machine.specs.Commands.{doAbort, doClose, doEvent, doFree, doLock, doRead, doWrite, each, eachChange, finished, silent}
 use Rattle.machine.specs.Allocating.{allocating, doAllocate, doOpen, opening, waits}
@@ -20,16 +23,18 @@ use Rattle.machine.specs.Kinds.{ALLOCATE, CLEAR, FLUSH, FREE, Kind, LOCK, READ,
 use Rattle.machine.specs.Log.{opened}
 use Rattle.machine.specs.Refusals.{Refusal, accepted, badList, badMap, badMaps, refusal, refuse, refused}
 use Rattle.machine.specs.Sound.{sound}
-use Rattle.machine.proofs.Tests.{and-both, and-left, and-right, test-false}
+use Rattle.machine.proofs.Tests.{and-both, and-left, and-right, by-test, test-false, test-true}
+use Rattle.machine_laws.proofs.Maps.{half-bit, odd-bit}
+use Rattle.machine_laws.proofs.Sound.{parts}
 use Rattle.machine_laws.proofs.KeepingCalls.{call-sound}
-use Rattle.two_runs.specs.TwoRuns.{ByK, ByOthers, Demand3, Keeps, Party, Run, Start, Step, balance, calls, lends, our, own, ownReplies, reached, said, seen, their, view}
+use Rattle.two_runs.specs.TwoRuns.{ByK, ByOthers, Demand3, Keeps, Party, Run, Start, Step, maySend, ofK, calls, filled, lends, noted, onK, our, own, mask, ownReplies, reached, said, seen, their, view}
 use Rattle.two_runs.proofs.Part.{Ready, fittingLock, ours-of, ownReplies-twice, project, projectOut, theirs-of, view-part}
-use Rattle.two_runs.proofs.Opens.{ours-opened, theirs-opened}
 use Rattle.two_runs.proofs.Settle.{Loop, lockFits, ownLock}
 use Rattle.two_runs.proofs.TheirsEach.{Mild}
 use Rattle.two_runs.proofs.TheirsCall.{theirs-mild}
 use Rattle.two_runs.proofs.OursCall.{ours-loop, ours-same}
 use Rattle.two_runs.proofs.Begin.{start-ready}
+use Rattle.two_runs.specs.Core.{Begins, Demand3·core, Goes, OfK, OfOthers, mayAlso, ofParty}
 
 -- ---- the same call with another list lent
 
@@ -38,65 +43,157 @@ module _ (c : Call) (full : T (lends c)) where
   unfolding lends
   room-enough = test-false (ltb (c .room) REQUESTS) (not-T (ltb (c .room) REQUESTS) (λ t. omega (arith, ltb→lt (c .room) REQUESTS t, leb→le REQUESTS (c .room) full)))
 
-  said-refusal : (o : Op) (s : State) → refusal o (said c) s ≡ refusal o c s
-  unfolding refusal said badList badMaps badMap
-  said-refusal OPEN s = rw room-enough
-  said-refusal CLOSE s = rw room-enough
-  said-refusal ABORT s = rw room-enough
-  said-refusal EVENT s = rw room-enough
-  said-refusal (COMMAND n) s = rw room-enough
+  filled-refusal : (o : Op) (s : State) → refusal o (filled c) s ≡ refusal o c s
+  unfolding refusal filled badList badMaps badMap
+  filled-refusal OPEN s = rw room-enough
+  filled-refusal CLOSE s = rw room-enough
+  filled-refusal ABORT s = rw room-enough
+  filled-refusal EVENT s = rw room-enough
+  filled-refusal (COMMAND n) s = rw room-enough
 
-  said-look : (l : Look) (s : State) → allocating l (said c) s ≡ allocating l c s
-  unfolding said allocating waits finished silent
-  said-look fails s = refl
-  said-look (held m) s = refl
-  said-look (grants m) s = refl
+  filled-look : (l : Look) (s : State) → allocating l (filled c) s ≡ allocating l c s
+  unfolding filled allocating waits finished silent
+  filled-look fails s = refl
+  filled-look (held m) s = refl
+  filled-look (grants m) s = refl
 
-  said-open : (l : Look) (s : State) → opening l (said c) s ≡ opening l c s
-  unfolding said opening silent
-  said-open fails s = refl
-  said-open (held m) s = refl
-  said-open (grants m) s = refl
+  filled-open : (l : Look) (s : State) → opening l (filled c) s ≡ opening l c s
+  unfolding filled opening silent
+  filled-open fails s = refl
+  filled-open (held m) s = refl
+  filled-open (grants m) s = refl
 
-  said-perform : (k : Kind) (s : State) → perform k (said c) s ≡ perform k c s
-  unfolding said perform eachChange each finished silent doRead doWrite doFree doLock doAllocate
-  said-perform RESET s = refl
-  said-perform READ s = refl
-  said-perform WRITE s = refl
-  said-perform UPDATE s = refl
-  said-perform CLEAR s = refl
-  said-perform STOP s = refl
-  said-perform START s = refl
-  said-perform FLUSH s = refl
-  said-perform FREE s = refl
-  said-perform SETPREC s = refl
-  said-perform LOCK s = refl
-  said-perform ALLOCATE s = said-look (look (c .prec) (c .combos) (s .channels)) s
-  said-perform UNKNOWN s = refl
+  filled-perform : (k : Kind) (s : State) → perform k (filled c) s ≡ perform k c s
+  unfolding filled perform eachChange each finished silent doRead doWrite doFree doLock doAllocate
+  filled-perform RESET s = refl
+  filled-perform READ s = refl
+  filled-perform WRITE s = refl
+  filled-perform UPDATE s = refl
+  filled-perform CLEAR s = refl
+  filled-perform STOP s = refl
+  filled-perform START s = refl
+  filled-perform FLUSH s = refl
+  filled-perform FREE s = refl
+  filled-perform SETPREC s = refl
+  filled-perform LOCK s = refl
+  filled-perform ALLOCATE s = filled-look (look (c .prec) (c .combos) (s .channels)) s
+  filled-perform UNKNOWN s = refl
 
-  said-accept : (o : Op) (s : State) → accept o (said c) s ≡ accept o c s
-  unfolding said accept doOpen doClose doAbort doEvent silent
-  said-accept OPEN s = ap openSettling (said-open (look (c .prec) (c .combos) (s .channels)) s)
-  said-accept CLOSE s = refl
-  said-accept ABORT s = refl
-  said-accept EVENT s = refl
-  said-accept (COMMAND n) s = ap settling (said-perform (kind n) s)
+  filled-accept : (o : Op) (s : State) → accept o (filled c) s ≡ accept o c s
+  unfolding filled accept doOpen doClose doAbort doEvent silent
+  filled-accept OPEN s = ap openSettling (filled-open (look (c .prec) (c .combos) (s .channels)) s)
+  filled-accept CLOSE s = refl
+  filled-accept ABORT s = refl
+  filled-accept EVENT s = refl
+  filled-accept (COMMAND n) s = ap settling (filled-perform (kind n) s)
 
-  said-refuse : (o : Op) (e : ℕ) (s : State) → refuse o e (said c) s ≡ refuse o e c s
-  unfolding said refuse finished silent
-  said-refuse OPEN e s = refl
-  said-refuse CLOSE e s = refl
-  said-refuse ABORT e s = refl
-  said-refuse EVENT e s = refl
-  said-refuse (COMMAND n) e s = refl
+  filled-refuse : (o : Op) (e : ℕ) (s : State) → refuse o e (filled c) s ≡ refuse o e c s
+  unfolding filled refuse finished silent
+  filled-refuse OPEN e s = refl
+  filled-refuse CLOSE e s = refl
+  filled-refuse ABORT e s = refl
+  filled-refuse EVENT e s = refl
+  filled-refuse (COMMAND n) e s = refl
 
-  pub said-same : (s : State) → call s (said c) ≡ call s c
-  unfolding call said
-  said-same s = rw (said-refusal (c .op) s) (go (refusal (c .op) c s))
+  filled-same : (s : State) → call s (filled c) ≡ call s c
+  unfolding call filled
+  filled-same s = rw (filled-refusal (c .op) s) (go (refusal (c .op) c s))
     where
-      go : (f : Refusal) → answering f (said c) s ≡ answering f c s
-      go accepted = unfold answering in said-accept (c .op) s
-      go (refused e) = unfold answering in said-refuse (c .op) e s
+      go : (f : Refusal) → answering f (filled c) s ≡ answering f c s
+      go accepted = unfold answering in filled-accept (c .op) s
+      go (refused e) = unfold answering in filled-refuse (c .op) e s
+
+-- ---- the same event by its lowest bit
+
+-- the lowest bit of k is that of n, if there are no more of these
+lowest-twice : (n k m : ℕ) → n ≤ k → lowest n (lowest k m) ≡ lowest n m
+unfolding lowest
+lowest-twice zero k m h = refl
+lowest-twice (suc n) zero m h = absurd (no-less h)
+  where
+    no-less : suc n ≤ 0 → ⊥
+    no-less g = omega arith
+lowest-twice (suc n) (suc k) m h = go (odd m) (lowest k (half m)) (lowest-twice n k (half m) (omega arith))
+  where
+    go : (b : Bool) (x : ℕ) → lowest n x ≡ lowest n (half m)
+        → (if odd (if b then 1 else bit false x) then 1 else bit false (lowest n (half (if b then 1 else bit false x)))) ≡ (if b then 1 else bit false (lowest n (half m)))
+    go true x e = unfold odd in refl
+    go false x e = rw (odd-bit false x, half-bit false x, e)
+
+lowest-least : (k m : ℕ) → lowest k m ≤ m
+unfolding lowest odd bit half
+lowest-least zero m = omega arith
+lowest-least (suc k) m =
+    by-test (eqb (m % 2) 1)
+    (λ t. let e = eqb→eq (m % 2) 1 t in rw (test-true (eqb (m % 2) 1) t) (omega arith))
+    (λ t. let ih = lowest-least k (m / 2) in rw (test-false (eqb (m % 2) 1) t) (omega arith))
+
+module _ (c : Call) (full : T (lends c)) (s : State) where
+  -- an event's map is on the board
+  abbrev Fits : Op → Type 0
+  Fits OPEN = Unit {0}
+  Fits CLOSE = Unit {0}
+  Fits ABORT = Unit {0}
+  Fits EVENT = (length (s .channels) ≤ 8) × T (not (badMap c s))
+  Fits (COMMAND n) = Unit {0}
+
+  -- what is kept of it
+  event-kept : (noted EVENT c .map ≡ lowest 8 (c .map)) × (noted EVENT c .key ≡ c .key)
+  unfolding noted
+  event-kept = (refl, refl)
+
+  event-refusal : Fits EVENT → refusal EVENT (noted EVENT c) s ≡ refusal EVENT c s
+  unfolding refusal noted badMap
+  event-refusal f =
+      let n = 2 ^ length (s .channels) in
+      let l = ltb→lt (c .map) n (not-not-T (ltb (c .map) n) (f .1)) in
+      rw (room-enough c full, lt-ltb (c .map) n l, lt-ltb (lowest 8 (c .map)) n (omega (arith, lowest-least 8 (c .map))))
+    where
+      not-not-T : (b : Bool) → T (not (not b)) → T b
+      not-not-T true t = tt
+      not-not-T false t = t
+
+  event-accept : Fits EVENT → accept EVENT (noted EVENT c) s ≡ accept EVENT c s
+  unfolding accept noted doEvent silent
+  event-accept f = rw (lowest-twice (length (s .channels)) 8 (c .map) (f .0))
+
+  event-refuse : (e : ℕ) → refuse EVENT e (noted EVENT c) s ≡ refuse EVENT e c s
+  unfolding refuse noted silent
+  event-refuse e = refl
+
+  event-same : c .op ≡ EVENT → Fits EVENT → call s (noted EVENT c) ≡ call s c
+  unfolding call noted
+  event-same q f = ap (λ (r : Refusal). answering r (noted EVENT c) s) (event-refusal f ∙ ap (λ (o : Op). refusal o c s) (sym q)) ∙ go (refusal (c .op) c s)
+    where
+      go : (r : Refusal) → answering r (noted EVENT c) s ≡ answering r c s
+      go accepted = unfold answering noted in (event-accept f ∙ ap (λ (o : Op). accept o c s) (sym q))
+      go (refused e) = unfold answering noted in (event-refuse e ∙ ap (λ (o : Op). refuse o e c s) (sym q))
+
+  noted-same : (o : Op) → c .op ≡ o → Fits o → call s (noted o c) ≡ call s c
+  noted-same OPEN q f = unfold noted in filled-same c full s
+  noted-same CLOSE q f = unfold noted in filled-same c full s
+  noted-same ABORT q f = unfold noted in filled-same c full s
+  noted-same EVENT q f = event-same q f
+  noted-same (COMMAND n) q f = unfold noted in filled-same c full s
+
+  pub said-same : Fits (c .op) → call s (said c) ≡ call s c
+  unfolding said
+  said-same f = noted-same (c .op) refl f
+
+-- so of a call of the K party's, made on its part of the state
+ours-fits : (p : Party) (s : State) (c : Call) → T (sound s) → (full : T (lends c)) → (o : Op) → T (ofParty p o c s) → Fits c full (project p s) o
+unfolding ofParty onK project badMap
+ours-fits p s c t full OPEN u = tt
+ours-fits p s c t full CLOSE u = tt
+ours-fits p s c t full ABORT u = tt
+ours-fits p s c t full EVENT u =
+    let e = length-map (s .channels) (mask p) in
+    let b = not (ltb (c .map) (2 ^ length (s .channels))) in
+    (omega (arith, e, leb→le (length (s .channels)) 8 (parts s t .most)), rw e (and-left (not b) _ u))
+ours-fits p s c t full (COMMAND n) u = tt
+
+own-same : (p : Party) (s : State) (c : Call) → Ready p s → OfK p s c → call (project p s) (said c) ≡ call (project p s) c
+own-same p s c r k = said-same c (k .full) (project p s) (ours-fits p s c (r .sane) (k .full) (c .op) (k .party))
 
 -- ---- every state of a run is one between two calls
 
@@ -112,79 +209,144 @@ locks-ready p cs (l ∷ ls) t =
     go true u = and-left (p .mine (l .id)) (lockFits p cs l) u
     go false u = u
 
-ready-from : (p : Party) (n : ℕ) (s : State) → T (sound s) → suc n ≤ s .opens → Loop p s → Ready p n s
-ready-from p n s t h lp =
+ready-from : (p : Party) (s : State) → T (sound s) → Loop p s → Ready p s
+ready-from p s t lp =
     record {
       sane = t;
-      opened = h;
       real = lp .real;
-      present = lp .present;
+      entered = lp .entered;
       fit = lp .fit;
       fitLocks = locks-ready p (s .channels) (s .locks) (lp .locksOK);
       low = lp .low;
     }
 
-theirs-ready : (p : Party) (n : ℕ) (s : State) (c : Call) → Ready p n s → ByOthers p n s c → T (inRange c) → Ready p (balance (c .op) (call s c .answer) n) (call s c .next)
-theirs-ready p n s c r b f =
-    let t = theirs-of p n s c b in
-    ready-from p (balance (c .op) (call s c .answer) n) (call s c .next) (call-sound s c f (r .sane)) (theirs-opened p n s c (r .opened) t) (theirs-mild p n s c r t .loop)
+theirs-ready : (p : Party) (s : State) (c : Call) → Ready p s → OfOthers p s c → Ready p (call s c .next)
+theirs-ready p s c r b = ready-from p (call s c .next) (call-sound s c (b .fits) (r .sane)) (theirs-mild p s c r (theirs-of p s c b) .loop)
 
-ours-ready : (p : Party) (n : ℕ) (s : State) (c : Call) → Ready p n s → ByK p s c → T (inRange c) → Ready p n (call s c .next)
-ours-ready p n s c r b f =
-    ready-from p n (call s c .next) (call-sound s c f (r .sane)) (ours-opened p n s c (r .opened) (b .sends)) (ours-loop p n s r c (ours-of p s c b))
+ours-ready : (p : Party) (s : State) (c : Call) → Ready p s → OfK p s c → Ready p (call s c .next)
+ours-ready p s c r b = ready-from p (call s c .next) (call-sound s c (b .fits) (r .sane)) (ours-loop p s r c (ours-of p s c b))
 
 -- ---- a run shows what the K party's calls show, made alone from its part of the state
 
-alone : (p : Party) (n : ℕ) (s : State) (xs : List Step) → Ready p n s → Keeps p n s xs → T (all lends (calls xs)) → T (all inRange (calls xs))
-    → seen p s xs ≡ seen p (project p s) (map our (own xs))
-unfolding seen own projectOut calls all
-alone p n s [] r k l f = rw (view-part p s)
-alone p n s (our c ∷ xs) r k l f =
+alone : (p : Party) (s : State) (xs : List Step) → Ready p s → Goes p s xs → seen p s xs ≡ seen p (project p s) (map our (own xs))
+unfolding seen own projectOut
+alone p s [] r k = rw (view-part p s)
+alone p s (our c ∷ xs) r k =
     rw (
-      said-same c (and-left (lends c) (all lends (calls xs)) l) (project p s),
-      ours-same p n s r c (ours-of p s c (k .0)),
+      own-same p s c r (k .0),
+      ours-same p s r c (ours-of p s c (k .0)),
       ownReplies-twice p (call s c .replies),
       view-part p (call s c .next),
-      alone p n (call s c .next) xs (ours-ready p n s c r (k .0) (and-left (inRange c) (all inRange (calls xs)) f)) (k .1)
-          (and-right (lends c) (all lends (calls xs)) l) (and-right (inRange c) (all inRange (calls xs)) f),
+      alone p (call s c .next) xs (ours-ready p s c r (k .0)) (k .1),
     )
-alone p n s (their c ∷ xs) r k l f =
-    let calm = theirs-mild p n s c r (theirs-of p n s c (k .0)) in
+alone p s (their c ∷ xs) r k =
+    let calm = theirs-mild p s c r (theirs-of p s c (k .0)) in
     rw (calm .quiet)
-    (alone p (balance (c .op) (call s c .answer) n) (call s c .next) xs (theirs-ready p n s c r (k .0) (and-left (inRange c) (all inRange (calls xs)) f)) (k .1)
-    (and-right (lends c) (all lends (calls xs)) l) (and-right (inRange c) (all inRange (calls xs)) f)
+    (alone p (call s c .next) xs (theirs-ready p s c r (k .0)) (k .1)
     ∙ ap (λ (u : State). seen p u (map our (own xs))) (calm .still))
 
--- ---- the claim
+pub part-sees-the-same : (p : Party) (s t : State) (xs ys : List Step) → Begins p s → Begins p t → project p s ≡ project p t → Goes p s xs → Goes p t ys → own xs ≡ own ys
+    → seen p s xs ≡ seen p t ys
+part-sees-the-same p s t xs ys a b q h k e =
+    alone p s xs (start-ready p s a) h
+    ∙ ap₂ (λ (u : State) (cs : List Call). seen p u (map our cs)) q e
+    ∙ sym (alone p t ys (start-ready p t b) k)
 
--- more than is asked: the runs may even begin in two states, if K's part of them is the same
+pub core : Demand3·core
+core p s xs ys a h k e = part-sees-the-same p s s xs ys a a refl h k e
+
+-- ---- the customer's premises, from them
+
+begins-of : (p : Party) (s : State) → Start p s → Begins p s
+begins-of p s a =
+    record { sane = a .sane; real = a .real; entered = a .entered; high = a .high; low = a .low; none = a .none; owns = a .owns; idle = a .idle }
+
+party-of : (p : Party) (o : Op) (c : Call) (s : State) → T (ofK p o c s) → T (ofParty p o c s)
+unfolding ofK ofParty
+party-of p OPEN c s t = t
+party-of p CLOSE c s t = t
+party-of p ABORT c s t = and-right (eqb (c .key) (p .key)) (p .mine (c .id)) t
+party-of p EVENT c s t = t
+party-of p (COMMAND n) c s t = t
+
+also : (o : Op) → T (maySend o) → T (mayAlso o || maySend o)
+unfolding maySend mayAlso
+also OPEN t = t
+also CLOSE t = t
+also ABORT t = t
+also EVENT t = t
+also (COMMAND n) t = go (eqb n 9) t
+  where
+    go : (b : Bool) → T (not (eqb n 32) && not b) → T (b || (not (eqb n 32) && not b))
+    go true u = tt
+    go false u = u
+
+goes-of : (p : Party) (s : State) (xs : List Step) → Keeps p s xs → T (all lends (calls xs)) → T (all inRange (calls xs)) → Goes p s xs
+unfolding calls all
+goes-of p s [] k l f = tt
+goes-of p s (our c ∷ xs) k l f =
+    let b = k .0 in (
+      record {
+        party = party-of p (c .op) c s (b .party);
+        sends = also (c .op) (b .sends);
+        high = b .high;
+        full = and-left (lends c) (all lends (calls xs)) l;
+        fits = and-left (inRange c) (all inRange (calls xs)) f;
+      },
+      goes-of p (call s c .next) xs (k .1) (and-right (lends c) (all lends (calls xs)) l) (and-right (inRange c) (all inRange (calls xs)) f),
+    )
+goes-of p s (their c ∷ xs) k l f =
+    let b = k .0 in (
+      record { apart = b .apart; low = b .low; fits = and-left (inRange c) (all inRange (calls xs)) f },
+      goes-of p (call s c .next) xs (k .1) (and-right (lends c) (all lends (calls xs)) l) (and-right (inRange c) (all inRange (calls xs)) f),
+    )
+
+run-goes : (p : Party) (s : State) (xs : List Step) → Run p s xs → Goes p s xs
+run-goes p s xs h = goes-of p s xs (h .keeps) (h .full) (h .fits)
+
+pub K-sees-the-same : Demand3
+K-sees-the-same p s xs ys a h k e = core p s xs ys (begins-of p s a) (run-goes p s xs h) (run-goes p s ys k) e
+
+-- ---- K's part at the end of a run is what its own calls make of its part at the beginning, so runs can follow one another
+
+part-after : (p : Party) (s : State) (xs : List Step) → Ready p s → Goes p s xs → project p (reached s xs) ≡ reached (project p s) (map our (own xs))
+unfolding reached own projectOut
+part-after p s [] r k = refl
+part-after p s (our c ∷ xs) r k =
+    part-after p (call s c .next) xs (ours-ready p s c r (k .0)) (k .1)
+    ∙ ap (λ (u : State). reached u (map our (own xs)))
+    (sym (ap (λ (o : Rattle.machine.specs.State.Outcome). o .next) (own-same p s c r (k .0) ∙ ours-same p s r c (ours-of p s c (k .0)))))
+part-after p s (their c ∷ xs) r k =
+    part-after p (call s c .next) xs (theirs-ready p s c r (k .0)) (k .1)
+    ∙ ap (λ (u : State). reached u (map our (own xs))) (theirs-mild p s c r (theirs-of p s c (k .0)) .still)
+
+pub same-part-after : (p : Party) (s t : State) (xs ys : List Step) → Begins p s → Begins p t → project p s ≡ project p t → Goes p s xs → Goes p t ys → own xs ≡ own ys
+    → project p (reached s xs) ≡ project p (reached t ys)
+same-part-after p s t xs ys a b q h k e =
+    part-after p s xs (start-ready p s a) h
+    ∙ ap₂ (λ (u : State) (cs : List Call). reached u (map our cs)) q e
+    ∙ sym (part-after p t ys (start-ready p t b) k)
+
+-- ---- as before: two beginnings, and every moment
+
 pub K-sees-its-part : (p : Party) (s t : State) (xs ys : List Step) → Start p s → Start p t → project p s ≡ project p t → Run p s xs → Run p t ys → own xs ≡ own ys
     → seen p s xs ≡ seen p t ys
 K-sees-its-part p s t xs ys a b q h k e =
-    alone p 0 s xs (start-ready p s a) (h .keeps) (h .full) (h .fits)
-    ∙ ap₂ (λ (u : State) (cs : List Call). seen p u (map our cs)) q e
-    ∙ sym (alone p 0 t ys (start-ready p t b) (k .keeps) (k .full) (k .fits))
+    part-sees-the-same p s t xs ys (begins-of p s a) (begins-of p t b) q (run-goes p s xs h) (run-goes p t ys k) e
 
-pub K-sees-the-same : Demand3
-K-sees-the-same p s xs ys a h k e = K-sees-its-part p s s xs ys a a refl h k e
+left-alone : (p : Party) (s : State) (xs : List Step) (c : Call) → Ready p s → Goes p s (xs ++ their c ∷ []) → Mild p (reached s xs) (call (reached s xs) c)
+unfolding reached
+left-alone p s [] c r k = theirs-mild p s c r (theirs-of p s c (k .0))
+left-alone p s (our d ∷ xs) c r k = left-alone p (call s d .next) xs c (ours-ready p s d r (k .0)) (k .1)
+left-alone p s (their d ∷ xs) c r k = left-alone p (call s d .next) xs c (theirs-ready p s d r (k .0)) (k .1)
 
--- ---- and the others leave it alone, at every moment
-
-left-alone : (p : Party) (n : ℕ) (s : State) (xs : List Step) (c : Call) → Ready p n s → Keeps p n s (xs ++ their c ∷ []) → T (all inRange (calls (xs ++ their c ∷ [])))
-    → Mild p (reached s xs) (call (reached s xs) c)
-unfolding reached calls all
-left-alone p n s [] c r k f = theirs-mild p n s c r (theirs-of p n s c (k .0))
-left-alone p n s (our d ∷ xs) c r k f =
-    left-alone p n (call s d .next) xs c (ours-ready p n s d r (k .0) (and-left (inRange d) (all inRange (calls (xs ++ their c ∷ []))) f)) (k .1)
-    (and-right (inRange d) (all inRange (calls (xs ++ their c ∷ []))) f)
-left-alone p n s (their d ∷ xs) c r k f =
-    left-alone p (balance (d .op) (call s d .answer) n) (call s d .next) xs c (theirs-ready p n s d r (k .0) (and-left (inRange d) (all inRange (calls (xs ++ their c ∷ []))) f)) (k .1)
-    (and-right (inRange d) (all inRange (calls (xs ++ their c ∷ []))) f)
-
--- a call of the others, behind any run, replies to no id of the K party's and leaves its channels as they are
 pub others-leave-K-alone : (p : Party) (s : State) (xs : List Step) (c : Call) → Start p s → Run p s (xs ++ their c ∷ [])
     → (ownReplies p (call (reached s xs) c .replies) ≡ []) × (view p (call (reached s xs) c .next) ≡ view p (reached s xs))
 unfolding view
 others-leave-K-alone p s xs c t h =
-    let m = left-alone p 0 s xs c (start-ready p s t) (h .keeps) (h .fits) in
-    (m .quiet, (unfold project in ap (λ (u : State). u .channels) (m .still)))
+    let g : Goes p s (xs ++ their c ∷ []) = run-goes p s (xs ++ their c ∷ []) h in
+    let m : Mild p (reached s xs) (call (reached s xs) c) = left-alone p s xs c (start-ready p s (begins-of p s t)) g in
+    (m .quiet, channels-of (call (reached s xs) c .next) (reached s xs) (m .still))
+  where
+    channels-of : (u v : State) → project p u ≡ project p v → map (mask p) (u .channels) ≡ map (mask p) (v .channels)
+    channels-of u v e = unfold project in ap (λ (x : State). x .channels) e

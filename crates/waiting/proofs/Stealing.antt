@@ -11,7 +11,7 @@ use Rattle.machine.specs.State.{Lock, Reply}
 use Rattle.store.specs.declared.State.{State}
 use Rattle.store.specs.Store.{lockItem, waitItem, writeItems, items, entries, tableOf, stateIn, Held}
 use Rattle.store.specs.Work.{Did}
-use Rattle.store.proofs.Store.{held-parts, held-eight}
+use Rattle.store.proofs.Store.{held-parts, held-eight, held-opens}
 use Rattle.locks.specs.declared.Sifted.{Sifted}
 use Rattle.locks.specs.Locks.{lefts, ending, Sifting, Sieved}
 use Rattle.locks.proofs.Laws.{lefts-stolen, ending-stolen, locked-of}
@@ -50,11 +50,11 @@ module _ {st : State} {tb : List ℕ} (h : Held st tb) (m : ℕ) where
       let c = ap (λ (x : State). x .channels) (h .struct) in
       let w = ap (λ (x : State). x .waiting) (h .struct) in
       record {
-        struct = λ i. record { channels = c i; locks = q i; waiting = w i; opens = st .opens; last = st .last };
+        struct = λ i. record { channels = c i; locks = q i; waiting = w i; opens = held-opens h i; last = st .last };
         table = e .table ∙ table-of (lefts true m (s .locks)) (withoutLocks m s .locks) left-is;
         list = e .replies ∙ ap (sent l n) stolen-is;
         count = e .count ∙ ap (λ (x : List Reply). n + length x) stolen-is;
       }
     where
-      table-of : (ls ks : List Lock) → ls ≡ ks → entries 64 0 (writeItems (stateIn st tb .channels) ++ map lockItem ls ++ map waitItem (stateIn st tb .waiting)) ≡ tableOf (record { channels = stateIn st tb .channels; locks = ks; waiting = stateIn st tb .waiting; opens = st .opens; last = st .last })
+      table-of : (ls ks : List Lock) → ls ≡ ks → entries 64 0 (writeItems (stateIn st tb .channels) ++ map lockItem ls ++ map waitItem (stateIn st tb .waiting)) ≡ tableOf (record { channels = stateIn st tb .channels; locks = ks; waiting = stateIn st tb .waiting; opens = stateIn st tb .opens; last = st .last })
       table-of ls ks x = unfold tableOf items in ap (λ (y : List Lock). entries 64 0 (writeItems (stateIn st tb .channels) ++ map lockItem y ++ map waitItem (stateIn st tb .waiting))) x

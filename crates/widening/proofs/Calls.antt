@@ -20,7 +20,7 @@ use Rattle.machine.specs.Kinds.{Kind, RESET, READ, WRITE, UPDATE, CLEAR, STOP, 
 use Rattle.machine.specs.Refusals.{Refusal, accepted, refused, first, badMap, badMaps, refusal, refuse}
 use Rattle.machine.specs.Call.{perform, settling, openSettling, accept, answering, call, inRange}
 use Rattle.machine.proofs.Tests.{if-elim, and-left, and-right, and-both, nor-left, nor-right, nor-both, test-false}
-use Rattle.machine_laws.proofs.Sound.{Parts, unparts, waiting-few}
+use Rattle.machine_laws.proofs.Sound.{Parts, unparts, in-use-few}
 use Rattle.machine.proofs.Steps.{NoneOf, first-none}
 use Rattle.machine_laws.proofs.KeepingSettle.{look-unlocked}
 use Rattle.machine_laws.proofs.KeepingCalls.{open-sound, close-sound, abort-sound, event-sound, perform-sound, range-prec, range-key, id-small}
@@ -74,7 +74,7 @@ module _ (s : State) (p : Parts s) where
   locks-fit = locks-small (s .channels) (s .locks) (p .locksOK)
 
   pub few-fit : Few s
-  few-fit = let h = waiting-few s p in omega arith
+  few-fit = let h = in-use-few s p in omega arith
 
 -- ---- what a call that is not refused names is on the board
 

@@ -7,13 +7,13 @@ use mathlib.Core.List.{List, [], _∷_, _++_, map}
 use native.Mathlib.Omega.{arith}
 use native.Mathlib.Nat.{zero-add, suc-add}
 use lib.Dec.{T, T-not, eqb, ltb, ltb→lt}
-use lib.ListN.{length, length-append, length-map}
+use lib.ListN.{length}
 use Rattle.machine.specs.Lists.{if_then_else_, among, any}
 use Rattle.machine.specs.State.{Channel, Request, State, frees}
 use Rattle.machine.specs.Maps.{change}
 use Rattle.machine.specs.Granting.{after, inUse, firstUnused, newKey, keyFor, lastFor, taken, granted}
 use Rattle.machine.proofs.Tests.{if-elim, by-test, test-true, test-false, eqb-false}
-use Rattle.machine_laws.proofs.Granting.{newKey-unused}
+use Rattle.machine_laws.proofs.Granting.{newKey-unused, inUse-length}
 use Rattle.widening.specs.Widening.{wider, widen}
 use Rattle.widening.proofs.Maps.{change-wide, length-frees, length-wider}
 
@@ -55,26 +55,22 @@ first-more (suc n) i j used t =
     (λ u. rw (test-false (among j used) u) refl))
 
 abbrev pub Few : State → Type 0
-Few s = length (s .channels) + length (s .waiting) < 65535
-
-in-use : (s : State) → length (inUse s) ≡ length (s .channels) + length (s .waiting)
-unfolding inUse
-in-use s = simp (length-append, length-map)
+Few s = length (s .channels) + length (s .waiting) + length (s .opens) < 65535
 
 fuel-wide : (k : ℕ) (s : State) → length (inUse (widen k s)) ≡ length (inUse s) + k → T (not (among (newKey s) (inUse s))) → newKey (widen k s) ≡ newKey s
 unfolding newKey
 fuel-wide k s e u =
     let n = length (inUse s) in
     let d : firstUnused (n + k) (after (s .last)) (inUse (widen k s)) ≡ firstUnused (n + k) (after (s .last)) (inUse s) =
-    unfold inUse in first-same (length (inUse s) + k) (after (s .last)) k (s .channels) (map (λ r. r .key) (s .waiting)) (after-one (s .last)) in
+    unfold inUse in first-same (length (inUse s) + k) (after (s .last)) k (s .channels) (map (λ r. r .key) (s .waiting) ++ s .opens) (after-one (s .last)) in
     ap (λ (n : ℕ). firstUnused n (after (s .last)) (inUse (widen k s))) e
     ∙ d
     ∙ first-more (length (inUse s)) k (after (s .last)) (inUse s) u
 
 pub newKey-wide : (k : ℕ) (s : State) → Few s → newKey (widen k s) ≡ newKey s
 newKey-wide k s f =
-    let a = in-use s in
-    let b = in-use (widen k s) in
+    let a = inUse-length s in
+    let b = inUse-length (widen k s) in
     let d = length-wider k (s .channels) in
     fuel-wide k s (omega arith) (newKey-unused s (omega arith))
 

@@ -94,7 +94,8 @@ unfolding granted
 granted-waiting m key prec u = refl
 
 granted-few : (m key prec : ℕ) (u : State) → Few u → Few (granted m key prec u)
-granted-few m key prec u q = rw (granted-long m key prec u, granted-waiting m key prec u) q
+unfolding granted
+granted-few m key prec u q = rw (granted-long m key prec u) q
 
 granted-waits : (m key prec : ℕ) (u : State) → Waits (length (u .channels)) (u .waiting) → Waits (length (granted m key prec u .channels)) (granted m key prec u .waiting)
 granted-waits m key prec u t = rw (granted-long m key prec u, granted-waiting m key prec u) t

@@ -1,7 +1,6 @@
--- `close` meets its contract: of all channels those with the key are freed, and one opening goes. Assumes nothing.
-use native.Mathlib.Omega.{arith}
+-- `close` meets its contract: of all channels those with the key are freed, and the oldest entry of the key goes. Assumes nothing.
 use Rattle.sweep.proofs.Matching.{match-small}
-use Rattle.freeing.proofs.Release.{close-ready, close-opens, told-close}
+use Rattle.freeing.proofs.Release.{close-ready, close-tidy, told-close}
 use borrow.Author.Needs.{needs}
 use Rattle.freeing.proofs.close.Statement.{statement}
 use Rattle.freeing.proofs.close.Tie as tie
@@ -18,16 +17,14 @@ freeing-requires : tie.Need-freeing-requires
 freeing-requires c κs =
     let s = c .before .before .before .before .before .before in
     let r = s .args .r in
-    let p = s .pre .0 in
+    let p = s .pre in
     let e = c .before .before .matching .ensures in
     (close-ready r (p .held) e p, match-small (p .held) (r .key) 255 e)
 
-sub-t : tie.Need-sub-t
-sub-t c =
+close-requires : tie.Need-close-requires
+close-requires c κs =
     let s = c .before .before .before .before .before .before .before .before .before .before .before .before .before in
-    let o = close-opens (s .args .r) (s .pre .0 .held) (c .before .before .before .before .before .before .before .before .before .matching .ensures) (c .before .before .before .before .before .before .freeing .ensures) in
-    let q = s .pre .1 in
-    omega arith
+    close-tidy (s .args .r) (s .pre .held) (c .before .before .before .before .before .before .before .before .before .matching .ensures) (c .before .before .before .before .before .before .freeing .ensures)
 
 done-requires : tie.Need-done-requires
 done-requires c κs = search needs
@@ -40,8 +37,9 @@ same-length-2 c = search needs
 
 returns : tie.Need-returns
 returns c =
-    let s = c .before .before .before .before .before .before .before .before .before .before .before .before .before .before in
-    told-close (s .args .r) (s .pre .0 .held) (c .before .before .before .before .before .before .before .before .before .before .matching .ensures) (c .done .ensures) (c .before .before .before .before .before .before .before .freeing .ensures)
+    let s = c .before .before .before .before .before .before .before .before .before .before .before .before .before .before .before in
+    told-close (s .args .r) (s .pre .held) (c .before .before .before .before .before .before .before .before .before .before .before .matching .ensures)
+    (c .before .before .before .before .before .before .before .before .freeing .ensures) (c .done .ensures) (c .before .close .ensures)
 
 pub close-spec : {M : Type 1} → statement M
 close-spec =
@@ -49,7 +47,7 @@ close-spec =
     (tie.spec
     matching-requires
     freeing-requires
-    sub-t
+    close-requires
     done-requires
     same-length
     same-length-2

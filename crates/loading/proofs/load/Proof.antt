@@ -13,11 +13,11 @@ queue-at-requires c κs = let e = whole-long _ (c .before .before .pre) in omega
 queue-at-requires-2 : tie.Need-queue-at-requires-2
 queue-at-requires-2 c κs = let e = whole-long _ (c .before .before .before .pre) in omega arith
 
-key-at-requires : tie.Need-key-at-requires
-key-at-requires c κs = let e = whole-long _ (c .before .before .before .before .pre) in omega arith
+open-at-requires : tie.Need-open-at-requires
+open-at-requires c κs = let e = whole-long _ (c .before .before .before .before .pre) in omega arith
 
-key-at-requires-2 : tie.Need-key-at-requires-2
-key-at-requires-2 c κs = let e = whole-long _ (c .before .before .before .before .before .pre) in omega arith
+key-at-requires : tie.Need-key-at-requires
+key-at-requires c κs = let e = whole-long _ (c .before .before .before .before .before .pre) in omega arith
 
 shared-slice-read-t9 : tie.Need-shared-slice-read-t9
 shared-slice-read-t9 c = let e = whole-long _ (c .before .before .before .before .before .before .before .pre) in omega arith
@@ -25,8 +25,8 @@ shared-slice-read-t9 c = let e = whole-long _ (c .before .before .before .before
 returns : tie.Need-returns
 returns c =
     let f = c .before .before .before in
-    state-parts _ (f .before .before .channels-at .ensures) (f .before .queue-at .ensures) (f .queue-at2 .ensures) (c .before .before .key-at .ensures)
-    (c .before .key-at2 .ensures)
+    state-parts _ (f .before .before .channels-at .ensures) (f .before .queue-at .ensures) (f .queue-at2 .ensures) (c .before .before .open-at .ensures)
+    (c .before .key-at .ensures)
 
 pub load-spec : {M : Type 1} → statement M
 load-spec =
@@ -35,7 +35,7 @@ load-spec =
     channels-at-requires
     queue-at-requires
     queue-at-requires-2
+    open-at-requires
     key-at-requires
-    key-at-requires-2
     shared-slice-read-t9
     returns)

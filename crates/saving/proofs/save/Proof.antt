@@ -1,6 +1,6 @@
 -- `save` meets its contract: part after part is written, and nothing is left. Assumes nothing.
 use mathlib.Core.Path.{_∙_}
-use Rattle.image.proofs.Laws.{state-wrote, queue-filled}
+use Rattle.image.proofs.Laws.{state-wrote, queue-filled, open-filled}
 use Rattle.image.proofs.Round.{saved}
 use borrow.Author.Needs.{needs}
 use Rattle.saving.proofs.save.Statement.{statement}
@@ -15,11 +15,11 @@ put-queue-requires c κs = search needs
 put-queue-requires-2 : tie.Need-put-queue-requires-2
 put-queue-requires-2 c κs = search needs
 
+put-open-requires : tie.Need-put-open-requires
+put-open-requires c κs = search needs
+
 put-key-requires : tie.Need-put-key-requires
 put-key-requires c κs = search needs
-
-put-key-requires-2 : tie.Need-put-key-requires-2
-put-key-requires-2 c κs = search needs
 
 put-width-requires : tie.Need-put-width-requires
 put-width-requires c κs = search needs
@@ -35,10 +35,17 @@ returns c =
     let x = y .before .before .before .before in
     let w = x .before .before .before .before in
     let v = w .before .before .before .before in
-    let s = v .before .before .before .before .before .before .before in
+    let s = v .before .before .before .before .before .before .before .before in
     let a = s .args in
-    let e = state-wrote (a .bytes .now) (a .b) (s .pre) (v .put-channels .ensures .wrote) (w .put-queue .ensures) (x .put-queue2 .ensures) (y .put-key .ensures) (z .put-key2 .ensures) in
-    saved (a .b) record { eight = v .put-channels .ensures .eight; channels = v .put-channels .ensures .filled; locks = queue-filled (w .put-queue .ensures); waiting = queue-filled (x .put-queue2 .ensures) }
+    let e = state-wrote (a .bytes .now) (a .b) (s .pre) (v .put-channels .ensures .wrote) (w .put-queue .ensures) (x .put-queue2 .ensures) (y .put-open .ensures) (z .put-key .ensures) in
+    saved (a .b)
+    record {
+      eight = v .put-channels .ensures .eight;
+      channels = v .put-channels .ensures .filled;
+      locks = queue-filled (w .put-queue .ensures);
+      waiting = queue-filled (x .put-queue2 .ensures);
+      opens = open-filled (a .b .state .opens) (y .put-open .ensures);
+    }
     (o .put-width .ensures ∙ e) (λ i. c .slice-known7 .given i .fits)
 
 pub save-spec : {M : Type 1} → statement M
@@ -48,8 +55,8 @@ save-spec =
     put-channels-requires
     put-queue-requires
     put-queue-requires-2
+    put-open-requires
     put-key-requires
-    put-key-requires-2
     put-width-requires
     same-length
     returns)

@@ -6,7 +6,7 @@ use lib.Dec.{eqb}
 use native.Mathlib.Omega.{arith}
 use borrow.Author.Tests.{eq-eqb, ne-eqb}
 use Rattle.shapes.specs.Shapes.{vacant}
-use Rattle.shapes.proofs.Turns.{Passed, passed-start, passed-stop, passed-more, passed-end}
+use Rattle.open_shape.proofs.Turns.{Passed, passed-start, passed-stop, passed-more, passed-end}
 use borrow.Author.Needs.{needs}
 use Rattle.shapes.proofs.spare.Statement.{statement}
 use Rattle.shapes.proofs.spare.Tie as tie

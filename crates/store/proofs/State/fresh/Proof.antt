@@ -14,9 +14,12 @@ unused-requires c κs = search needs
 empty-requires : tie.Need-empty-requires
 empty-requires c κs = search needs
 
+none-requires : tie.Need-none-requires
+none-requires c κs = search needs
+
 returns : tie.Need-returns
 unfolding frees
-returns c = rw (c .empty .ensures, c .before .unused .ensures)
+returns c = rw (c .none .ensures, c .before .empty .ensures, c .before .before .unused .ensures)
 
 pub fresh-spec : {M : Type 1} → statement M
-fresh-spec = tie.close (tie.spec unused-requires empty-requires returns)
+fresh-spec = tie.close (tie.spec unused-requires empty-requires none-requires returns)

@@ -1,0 +1,109 @@
+-- Demand 3 on the bytes that a program in C lends: runs of `qamhudeer_call`, by its promise `Crossed` and nothing else. The
+-- premises are those of crates/two_runs, said of the states that the bytes hold. proofs/CRuns.antt proves the claim as
+-- `K-sees-the-same-bytes`.
+-- Assumes nothing.
+--
+--   Turn                 one call: the numbers, combinations, reply list and room for the answer as lent; the result, and all bytes
+--                        as they became
+--   request t, asked t   its numbers as the struct has them; as the machine's call has them
+--   Took st tb t         it took the bytes of a state and a table there, by the promise; a key is two bytes
+--   Move, Chained, Keeps, Full, Run, ownCalls   as in crates/code_runs, on bytes
+--   viewBytes p st       the bytes of the board's channels, those without K as a free one's
+--   Sight, sights p st ms   the bytes of answers, records and channels, in the order of the run
+--   Demand3·bytes        two runs with the same calls of the K party show it the same
+--   bytesClaim           one name that unfolds these definitions
+use Prim.Native.Nat.{ℕ, _≤_}
+use mathlib.Core.Path.{_≡_}
+use mathlib.Core.List.{List, [], _∷_, _++_, map}
+use lib.ListN.{length}
+use Rattle.machine.specs.State.{Call}
+use Rattle.machine.specs.Log.{opOf}
+use Rattle.board.specs.Board.{stateIn, Held}
+use Rattle.image.specs.Image.{stateOf, Whole, channelBytes}
+use Rattle.answers.specs.declared.Request.{Request}
+use Rattle.refusals.specs.Refusals.{askedOf}
+use Rattle.sizes.specs.Sizes.{ANSWER, REPLIES}
+use Rattle.handed.specs.Handed.{opFor, requestOf}
+use Rattle.boundary.specs.Boundary.{Crossed}
+use Rattle.two_runs.specs.TwoRuns.{Party, Start, ByK, ByOthers, said}
+use Rattle.code_runs.specs.CodeRuns.{recordsTo, viewOf}
+
+pub record Turn : Type 0 where
+  pub op : ℕ
+  pub id : ℕ
+  pub flags : ℕ
+  pub map : ℕ
+  pub prec : ℕ
+  pub key : ℕ
+  pub combos : List ℕ
+  pub lent : List ℕ
+  pub room : List ℕ
+  pub n : ℕ
+  pub state : List ℕ
+  pub table : List ℕ
+  pub list : List ℕ
+  pub answer : List ℕ
+
+abbrev pub request : Turn → Request
+request t = requestOf (t .op) (t .id) (t .flags) (t .map) (t .prec) (t .key)
+
+abbrev pub asked : Turn → Call
+asked t = askedOf (opFor (opOf (t .op))) (request t) (t .combos) (length (t .lent))
+
+pub record Took (st tb : List ℕ) (t : Turn) : Type 0 where
+  pub crossed : Crossed (t .op) (request t) (t .combos) st tb (t .lent) (t .room) (t .n) (t .state) (t .table) (t .list) (t .answer)
+  pub six : length (t .room) ≡ ANSWER
+  pub key : t .key ≤ 65535
+
+pub data Move : Type 0 where
+  ours : Turn → Move
+  others : Turn → Move
+
+abbrev pub turn : Move → Turn
+turn (ours t) = t
+turn (others t) = t
+
+abbrev pub Chained : List ℕ → List ℕ → List Move → Type 0
+Chained st tb [] = Unit {0}
+Chained st tb (m ∷ ms) = Took st tb (turn m) × Chained (turn m .state) (turn m .table) ms
+
+abbrev pub Keeps : Party → List ℕ → List ℕ → List Move → Type 0
+Keeps p st tb [] = Unit {0}
+Keeps p st tb (ours t ∷ ms) = ByK p (stateIn (stateOf st) tb) (asked t) × Keeps p (t .state) (t .table) ms
+Keeps p st tb (others t ∷ ms) = ByOthers p (stateIn (stateOf st) tb) (asked t) × Keeps p (t .state) (t .table) ms
+
+abbrev pub Full : List Move → Type 0
+Full [] = Unit {0}
+Full (m ∷ ms) = (REPLIES ≤ length (turn m .lent)) × Full ms
+
+pub record Run (p : Party) (st tb : List ℕ) (ms : List Move) : Type 0 where
+  pub chained : Chained st tb ms
+  pub keeps : Keeps p st tb ms
+  pub full : Full ms
+
+unfoldable pub ownCalls : List Move → List Call
+ownCalls [] = []
+ownCalls (ours t ∷ ms) = said (asked t) ∷ ownCalls ms
+ownCalls (others t ∷ ms) = ownCalls ms
+
+unfoldable pub viewBytes : Party → List ℕ → List (List ℕ)
+viewBytes p st = map channelBytes (viewOf p (stateOf st))
+
+pub data Sight : Type 0 where
+  told : List ℕ → Sight
+  got : List ℕ → Sight
+  has : List (List ℕ) → Sight
+
+unfoldable pub sights : Party → List ℕ → List Move → List Sight
+sights p st [] = has (viewBytes p st) ∷ []
+sights p st (ours t ∷ ms) = map got (recordsTo p (t .n) (t .list)) ++ told (t .answer) ∷ has (viewBytes p (t .state)) ∷ sights p (t .state) ms
+sights p st (others t ∷ ms) = map got (recordsTo p (t .n) (t .list)) ++ sights p (t .state) ms
+
+abbrev pub Demand3·bytes : Type 0
+Demand3·bytes =
+    (p : Party) (st tb : List ℕ) (ms ns : List Move) → Whole st → Held (stateOf st) tb → Start p (stateIn (stateOf st) tb) → Run p st tb ms → Run p st tb ns
+    → ownCalls ms ≡ ownCalls ns → sights p st ms ≡ sights p st ns
+
+unfoldable pub bytesClaim : Unit {0}
+unfolding ownCalls viewBytes sights
+bytesClaim = tt
