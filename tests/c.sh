@@ -2,18 +2,7 @@
 # The C side: the header by itself as C99 and as C++, the library held against it, document 01's log and the example desks
 # of examples/ and docs/desk.md through the library. The last line is 'N passed, M failed'. What cannot be run here is told by a line 'NOT RUN: ..', and
 # counts as neither. scripts/library.sh says which compilers are used.
-set -u
-LC_ALL=C
-export LC_ALL
-root=$(cd "$(dirname "$0")/.." && pwd -P) || exit 2
-. "$root/scripts/program.sh"
-. "$root/scripts/library.sh"
-work=$(mktemp -d) || exit 2
-trap 'rm -rf "$work"' EXIT
-trap 'exit 2' HUP INT TERM
-cd "$root" || exit 2
-passed=0
-failed=0
+. "$(dirname "$0")/begin.sh"
 left=0
 
 # check NAME COMMAND..

@@ -13,84 +13,30 @@
 # should not. Each must be found: they show that the trial can fail.
 #
 # Where the library cannot be run it says 'NOT RUN: ..', and passes nothing.
-set -u
-LC_ALL=C
-export LC_ALL
-root=$(cd "$(dirname "$0")/.." && pwd -P) || exit 2
-. "$root/scripts/program.sh"
-. "$root/scripts/library.sh"
-work=$(mktemp -d) || exit 2
-trap 'rm -rf "$work"' EXIT
-trap 'exit 2' HUP INT TERM
-cd "$root" || exit 2
+. "$(dirname "$0")/begin.sh"
+. tests/trial.sh
 
 styles='mix locks nowait queues full aborts precedences refusals malformed lists bytes ties opens'
 styles="$styles many-locks many-steals many-entries many-waiting"
 lines=150
 tries=8
 parts='tests/fuzz tests/states tests/lent second/chance second/log second/arbiter'
-passed=0
-failed=0
-
-die() {
-    complain "$*"
-    exit 2
-}
-
-# finish: the gate's last line, and the status.
-finish() {
-    echo "$passed passed, $failed failed"
-    [ $failed -eq 0 ]
-    exit
-}
-
-prepare() {
-    if ! linker_ready; then
-        not_run "the library with any bytes: it is for x86-64, and no $linker or no emulator is here, and none could be installed"
-        echo "0 passed, 0 failed"
-        exit $skipped
-    fi
-    library_ready && make -C second -s ${CC:+CC="$CC"} generate >"$work/made" 2>&1 &&
-        link_c "$work/fuzz" $(printf '%s.c ' $parts) >>"$work/made" 2>&1 && return
-    [ ! -f "$work/made" ] || cat "$work/made"
-    echo "FAILED: the library or its trial does not build"
-    echo "0 passed, 1 failed"
-    exit 1
-}
-
-# A library that hangs is a difference too.
-limit() {
-    ! command -v timeout >/dev/null || how="timeout $1"
-}
 
 # ---- The logs
 
-# log NUMBER: how this log is made; in $work/log.
 log() {
     number=$1
     set -- $styles
     shift $((number % $#))
     board=$((4 + number % 2 * 4))
-    made="$((seed * 100000 + number)) $lines $1 $board"
-    second/generate $made >"$work/log" || die "second/generate $made fails"
+    chance=$((seed * 100000 + number))
+    made="generate $chance $lines $1 $board"
+    second/$made >"$work/log" || die "second/$made fails"
 }
 
-play_logs() {
-    at=0
-    : >"$work/counts"
-    limit 300
-    while [ $at -lt "$count" ]; do
-        log $at
-        if run_c "$work/fuzz" ${made%% *} $tries $board <"$work/log" >"$work/said" 2>&1; then
-            passed=$((passed + 1))
-            cat "$work/said" >>"$work/counts"
-        else
-            failed=$((failed + 1))
-            echo "DIFFERENT: log $at of seed $seed: second/generate $made | fuzz ${made%% *} $tries $board"
-            [ $failed -gt 3 ] || grep -v '^count' "$work/said"
-        fi
-        at=$((at + 1))
-    done
+# play PROGRAM
+play() {
+    run_c "$1" $chance $tries $board <"$work/log" >"$work/said" 2>&1
 }
 
 # What was tried, and which numbers came back.
@@ -135,44 +81,6 @@ reaches() {
 
 # ---- The wrong programs
 
-# must_differ NAME WORDS..: the program made from these finds a difference in one of fifteen logs.
-must_differ() {
-    name=$1
-    shift
-    if ! link_c "$work/wrong" -w "$@" >"$work/said" 2>&1; then
-        cat "$work/said"
-        failed=$((failed + 1))
-        echo "FAILED: does not build: $name"
-        return
-    fi
-    at=0
-    log 0
-    while [ $at -lt 15 ] && run_c "$work/wrong" ${made%% *} $tries $board <"$work/log" >"$work/said" 2>&1; do
-        at=$((at + 1))
-        log $at
-    done
-    if [ $at -lt 15 ] && grep -q '^DIFFERENT: ' "$work/said"; then
-        passed=$((passed + 1))
-        echo "found: $name: $(sed -n 's/^DIFFERENT: //p' "$work/said" | head -n 1)"
-    else
-        failed=$((failed + 1))
-        echo "FAILED: not found: $name"
-    fi
-}
-
-# wrong NAME FILE OLD NEW: in a copy of the file OLD, which stands there once, is NEW.
-wrong() {
-    altered "$2" "$3" "$4" >"$work/tree/$2" || die "not once in $2: $3"
-    must_differ "$1" "$work/tree/$2" $(objects_but "${2%.c}")
-}
-
-# objects_but PART: those of all other parts.
-objects_but() {
-    for part in $parts; do
-        [ $part = "$1" ] || echo "$work/${part#*/}.o"
-    done
-}
-
 # spoilt NAME STATEMENT: a library that does this after each call.
 spoilt() {
     {
@@ -190,11 +98,7 @@ spoilt() {
 }
 
 play_wrong() {
-    mkdir -p "$work/tree/tests" "$work/tree/second" && cp tests/*.h "$work/tree/tests" && cp second/*.h "$work/tree/second" || exit 2
-    for part in $parts; do
-        $linker -std=c99 -O2 -Iinclude -c -o "$work/${part#*/}.o" $part.c || die "$part.c does not compile"
-    done
-    limit 60
+    prepare_wrong
     arbiter=second/arbiter.c
     wrong "equal precedence steals" $arbiter 'cost.highest < precedence' 'cost.highest <= precedence'
     wrong "the last of equal costs wins" $arbiter 'costs_less(cost, least)) {' '!costs_less(least, cost)) {'
@@ -232,7 +136,7 @@ play_wrong() {
 
 case ${1:-} in
 gate)
-    prepare
+    prepare "any bytes" generate
     seed=1 count=150
     play_logs
     tell_counts
@@ -245,7 +149,7 @@ gate)
     finish
     ;;
 wrong)
-    prepare
+    prepare "any bytes" generate
     seed=1
     play_wrong
     finish
@@ -253,7 +157,7 @@ wrong)
 *)
     seed=${1:-1} count=${2:-150}
     case $seed$count in *[!0-9]*) die "usage: tests/fuzz.sh [SEED [COUNT]], tests/fuzz.sh gate or tests/fuzz.sh wrong" ;; esac
-    prepare
+    prepare "any bytes" generate
     play_logs
     tell_counts
     [ $failed -eq 0 ]

@@ -10,53 +10,18 @@
 # give the same calls on every machine.
 #
 # Where the library cannot be run it says 'NOT RUN: ..', and passes nothing.
-set -u
-LC_ALL=C
-export LC_ALL
-root=$(cd "$(dirname "$0")/.." && pwd -P) || exit 2
-. "$root/scripts/program.sh"
-. "$root/scripts/library.sh"
-work=$(mktemp -d) || exit 2
-trap 'rm -rf "$work"' EXIT
-trap 'exit 2' HUP INT TERM
-cd "$root" || exit 2
+. "$(dirname "$0")/begin.sh"
+. tests/trial.sh
 
 styles='mix locks queues full malformed lists bytes many-waiting'
 kinds='long join cut end'
 lines=60
 tries=3
 parts='tests/port tests/states tests/lent second/port second/chance second/log second/arbiter'
-passed=0
-failed=0
-
-die() {
-    complain "$*"
-    exit 2
-}
-
-finish() {
-    echo "$passed passed, $failed failed"
-    [ $failed -eq 0 ]
-    exit
-}
-
-prepare() {
-    if ! linker_ready; then
-        not_run "the service port: the library is for x86-64, and no $linker or no emulator is here, and none could be installed"
-        echo "0 passed, 0 failed"
-        exit $skipped
-    fi
-    library_ready && make -C second -s ${CC:+CC="$CC"} arbiter2 generate damage >"$work/made" 2>&1 &&
-        link_c "$work/port" $(printf '%s.c ' $parts) >>"$work/made" 2>&1 && return
-    [ ! -f "$work/made" ] || cat "$work/made"
-    echo "FAILED: the library or its trial does not build"
-    echo "0 passed, 1 failed"
-    exit 1
-}
 
 # ---- The logs
 
-# log NUMBER: how this log is made; in $work/log, and what arbiter2 writes of it in $work/whole.
+# What arbiter2 writes of the log is in $work/whole.
 log() {
     number=$1
     board=$((4 + number % 2 * 4))
@@ -75,30 +40,12 @@ log() {
     second/arbiter2 --channels $board <"$work/log" >"$work/whole" || die "second/arbiter2 fails"
 }
 
-# play PROGRAM: the log, in fragments. A library that hangs is a difference too.
+# play PROGRAM: the log, in fragments.
 play() {
-    ! command -v timeout >/dev/null || how='timeout 60'
     run_c "$1" $chance $tries $board "$work/pieces" <"$work/log" >"$work/said" 2>&1 || return
     cmp -s "$work/pieces" "$work/whole" && return
     echo "DIFFERENT: the output of the fragments is not that of the whole log" >>"$work/said"
     return 1
-}
-
-play_logs() {
-    at=0
-    : >"$work/counts"
-    while [ $at -lt "$count" ]; do
-        log $at
-        if play "$work/port"; then
-            passed=$((passed + 1))
-            cat "$work/said" >>"$work/counts"
-        else
-            failed=$((failed + 1))
-            echo "DIFFERENT: log $at of seed $seed: $made"
-            [ $failed -gt 3 ] || grep -v '^count' "$work/said"
-        fi
-        at=$((at + 1))
-    done
 }
 
 # tell_counts: what was tried. Its status is 1 where something was never met.
@@ -119,39 +66,6 @@ tell_counts() {
 
 # ---- The wrong programs
 
-# must_differ NAME WORDS..: the program made from these finds a difference in one of sixteen logs.
-must_differ() {
-    name=$1
-    shift
-    link_c "$work/wrong" -w "$@" >"$work/said" 2>&1 || { cat "$work/said"; die "does not build: $name"; }
-    at=0
-    log 0
-    while [ $at -lt 16 ] && play "$work/wrong"; do
-        at=$((at + 1))
-        log $at
-    done
-    if [ $at -lt 16 ] && grep -q '^DIFFERENT: ' "$work/said"; then
-        passed=$((passed + 1))
-        echo "found: $name: $(sed -n 's/^DIFFERENT: //p' "$work/said" | head -n 1)"
-    else
-        failed=$((failed + 1))
-        echo "FAILED: not found: $name"
-    fi
-}
-
-# objects_but PART: those of all other parts.
-objects_but() {
-    for part in $parts; do
-        [ $part = "$1" ] || echo "$work/${part%%/*}-${part#*/}.o"
-    done
-}
-
-# wrong NAME FILE OLD NEW: in a copy of the file OLD, which stands there once, is NEW.
-wrong() {
-    altered "$2" "$3" "$4" >"$work/tree/$2" || die "not once in $2: $3"
-    must_differ "$1" "$work/tree/$2" $(objects_but "${2%.c}")
-}
-
 # spoilt NAME STATEMENT: a library that does this after each fragment.
 spoilt() {
     {
@@ -168,10 +82,7 @@ spoilt() {
 }
 
 play_wrong() {
-    mkdir -p "$work/tree/tests" "$work/tree/second" && cp tests/*.h "$work/tree/tests" && cp second/*.h "$work/tree/second" || exit 2
-    for part in $parts; do
-        $linker -std=c99 -O2 -Iinclude -c -o "$work/${part%%/*}-${part#*/}.o" $part.c || die "$part.c does not compile"
-    done
+    prepare_wrong
     port=second/port.c
     wrong "the line after the LF is lost" $port 'return i + 1;' 'return length;'
     wrong "a line is cut at 526 characters" $port 'p->started < PORT_LINE' 'p->started < PORT_LINE - 1'
@@ -190,7 +101,7 @@ play_wrong() {
 
 case ${1:-} in
 gate)
-    prepare
+    prepare "the service port" arbiter2 generate damage
     seed=1 count=64
     play_logs
     if tell_counts; then
@@ -205,7 +116,7 @@ gate)
 *)
     seed=${1:-1} count=${2:-64}
     case $seed$count in *[!0-9]*) die "usage: tests/port.sh [SEED [COUNT]] or tests/port.sh gate" ;; esac
-    prepare
+    prepare "the service port" arbiter2 generate damage
     play_logs
     tell_counts
     [ $failed -eq 0 ]

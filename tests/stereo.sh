@@ -2,18 +2,7 @@
 # The stereo lists of request #108: the library for C beside the second program (tests/stereo.c says how), then wrong second
 # programs, each of which must be found, then the command ./stereo. The last line is 'N passed, M failed'. What cannot be run here
 # is told by a line 'NOT RUN: ..', and counts as neither.
-set -u
-LC_ALL=C
-export LC_ALL
-root=$(cd "$(dirname "$0")/.." && pwd -P) || exit 2
-. "$root/scripts/program.sh"
-. "$root/scripts/library.sh"
-work=$(mktemp -d) || exit 2
-trap 'rm -rf "$work"' EXIT
-trap 'exit 2' HUP INT TERM
-cd "$root" || exit 2
-passed=0
-failed=0
+. "$(dirname "$0")/begin.sh"
 left=0
 
 pass() {

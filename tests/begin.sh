@@ -1,0 +1,28 @@
+# What every test here begins with: the top as root and as the folder, the library's functions, a folder for its work, what it
+# counts. POSIX sh; it is read by '.'.
+#
+#   die WORDS    the test cannot go on
+#   finish       the last line, 'N passed, M failed', and the status
+set -u
+LC_ALL=C
+export LC_ALL
+root=$(cd "$(dirname "$0")/.." && pwd -P) || exit 2
+. "$root/scripts/program.sh"
+. "$root/scripts/library.sh"
+work=$(mktemp -d) || exit 2
+trap 'rm -rf "$work"' EXIT
+trap 'exit 2' HUP INT TERM
+cd "$root" || exit 2
+passed=0
+failed=0
+
+die() {
+    complain "$*"
+    exit 2
+}
+
+finish() {
+    echo "$passed passed, $failed failed"
+    [ $failed -eq 0 ]
+    exit
+}

@@ -1,0 +1,96 @@
+# A trial of the library beside the second program, over logs, and the wrong programs that it must find. POSIX sh; it is read by '.'
+# behind begin.sh. The test that reads it says these:
+#
+#   parts          the parts of its program in C, folder/name, its own first
+#   log NUMBER     makes a log in $work/log, and says in $made how
+#   play PROGRAM   plays the log: status 0 where there is no difference, and what the program said in $work/said
+#
+# and has these:
+#
+#   prepare WHAT PROGRAMS..    the library, these programs of second/, and the trial as $work/trial
+#   play_logs                  $count logs of $seed; what was counted in $work/counts
+#   prepare_wrong              what the wrong programs are made from
+#   must_differ NAME WORDS..   the program made from these finds a difference in one of sixteen logs
+#   objects_but PART           those of all other parts
+#   wrong NAME FILE OLD NEW    in a copy of the file OLD, which stands there once, is NEW: that must differ
+prepare() {
+    what=$1
+    shift
+    if ! linker_ready; then
+        not_run "$what: the library is for x86-64, and no $linker or no emulator is here, and none could be installed"
+        echo "0 passed, 0 failed"
+        exit $skipped
+    fi
+    library_ready && make -C second -s ${CC:+CC="$CC"} "$@" >"$work/made" 2>&1 &&
+        link_c "$work/trial" $(printf '%s.c ' $parts) >>"$work/made" 2>&1 && return
+    [ ! -f "$work/made" ] || cat "$work/made"
+    echo "FAILED: the library or its trial does not build"
+    echo "0 passed, 1 failed"
+    exit 1
+}
+
+# limit SECONDS: a library that hangs is a difference too.
+limit() {
+    ! command -v timeout >/dev/null || how="timeout $1"
+}
+
+play_logs() {
+    at=0
+    : >"$work/counts"
+    limit 300
+    while [ $at -lt "$count" ]; do
+        log $at
+        if play "$work/trial"; then
+            passed=$((passed + 1))
+            cat "$work/said" >>"$work/counts"
+        else
+            failed=$((failed + 1))
+            echo "DIFFERENT: log $at of seed $seed: $made"
+            [ $failed -gt 3 ] || grep -v '^count' "$work/said"
+        fi
+        at=$((at + 1))
+    done
+}
+
+prepare_wrong() {
+    mkdir -p "$work/tree/tests" "$work/tree/second" && cp tests/*.h "$work/tree/tests" && cp second/*.h "$work/tree/second" || exit 2
+    for part in $parts; do
+        $linker -std=c99 -O2 -Iinclude -c -o "$(object $part)" $part.c || die "$part.c does not compile"
+    done
+    limit 60
+}
+
+# object PART: two parts of one name stand in two folders.
+object() {
+    echo "$work/${1%%/*}-${1#*/}.o"
+}
+
+must_differ() {
+    name=$1
+    shift
+    link_c "$work/wrong" -w "$@" >"$work/said" 2>&1 || { cat "$work/said"; die "does not build: $name"; }
+    at=0
+    log 0
+    while [ $at -lt 16 ] && play "$work/wrong"; do
+        at=$((at + 1))
+        log $at
+    done
+    if [ $at -lt 16 ] && grep -q '^DIFFERENT: ' "$work/said"; then
+        passed=$((passed + 1))
+        echo "found: $name: $(sed -n 's/^DIFFERENT: //p' "$work/said" | head -n 1)"
+    else
+        failed=$((failed + 1))
+        echo "FAILED: not found: $name"
+    fi
+}
+
+objects_but() {
+    for part in $parts; do
+        [ $part = "$1" ] || object $part
+    done
+}
+
+wrong() {
+    altered "$2" "$3" "$4" >"$work/tree/$2" || die "not once in $2: $3"
+    must_differ "$1" "$work/tree/$2" $(objects_but "${2%.c}")
+}
