@@ -98,7 +98,7 @@ pub record OnBoard (s : StateM) : Type 0 where
   pub sane : T (sound s)
   pub size : T (sized (length (s .channels)))
 
-board-next : (s : StateM) (c : Call) → T (inRange c) → OnBoard s → OnBoard (call s c .next)
+pub board-next : (s : StateM) (c : Call) → T (inRange c) → OnBoard s → OnBoard (call s c .next)
 board-next s c f b = record { sane = call-sound s c f (b .sane); size = subst (λ (n : ℕ). T (sized n)) (sym (call-wide s c)) (b .size) }
 
 module _ {s : StateM} (b : OnBoard s) where

@@ -24,7 +24,7 @@ abbrev pub party : Party
 party = record { key = 1; floor = 138; mine = λ i. eqb i 5 || eqb i 9 }
 
 -- K on channels 0 and 1, with a write on 0; 2 another's; 3 free
-abbrev start : StateM
+abbrev pub start : StateM
 start =
     record {
       channels =
@@ -58,7 +58,7 @@ busy =
     ∷ our (ask (COMMAND 6) 5 3 0 1 [])
     ∷ []
 
-board : OnBoard start
+pub board : OnBoard start
 board = record { sane = unfold machine in tt; size = tt }
 
 -- two runs of the machine that meet the premises are two such runs of the code

@@ -1,4 +1,3 @@
 pub mod Whole
 pub mod Log
-pub mod Images
 pub mod Runs

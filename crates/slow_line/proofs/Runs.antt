@@ -29,7 +29,7 @@ use Rattle.hearing.proofs.Laws.{kept-or-not}
 use Rattle.fragments.specs.Fragments.{grown, lineWith, lineFed, portFed, lineLast, portLast, Answers, Feeds, Ends}
 use Rattle.fragments.proofs.Laws.{is-served, gathered-length}
 use Rattle.slow_line.specs.Slow.{Ran, feeds, used-up, ends, over}
-use Rattle.slow_line.proofs.Images.{Bytes, key-bytes, zero-bytes, saved-of}
+use Rattle.images.proofs.Images.{Bytes, key-bytes, zero-bytes, saved-of}
 
 -- ---- a line is heard, sound or not
 

@@ -156,7 +156,7 @@ module _ (s : StateM) (p : Parts s) where
   parts-channels : Bytes (channelsBytes (map channelOf (wide .channels))) × AllFilled (map channelOf (wide .channels))
   parts-channels = let f = few in channels-bytes (wide .channels) (wide-parts .channelsOK) (omega arith) (wide-ids .0)
 
-  sized-of : Sized (structOf s)
+  pub sized-of : Sized (structOf s)
   sized-of =
       record {
         eight = length-map (wide .channels) channelOf ∙ own-eight s p;

@@ -1,0 +1,217 @@
+-- Demand 3 of the bytes that a program in C lends is about something: every run of the machine whose calls are numbers of a program
+-- in C is a run of its calls, and two such runs, from one state, meet every premise. K sees the same bytes in both.
+-- Assumes nothing.
+use Prim.Native.Nat.{ℕ, _≤_}
+use mathlib.Core.Path.{_≡_, refl, ap, sym, subst, _∙_}
+use mathlib.Core.List.{List, [], _∷_, _++_, map}
+use native.Mathlib.Omega.{arith}
+use native.Mathlib.Nat.{zero-add}
+use lib.Dec.{T, leb, leb→le}
+use lib.ListN.{length, replicate, length-replicate}
+use Rattle.machine.specs.Lists.{all}
+use Rattle.machine.specs.State.{Call, State as StateM}
+use Rattle.machine.specs.Log.{opOf}
+use Rattle.machine.specs.Call.{call, inRange}
+use Rattle.machine.specs.Machine.{machine}
+use Rattle.machine.proofs.Tests.{and-left, and-right}
+use Rattle.machine_laws.proofs.Sound.{parts}
+use Rattle.machine_laws.proofs.KeepingCalls.{call-sound}
+use Rattle.reply.specs.Replies.{sent}
+use Rattle.store.specs.Store.{tableOf}
+use Rattle.board.specs.declared.Board.{Board}
+use Rattle.board.specs.Board.{structOf, stateIn, Held, Told}
+use Rattle.image.specs.Image.{imageOf, stateOf, Whole}
+use Rattle.image.proofs.Round.{stateOf-imageOf}
+use Rattle.images.proofs.Images.{saved-of, sized-of}
+use Rattle.answers.specs.Answers.{answerOf}
+use Rattle.refusals.specs.Refusals.{askedOf}
+use Rattle.arbiter.specs.Arbiter.{Called}
+use Rattle.sizes.specs.Sizes.{REPLIES}
+use Rattle.handed.specs.Handed.{opFor, requestOf, answerBytes}
+use Rattle.two_runs.specs.TwoRuns.{Party, Start, Step, our, their, Keeps as KeepsM, Run as RunM, calls, claim, own, said}
+use Rattle.two_runs.proofs.Premises.{premises, runs-all, starts-all}
+use Rattle.code_runs.proofs.Made.{OnBoard, board-held, board-next, board-state, outcomeOf}
+use Rattle.code_runs.proofs.Witness.{party, start, board}
+use Rattle.c_runs.specs.CRuns.{Turn, asked, request, Took, Move, ours, others, Chained, Keeps, Full, Run, ownCalls, sights}
+use Rattle.c_runs.proofs.CRuns.{K-sees-the-same-bytes}
+
+-- ---- a call as a program in C makes it, with a full reply list, and what it may become
+
+pub record Ask : Type 0 where
+  pub op : ℕ
+  pub id : ℕ
+  pub flags : ℕ
+  pub map : ℕ
+  pub prec : ℕ
+  pub key : ℕ
+  pub combos : List ℕ
+
+abbrev records : List ℕ
+records = replicate 384 0
+
+abbrev pub spelt : Ask → Call
+spelt a = askedOf (opFor (opOf (a .op))) (requestOf (a .op) (a .id) (a .flags) (a .map) (a .prec) (a .key)) (a .combos) (length records)
+
+abbrev pub bytesOf : StateM → List ℕ
+bytesOf s = imageOf (structOf s)
+
+abbrev pub made : StateM → Ask → Turn
+made s a =
+    let o = call s (spelt a) in
+    record {
+      op = a .op;
+      id = a .id;
+      flags = a .flags;
+      map = a .map;
+      prec = a .prec;
+      key = a .key;
+      combos = a .combos;
+      lent = records;
+      room = replicate 6 0;
+      n = length (o .replies);
+      state = bytesOf (o .next);
+      table = tableOf (o .next);
+      list = sent records 0 (o .replies);
+      answer = answerBytes (answerOf (o .answer));
+    }
+
+pub data Says : Type 0 where
+  ourAsk : Ask → Says
+  theirAsk : Ask → Says
+
+abbrev pub steps : List Says → List Step
+steps [] = []
+steps (ourAsk a ∷ xs) = our (spelt a) ∷ steps xs
+steps (theirAsk a ∷ xs) = their (spelt a) ∷ steps xs
+
+abbrev pub moves : StateM → List Says → List Move
+moves s [] = []
+moves s (ourAsk a ∷ xs) = ours (made s a) ∷ moves (call s (spelt a) .next) xs
+moves s (theirAsk a ∷ xs) = others (made s a) ∷ moves (call s (spelt a) .next) xs
+
+ownCalls-moves : (s : StateM) (xs : List Says) → ownCalls (moves s xs) ≡ own (steps xs)
+unfolding ownCalls own
+ownCalls-moves s [] = refl
+ownCalls-moves s (ourAsk a ∷ xs) = ap (λ (cs : List Call). said (spelt a) ∷ cs) (ownCalls-moves (call s (spelt a) .next) xs)
+ownCalls-moves s (theirAsk a ∷ xs) = ownCalls-moves (call s (spelt a) .next) xs
+
+-- ---- it keeps the promise
+
+module _ {s : StateM} (b : OnBoard s) where
+  bytes-whole : Whole (bytesOf s)
+  bytes-whole = saved-of s (parts s (b .sane)) .whole
+
+  bytes-state : stateOf (bytesOf s) ≡ structOf s
+  bytes-state = stateOf-imageOf (structOf s) (sized-of s (parts s (b .sane)))
+
+  bytes-held : Held (stateOf (bytesOf s)) (tableOf s)
+  bytes-held = rw bytes-state (board-held b)
+
+  module _ (a : Ask) (f : T (inRange (spelt a))) where
+    made-told : Told (call s (spelt a)) records (outcomeOf (call s (spelt a))) (tableOf (call s (spelt a) .next)) (sent records 0 (call s (spelt a) .replies))
+    made-told = record { answer = refl; did = record { struct = refl; table = refl; list = refl; count = sym (zero-add (length (call s (spelt a) .replies))) } }
+
+    made-called : Called (opFor (opOf (a .op))) (request (made s a)) (structOf s) (a .combos) (tableOf s) records (outcomeOf (call s (spelt a)))
+        (tableOf (call s (spelt a) .next)) (sent records 0 (call s (spelt a) .replies))
+    made-called = record { sound = λ _. rw (board-state b) made-told; unsound = λ n. absurd (n (board-held b)) }
+
+    made-took : Took (bytesOf s) (tableOf s) (made s a)
+    unfolding inRange
+    made-took =
+        let o = call s (spelt a) in
+        record {
+          crossed =
+              record {
+                unanswered = λ n. absurd (n refl);
+                unread = λ _ n. absurd (n bytes-whole);
+                carried = λ _ _. record {
+                  outcome = outcomeOf o;
+                  called = rw bytes-state made-called;
+                  count = refl;
+                  state = saved-of (o .next) (parts (o .next) (call-sound s (spelt a) f (b .sane)));
+                  answer = refl;
+                };
+              };
+          six = refl;
+          key = leb→le (a .key) 65535 (and-right (leb (spelt a .prec) 255) (leb (a .key) 65535) f);
+        }
+
+-- ---- so the run is one of a program in C
+
+chained-moves : (s : StateM) (xs : List Says) → OnBoard s → T (all inRange (calls (steps xs))) → Chained (bytesOf s) (tableOf s) (moves s xs)
+unfolding calls all
+chained-moves s [] b f = tt
+chained-moves s (ourAsk a ∷ xs) b f =
+    let g = and-left (inRange (spelt a)) (all inRange (calls (steps xs))) f in
+    (made-took b a g, chained-moves (call s (spelt a) .next) xs (board-next s (spelt a) g b) (and-right (inRange (spelt a)) (all inRange (calls (steps xs))) f))
+chained-moves s (theirAsk a ∷ xs) b f =
+    let g = and-left (inRange (spelt a)) (all inRange (calls (steps xs))) f in
+    (made-took b a g, chained-moves (call s (spelt a) .next) xs (board-next s (spelt a) g b) (and-right (inRange (spelt a)) (all inRange (calls (steps xs))) f))
+
+keeps-moves : (p : Party) (s : StateM) (xs : List Says) → OnBoard s → T (all inRange (calls (steps xs))) → KeepsM p s (steps xs)
+    → Keeps p (bytesOf s) (tableOf s) (moves s xs)
+unfolding calls all
+keeps-moves p s [] b f k = tt
+keeps-moves p s (ourAsk a ∷ xs) b f k =
+    let g = and-left (inRange (spelt a)) (all inRange (calls (steps xs))) f in (
+      rw (bytes-state b, board-state b) (k .0),
+      keeps-moves p (call s (spelt a) .next) xs (board-next s (spelt a) g b) (and-right (inRange (spelt a)) (all inRange (calls (steps xs))) f) (k .1),
+    )
+keeps-moves p s (theirAsk a ∷ xs) b f k =
+    let g = and-left (inRange (spelt a)) (all inRange (calls (steps xs))) f in (
+      rw (bytes-state b, board-state b) (k .0),
+      keeps-moves p (call s (spelt a) .next) xs (board-next s (spelt a) g b) (and-right (inRange (spelt a)) (all inRange (calls (steps xs))) f) (k .1),
+    )
+
+enough : REPLIES ≤ length records
+enough = omega (arith, length-replicate {A = ℕ} 384 0)
+
+full-moves : (s : StateM) (xs : List Says) → Full (moves s xs)
+full-moves s [] = tt
+full-moves s (ourAsk a ∷ xs) = (enough, full-moves (call s (spelt a) .next) xs)
+full-moves s (theirAsk a ∷ xs) = (enough, full-moves (call s (spelt a) .next) xs)
+
+pub machine-runs-are-runs-of-C : (p : Party) (s : StateM) (xs : List Says) → OnBoard s → RunM p s (steps xs) → Run p (bytesOf s) (tableOf s) (moves s xs)
+machine-runs-are-runs-of-C p s xs b r =
+    record { chained = chained-moves s xs b (r .fits); keeps = keeps-moves p s xs b (r .fits) (r .keeps); full = full-moves s xs }
+
+-- ---- two runs
+
+-- operation, id, map, precedence, key, combinations
+abbrev ask : ℕ → ℕ → ℕ → ℕ → ℕ → List ℕ → Ask
+ask op i m p k l = record { op = op; id = i; flags = 0; map = m; prec = p; key = k; combos = l }
+
+-- K writes on channel 1, its write on channel 0 ends, it stops both
+abbrev quiet : List Says
+quiet = ourAsk (ask 3 9 2 0 1 []) ∷ ourAsk (ask 0xF3 0 1 0 0 []) ∷ ourAsk (ask 6 5 3 0 1 []) ∷ []
+
+-- the others open with a list and steal channel 2, take channel 3, wait for channel 0 and close; the event has a bit more
+abbrev busy : List Says
+busy =
+    theirAsk (ask 0xF0 0 0 10 0 (4 ∷ []))
+    ∷ ourAsk (ask 3 9 2 0 1 [])
+    ∷ theirAsk (ask 32 31 0 10 0 (8 ∷ []))
+    ∷ theirAsk (ask 32 32 0 10 0 (1 ∷ []))
+    ∷ ourAsk (ask 0xF3 0 5 0 0 [])
+    ∷ theirAsk (ask 0xF1 0 0 0 8 [])
+    ∷ ourAsk (ask 6 5 3 0 1 [])
+    ∷ []
+
+begins : Start party start
+begins = starts-all party start (unfold machine claim premises in tt)
+
+quiet-runs : RunM party start (steps quiet)
+quiet-runs = runs-all party start (steps quiet) (unfold machine claim premises in tt)
+
+busy-runs : RunM party start (steps busy)
+busy-runs = runs-all party start (steps busy) (unfold machine claim premises in tt)
+
+same-calls : own (steps quiet) ≡ own (steps busy)
+unfolding machine claim
+same-calls = refl
+
+pub alike : sights party (bytesOf start) (moves start quiet) ≡ sights party (bytesOf start) (moves start busy)
+alike =
+    K-sees-the-same-bytes party (bytesOf start) (tableOf start) (moves start quiet) (moves start busy) (bytes-whole board) (bytes-held board)
+    (rw (bytes-state board, board-state board) begins) (machine-runs-are-runs-of-C party start quiet board quiet-runs)
+    (machine-runs-are-runs-of-C party start busy board busy-runs) (ownCalls-moves start quiet ∙ (same-calls ∙ sym (ownCalls-moves start busy)))
