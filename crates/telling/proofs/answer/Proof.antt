@@ -2,10 +2,10 @@
 use mathlib.Core.Path.{sym}
 use native.Mathlib.Omega.{arith}
 use lib.Seq.{length-take-le}
-use Rattle.fragments.proofs.Laws.{told-few, told-length, poured}
+use Rattle.telling.proofs.Laws.{told-few, told-length, poured}
 use borrow.Author.Needs.{needs}
-use Rattle.fragments.proofs.answer.Statement.{statement}
-use Rattle.fragments.proofs.answer.Tie as tie
+use Rattle.telling.proofs.answer.Statement.{statement}
+use Rattle.telling.proofs.answer.Tie as tie
 
 slice-aggregate-hear : tie.Need-slice-aggregate-hear
 slice-aggregate-hear c = sym (length-take-le _ _ (c .before .before .before .before .before .pre .0))

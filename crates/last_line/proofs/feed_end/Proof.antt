@@ -5,10 +5,11 @@ use native.Mathlib.Omega.{arith}
 use lib.ListN.{length, length-drop}
 use Rattle.sizes.specs.Sizes.{ROOM}
 use Rattle.port.proofs.Laws.{Proper, allowed}
-use Rattle.fragments.proofs.Laws.{is-refused, is-served, none-moves, last-moves}
+use Rattle.telling.proofs.Laws.{is-refused, is-served}
+use Rattle.last_line.proofs.Laws.{none-moves, last-moves}
 use borrow.Author.Needs.{needs}
-use Rattle.fragments.proofs.feed_end.Statement.{statement}
-use Rattle.fragments.proofs.feed_end.Tie as tie
+use Rattle.last_line.proofs.feed_end.Statement.{statement}
+use Rattle.last_line.proofs.feed_end.Tie as tie
 
 refusal-requires : tie.Need-refusal-requires
 refusal-requires c κs = search needs

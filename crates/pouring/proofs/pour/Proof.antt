@@ -4,8 +4,8 @@ use native.Mathlib.Omega.{arith}
 use lib.ListN.{length-take}
 use lib.Seq.{length-take-le}
 use borrow.Author.Needs.{needs}
-use Rattle.fragments.proofs.pour.Statement.{statement}
-use Rattle.fragments.proofs.pour.Tie as tie
+use Rattle.pouring.proofs.pour.Statement.{statement}
+use Rattle.pouring.proofs.pour.Tie as tie
 
 slice-aggregate-copy : tie.Need-slice-aggregate-copy
 slice-aggregate-copy c = sym (length-take-le _ _ (omega arith))
