@@ -17,7 +17,7 @@ use Rattle.store.specs.Store.{tableOf}
 use Rattle.board.specs.Board.{structOf}
 use Rattle.image.specs.Image.{keyBytes, imageOf, isByte}
 use Rattle.gathering.specs.Lumps.{LINE, front, ended, used, kept, gatheredOf, Gathers}
-use Rattle.feeding.specs.Feeding.{unheard}
+use Rattle.unheard.specs.Unheard.{unheard}
 use Rattle.taking.proofs.Kept.{held-fine, feed-fine}
 use Rattle.taking.proofs.Laws.{kept-few, used-some}
 use Rattle.whole_log.specs.Whole.{joined}

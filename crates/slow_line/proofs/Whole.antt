@@ -17,7 +17,7 @@ use Rattle.store.specs.Store.{tableOf}
 use Rattle.image.specs.Image.{Saved}
 use Rattle.gathering.specs.Lumps.{LINE, front, ended, used, gatheredOf, Gathers}
 use Rattle.gathering.proofs.Lumps.{Stands, stands-none, stands-more, stands-frame, stands-feed, front-open, used-open, lines-none, lines-last, lines-step, lines-on}
-use Rattle.feeding.specs.Feeding.{unheard}
+use Rattle.unheard.specs.Unheard.{unheard}
 use Rattle.port.specs.Port.{startedIn, lineIn, portOf, refusal}
 use Rattle.port.proofs.Laws.{started-back}
 use Rattle.hearing.specs.Hearing.{heldIn, Hears, Tells}
