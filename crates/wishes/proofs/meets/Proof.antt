@@ -1,8 +1,8 @@
 -- `meets` meets its contract: the three tests of the definition, one after the other. Assumes nothing.
 use borrow.Author.Needs.{needs}
-use Rattle.stereo.proofs.Laws.{high-fails, lefts-fail, rights-tell}
-use Rattle.stereo.proofs.meets.Statement.{statement}
-use Rattle.stereo.proofs.meets.Tie as tie
+use Rattle.wishes.proofs.Laws.{high-fails, lefts-fail, rights-tell}
+use Rattle.wishes.proofs.meets.Statement.{statement}
+use Rattle.wishes.proofs.meets.Tie as tie
 
 returns : tie.Need-returns
 returns c = high-fails _ _ _ (search needs)

@@ -1,12 +1,12 @@
 -- `lefts` meets its contract: the two channels on that side, one behind the other. Assumes nothing.
 use mathlib.Core.Path.{refl}
-use Rattle.stereo.specs.Stereo.{lefts}
+use Rattle.wishes.specs.Wishes.{lefts}
 use borrow.Author.Needs.{needs}
-use Rattle.stereo.proofs.lefts.Statement.{statement}
-use Rattle.stereo.proofs.lefts.Tie as tie
-use Rattle.stereo.proofs.lefts.Reads as reads
-use Rattle.stereo.proofs.lefts.Lts as lts
-use Rattle.stereo.proofs.named.Reads as named-reads
+use Rattle.wishes.proofs.lefts.Statement.{statement}
+use Rattle.wishes.proofs.lefts.Tie as tie
+use Rattle.wishes.proofs.lefts.Reads as reads
+use Rattle.wishes.proofs.lefts.Lts as lts
+use Rattle.wishes.proofs.named.Reads as named-reads
 
 named-requires : tie.Need-named-requires
 named-requires c κs = search needs

@@ -1,12 +1,12 @@
 -- `rights` meets its contract: the two channels on that side, one behind the other. Assumes nothing.
 use mathlib.Core.Path.{refl}
-use Rattle.stereo.specs.Stereo.{rights}
+use Rattle.wishes.specs.Wishes.{rights}
 use borrow.Author.Needs.{needs}
-use Rattle.stereo.proofs.rights.Statement.{statement}
-use Rattle.stereo.proofs.rights.Tie as tie
-use Rattle.stereo.proofs.rights.Reads as reads
-use Rattle.stereo.proofs.rights.Lts as lts
-use Rattle.stereo.proofs.named.Reads as named-reads
+use Rattle.wishes.proofs.rights.Statement.{statement}
+use Rattle.wishes.proofs.rights.Tie as tie
+use Rattle.wishes.proofs.rights.Reads as reads
+use Rattle.wishes.proofs.rights.Lts as lts
+use Rattle.wishes.proofs.named.Reads as named-reads
 
 named-requires : tie.Need-named-requires
 named-requires c κs = search needs

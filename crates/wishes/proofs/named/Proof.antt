@@ -4,10 +4,10 @@ use Prim.Native.Nat.{_/_, _^_}
 use mathlib.Core.Path.{refl}
 use native.Mathlib.Omega.{arith}
 use lib.Bits.{and-mask}
-use Rattle.stereo.specs.Stereo.{named}
+use Rattle.wishes.specs.Wishes.{named}
 use borrow.Author.Needs.{needs}
-use Rattle.stereo.proofs.named.Statement.{statement}
-use Rattle.stereo.proofs.named.Tie as tie
+use Rattle.wishes.proofs.named.Statement.{statement}
+use Rattle.wishes.proofs.named.Tie as tie
 
 shr-result : tie.Need-shr-result
 shr-result c = search needs
