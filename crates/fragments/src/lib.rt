@@ -21,7 +21,7 @@ pub fn feed(
     ensures { λ r. ⌜ Feeds (now (fragment .entry)) (now (port .entry)) (now (state .entry)) (now (table .entry)) (now (out .entry))
         (r .error) (r .used) (r .written) (now (port .exit)) (now (state .exit)) (now (table .exit)) (now (out .exit)) ⌝ }
 {
-    let error = port::refusal(port, out.len());
+    let error = admitting::refusal(port, out.len());
     if error != 0 {
         return Fed {
             error,

@@ -13,7 +13,7 @@ pub fn feed_end(port: &mut [u8], state: &mut [u8], table: &mut [u8], out: &mut [
     ensures { λ r. ⌜ Ends (now (port .entry)) (now (state .entry)) (now (table .entry)) (now (out .entry))
         (r .error) (r .written) (now (port .exit)) (now (state .exit)) (now (table .exit)) (now (out .exit)) ⌝ }
 {
-    let refused = port::refusal(port, out.len());
+    let refused = admitting::refusal(port, out.len());
     if refused != 0 {
         return Ended {
             error: refused,

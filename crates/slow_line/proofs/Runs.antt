@@ -23,7 +23,8 @@ use Rattle.taking.proofs.Laws.{kept-few, used-some}
 use Rattle.whole_log.specs.Whole.{joined}
 use Rattle.sizes.specs.Sizes.{PORT, ROOM}
 use Rattle.port.specs.Port.{startedIn, lineIn, portOf}
-use Rattle.port.proofs.Laws.{Proper, no-refusal, started-back}
+use Rattle.port.proofs.Laws.{started-back}
+use Rattle.admitting.proofs.Laws.{Proper, no-refusal}
 use Rattle.hearing.specs.Hearing.{Kept, heldIn, Hears}
 use Rattle.hearing.proofs.Laws.{kept-or-not}
 use Rattle.telling.specs.Telling.{Answers}

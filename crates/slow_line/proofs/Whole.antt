@@ -18,8 +18,9 @@ use Rattle.image.specs.Image.{Saved}
 use Rattle.gathering.specs.Lumps.{LINE, front, ended, used, gatheredOf, Gathers}
 use Rattle.gathering.proofs.Lumps.{Stands, stands-none, stands-more, stands-frame, stands-feed, front-open, used-open, lines-none, lines-last, lines-step, lines-on}
 use Rattle.unheard.specs.Unheard.{unheard}
-use Rattle.port.specs.Port.{startedIn, lineIn, portOf, refusal}
+use Rattle.port.specs.Port.{startedIn, lineIn, portOf}
 use Rattle.port.proofs.Laws.{started-back}
+use Rattle.admitting.specs.Admitting.{refusal}
 use Rattle.hearing.specs.Hearing.{heldIn, Hears, Tells}
 use Rattle.hearing.proofs.Laws.{one-hearing}
 use Rattle.telling.specs.Telling.{Silent, Answers, Still, Moves}

@@ -14,8 +14,8 @@ use Rattle.memory.specs.Splice.{splice}
 use Rattle.memory.proofs.Splice.{length-splice}
 use Rattle.pouring.specs.Pouring.{Pours}
 use Rattle.sizes.specs.Sizes.{ROOM}
-use Rattle.port.specs.Port.{refusal}
-use Rattle.port.proofs.Laws.{Proper, allowed}
+use Rattle.admitting.specs.Admitting.{refusal}
+use Rattle.admitting.proofs.Laws.{Proper, allowed}
 use Rattle.hearing.specs.Hearing.{Tells}
 use Rattle.hearing.proofs.Laws.{Same, one-telling, hears-few}
 use Rattle.telling.specs.Telling.{Silent, Says, Answers, Still, Moves, Ported}

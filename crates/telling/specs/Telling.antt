@@ -12,7 +12,7 @@ use mathlib.Core.Path.{_≡_}
 use mathlib.Core.List.{List}
 use mathlib.Core.Option.{Option, none, some}
 use lib.ListN.{length, take}
-use Rattle.port.specs.Port.{refusal}
+use Rattle.admitting.specs.Admitting.{refusal}
 use Rattle.hearing.specs.Hearing.{Tells}
 
 pub record Silent (st tb out : List ℕ) (n : ℕ) (st′ tb′ out′ : List ℕ) : Type 0 where

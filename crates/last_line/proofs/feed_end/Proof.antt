@@ -4,7 +4,7 @@ use mathlib.Core.Path.{refl, ap, sym, _∙_}
 use native.Mathlib.Omega.{arith}
 use lib.ListN.{length, length-drop}
 use Rattle.sizes.specs.Sizes.{ROOM}
-use Rattle.port.proofs.Laws.{Proper, allowed}
+use Rattle.admitting.proofs.Laws.{Proper, allowed}
 use Rattle.telling.proofs.Laws.{is-refused, is-served}
 use Rattle.last_line.proofs.Laws.{none-moves, last-moves}
 use borrow.Author.Needs.{needs}

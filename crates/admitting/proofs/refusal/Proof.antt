@@ -1,10 +1,10 @@
 -- `refusal` meets its contract, test by test. Assumes nothing.
 use native.Mathlib.Omega.{arith}
 use Rattle.image.proofs.Laws.{bytes-all}
-use Rattle.port.proofs.Laws.{Proper, bad-size, bad-count, small-room, no-refusal}
+use Rattle.admitting.proofs.Laws.{Proper, bad-size, bad-count, small-room, no-refusal}
 use borrow.Author.Needs.{needs}
-use Rattle.port.proofs.refusal.Statement.{statement}
-use Rattle.port.proofs.refusal.Tie as tie
+use Rattle.admitting.proofs.refusal.Statement.{statement}
+use Rattle.admitting.proofs.refusal.Tie as tie
 
 returns : tie.Need-returns
 returns c = let a = c .before .before .args in let r = bad-size (a .port .now) (a .room) (λ e. c .if1 .taken (omega arith)) in omega arith
