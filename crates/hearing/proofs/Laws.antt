@@ -16,9 +16,11 @@ use Rattle.board.specs.Board.{Held}
 use Rattle.image.specs.Image.{imageOf, stateOf, isWhole, Whole, Saved}
 use Rattle.image.proofs.Round.{imageOf-stateOf, one-image}
 use Rattle.arbiter.proofs.Outcome.{held-or-not}
-use Rattle.feeding.specs.declared.Fed.{Fed}
-use Rattle.feeding.specs.Feeding.{Feeds, unheard, Unheard, FeedsAny}
-use Rattle.feeding.proofs.Laws.{feed-few}
+use Rattle.unheard.specs.declared.Fed.{Fed}
+use Rattle.unheard.specs.Unheard.{unheard, Unheard}
+use Rattle.serving.specs.Serving.{Feeds}
+use Rattle.serving.proofs.Laws.{feed-few}
+use Rattle.feeding.specs.Feeding.{FeedsAny}
 use Rattle.hearing.specs.Hearing.{Kept, heldIn, Hears, Tells}
 
 -- ---- whether the bytes hold a sound state

@@ -17,7 +17,7 @@ use Rattle.memory.specs.Splice.{splice}
 use Rattle.store.specs.Store.{tableOf}
 use Rattle.board.specs.Board.{structOf, stateIn, Held}
 use Rattle.image.specs.Image.{stateOf, Whole, Saved}
-use Rattle.feeding.specs.Feeding.{unheard}
+use Rattle.unheard.specs.Unheard.{unheard}
 
 pub record Kept (st tb : List ℕ) : Type 0 where
   pub whole : Whole st

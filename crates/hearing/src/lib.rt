@@ -10,7 +10,7 @@ pub fn hear(line: &[u8], state: &mut [u8], table: &mut [u8], out: &mut [u8; 973]
 {
     if !image::whole(state) {
         // which state is left aside does not matter: none is held
-        let none = feeding::unsound(Board::fresh(Board::FOUR), line, out);
+        let none = unheard::unsound(Board::fresh(Board::FOUR), line, out);
         return none.n;
     }
     let b = loading::load(state);

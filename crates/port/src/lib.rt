@@ -1,32 +1,16 @@
-// A port: what stands of a line between two fragments, in 529 bytes that a caller keeps: tested, read and written. Assumes nothing.
+// A port: what stands of a line between two fragments, in 529 bytes that a caller keeps: read and written. Assumes nothing.
 ghost use mathlib.Core.Path.{_≡_};
 ghost use Prim.Native.Nat.{_≤_};
 ghost use lib.ListN.{length};
 ghost use Rattle.gathering.specs.Lumps.{LINE};
 ghost use Rattle.sizes.specs.Sizes.{PORT};
-ghost use Rattle.port.specs.Port.{refusal as refusalOf, startedIn, lineIn, portOf};
+ghost use Rattle.port.specs.Port.{startedIn, lineIn, portOf};
 
 // The cast stands by itself, so that a caller has no fact of its own to show for it.
 fn count(x: u16) -> usize
     ensures { λ r. ⌜ r ≡ x ⌝ }
 {
     x as usize
-}
-
-// Why a call with this port and so much room is refused, or 0.
-pub fn refusal(port: &[u8], room: usize) -> u8
-    ensures { λ r. ⌜ r ≡ refusalOf (now (port .entry)) room ⌝ }
-{
-    if port.len() != 529 {
-        return 1;
-    }
-    if memory::key_at(port, 0) > 527 {
-        return 1;
-    }
-    if room < 973 {
-        return 12;
-    }
-    0
 }
 
 // How many bytes stand of the line.

@@ -21,7 +21,7 @@ use Rattle.channel_lines.specs.ChannelLines.{boardLines, Shows}
 use Rattle.channel_lines.proofs.ChannelLines.{board-few}
 use Rattle.lines.proofs.Laws.{length-told}
 use Rattle.gathering.specs.Lumps.{used}
-use Rattle.feeding.proofs.Laws.{feed-few}
+use Rattle.serving.proofs.Laws.{feed-few}
 use Rattle.taking.specs.declared.Taken.{Taken}
 use Rattle.taking.specs.Desk.{shownOf, fed, answered, needed, Leaves}
 use Rattle.taking.proofs.Kept.{fed-next}

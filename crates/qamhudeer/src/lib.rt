@@ -6,7 +6,8 @@ ghost use Rattle.sizes.specs.Sizes.{TABLE, REPLIES, ANSWER, PORT, ROOM};
 ghost use Rattle.handed.specs.Handed.{requestOf};
 ghost use Rattle.starting.specs.Starting.{Started};
 ghost use Rattle.boundary.specs.Boundary.{Crossed};
-ghost use Rattle.fragments.specs.Fragments.{Feeds, Ends};
+ghost use Rattle.fragments.specs.Fragments.{Feeds};
+ghost use Rattle.last_line.specs.LastLine.{Ends};
 ghost use Rattle.machine.specs.Lists.{if_then_else_};
 ghost use Rattle.stereo.specs.Stereo.{Listed, accepts};
 
@@ -175,7 +176,7 @@ pub extern "C" fn qamhudeer_feed_end(
     ensures { λ r. ⌜ Ends (now (port .entry)) (now (state .entry)) (now (table .entry)) (now (out .entry))
         r (now (written .exit)) (now (port .exit)) (now (state .exit)) (now (table .exit)) (now (out .exit)) ⌝ }
 {
-    let f = fragments::feed_end(port, state, table, out);
+    let f = last_line::feed_end(port, state, table, out);
     *written = f.written;
     f.error
 }

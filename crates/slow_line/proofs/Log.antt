@@ -17,8 +17,8 @@ use Rattle.image.specs.Image.{STATE, imageOf, stateOf}
 use Rattle.image.proofs.Round.{imageOf-stateOf, stateOf-imageOf}
 use Rattle.digits.proofs.Laws.{long-line-malformed}
 use Rattle.gathering.proofs.Lumps.{Stands}
-use Rattle.feeding.specs.Feeding.{dull, unheard}
-use Rattle.feeding.proofs.Laws.{feed-malformed}
+use Rattle.unheard.specs.Unheard.{dull, unheard}
+use Rattle.serving.proofs.Laws.{feed-malformed}
 use Rattle.taking.specs.Desk.{logShown}
 use Rattle.taking.proofs.Kept.{held-fine, feed-fine}
 use Rattle.whole_log.specs.Whole.{joined}

@@ -17,17 +17,21 @@ use Rattle.store.specs.Store.{tableOf}
 use Rattle.board.specs.Board.{structOf}
 use Rattle.image.specs.Image.{keyBytes, imageOf, isByte}
 use Rattle.gathering.specs.Lumps.{LINE, front, ended, used, kept, gatheredOf, Gathers}
-use Rattle.feeding.specs.Feeding.{unheard}
+use Rattle.unheard.specs.Unheard.{unheard}
 use Rattle.taking.proofs.Kept.{held-fine, feed-fine}
 use Rattle.taking.proofs.Laws.{kept-few, used-some}
 use Rattle.whole_log.specs.Whole.{joined}
 use Rattle.sizes.specs.Sizes.{PORT, ROOM}
 use Rattle.port.specs.Port.{startedIn, lineIn, portOf}
-use Rattle.port.proofs.Laws.{Proper, no-refusal, started-back}
+use Rattle.port.proofs.Laws.{started-back}
+use Rattle.admitting.proofs.Laws.{Proper, no-refusal}
 use Rattle.hearing.specs.Hearing.{Kept, heldIn, Hears}
 use Rattle.hearing.proofs.Laws.{kept-or-not}
-use Rattle.fragments.specs.Fragments.{grown, lineWith, lineFed, portFed, lineLast, portLast, Answers, Feeds, Ends}
-use Rattle.fragments.proofs.Laws.{is-served, gathered-length}
+use Rattle.telling.specs.Telling.{Answers}
+use Rattle.telling.proofs.Laws.{is-served}
+use Rattle.fragments.specs.Fragments.{grown, lineWith, lineFed, portFed, Feeds}
+use Rattle.fragments.proofs.Laws.{gathered-length}
+use Rattle.last_line.specs.LastLine.{lineLast, portLast, Ends}
 use Rattle.slow_line.specs.Slow.{Ran, feeds, used-up, ends, over}
 use Rattle.images.proofs.Images.{Bytes, key-bytes, zero-bytes, saved-of}
 

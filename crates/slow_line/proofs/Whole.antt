@@ -17,13 +17,16 @@ use Rattle.store.specs.Store.{tableOf}
 use Rattle.image.specs.Image.{Saved}
 use Rattle.gathering.specs.Lumps.{LINE, front, ended, used, gatheredOf, Gathers}
 use Rattle.gathering.proofs.Lumps.{Stands, stands-none, stands-more, stands-frame, stands-feed, front-open, used-open, lines-none, lines-last, lines-step, lines-on}
-use Rattle.feeding.specs.Feeding.{unheard}
-use Rattle.port.specs.Port.{startedIn, lineIn, portOf, refusal}
+use Rattle.unheard.specs.Unheard.{unheard}
+use Rattle.port.specs.Port.{startedIn, lineIn, portOf}
 use Rattle.port.proofs.Laws.{started-back}
+use Rattle.admitting.specs.Admitting.{refusal}
 use Rattle.hearing.specs.Hearing.{heldIn, Hears, Tells}
 use Rattle.hearing.proofs.Laws.{one-hearing}
-use Rattle.fragments.specs.Fragments.{grown, lineWith, lineFed, portFed, lineLast, portLast, Silent, Answers, Still, Moves, Feeds, Ends}
-use Rattle.fragments.proofs.Laws.{told-front, none-or-not}
+use Rattle.telling.specs.Telling.{Silent, Answers, Still, Moves}
+use Rattle.telling.proofs.Laws.{told-front, none-or-not}
+use Rattle.fragments.specs.Fragments.{grown, lineWith, lineFed, portFed, Feeds}
+use Rattle.last_line.specs.LastLine.{lineLast, portLast, Ends}
 use Rattle.whole_log.specs.Whole.{joined}
 use Rattle.slow_line.specs.Slow.{Heard, none as no-line, more, Ran, feeds, used-up, ends, over}
 

@@ -22,7 +22,8 @@ use Rattle.board.specs.Board.{structOf}
 use Rattle.image.specs.Image.{imageOf}
 use Rattle.port.specs.Port.{startedIn}
 use Rattle.hearing.specs.Hearing.{Kept, heldIn, Hears}
-use Rattle.fragments.specs.Fragments.{Feeds, Ends}
+use Rattle.fragments.specs.Fragments.{Feeds}
+use Rattle.last_line.specs.LastLine.{Ends}
 
 -- "the log taken in one"
 pub data Heard : (st tb : List ℕ) → List (List ℕ) → (out st₂ tb₂ : List ℕ) → Type 0 where

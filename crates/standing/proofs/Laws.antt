@@ -1,39 +1,18 @@
--- Why the lower price costs less: the number stolen is below 256, so the highest precedence is weighed first. And a promise of
--- all channels of a standing is never empty: each standing is that of some. Assumes nothing.
-use Prim.Native.Nat.{ℕ, suc, _+_, _*_, _^_, _<_}
+-- A promise of all channels of a standing is never empty: each standing is that of some. Assumes nothing.
+use Prim.Native.Nat.{ℕ, suc, _^_, _<_}
 use mathlib.Core.Path.{_≡_, refl, ap, ap₂, sym, _∙_}
-use mathlib.Core.Logic.{inl, inr, _↔_}
 use mathlib.Core.Bool.{Bool, true, false, not}
 use mathlib.Core.List.{List, [], _∷_, map}
 use native.Mathlib.Nat.{pow-suc}
 use native.Mathlib.Omega.{arith}
-use lib.Dec.{eqb, ltb, ltb→lt, nltb→le}
+use lib.Dec.{eqb}
 use lib.ListN.{length}
 use Rattle.machine.specs.Lists.{if_then_else_}
 use Rattle.machine.specs.State.{Channel, isFree}
 use Rattle.machine.specs.Maps.{odd, half, bit}
-use Rattle.machine.specs.Choosing.{highest, stolen}
-use Rattle.machine.specs.Rule.{CostsLess}
-use Rattle.machine.proofs.Tests.{by-test}
 use Rattle.machine_laws.proofs.Maps.{bit-of}
 use Rattle.standing.specs.declared.Standing.{Standing}
-use Rattle.standing.specs.Standing.{failing, Stood, price}
-
-pub price-less : (m o : ℕ) (cs : List Channel) → stolen m cs < 256 → stolen o cs < 256 → CostsLess m o cs ↔ (price m cs < price o cs)
-unfolding price
-price-less m o cs h k = (up, down)
-  where
-    up : CostsLess m o cs → highest m cs * 256 + stolen m cs < highest o cs * 256 + stolen o cs
-    up (inl l) = omega arith
-    up (inr s) = omega (arith, s .0, s .1)
-
-    down : highest m cs * 256 + stolen m cs < highest o cs * 256 + stolen o cs → CostsLess m o cs
-    down l =
-        by-test (ltb (highest m cs) (highest o cs))
-        (λ t. inl (ltb→lt (highest m cs) (highest o cs) t))
-        (λ t. let g = nltb→le (highest m cs) (highest o cs) t in
-        let e : highest m cs ≡ highest o cs = omega arith in
-        inr (e, omega arith))
+use Rattle.standing.specs.Standing.{failing, Stood}
 
 -- ---- a standing is that of some channels, and channels have one
 

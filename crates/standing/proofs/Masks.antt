@@ -12,11 +12,10 @@ use lib.Dec.{eqb}
 use lib.ListN.{length}
 use lib.Pow.{pow-pos}
 use Rattle.machine.specs.Lists.{if_then_else_}
-use Rattle.machine.specs.State.{Channel, isFree}
+use Rattle.machine.specs.State.{Channel}
 use Rattle.machine.specs.Maps.{odd, half, bit, named}
-use Rattle.machine.specs.Choosing.{highest, stolen}
 use Rattle.machine_laws.proofs.Maps.{odd-bit, half-bit, bit-of}
-use Rattle.standing.specs.Standing.{failing, highestOf, countOf}
+use Rattle.standing.specs.Standing.{failing}
 
 -- ---- the bit step
 
@@ -107,15 +106,3 @@ module _ (f : Channel → Bool) (m : ℕ) (cs : List Channel) {k : ℕ} (e : k �
 
   pub failing-fail : (bitAnd m k ≡ 0 → ⊥) → named f m cs ≡ false
   failing-fail n = sym (failing-test f m cs) ∙ ne-eqb (bitAnd m (failing f cs)) 0 (λ z. n (rw e z))
-
--- ---- costs, by the mask of the allocated channels
-
-pub highest-mask : (m : ℕ) (cs : List Channel) → highestOf (bitAnd m (failing isFree cs)) (map (λ c. c .prec) cs) ≡ highest m cs
-unfolding highestOf highest
-highest-mask m [] = refl
-highest-mask m (c ∷ cs) = rw (failing-odd isFree c cs m, failing-half isFree c cs m, highest-mask (half m) cs)
-
-pub count-mask : (m : ℕ) (cs : List Channel) → countOf (bitAnd m (failing isFree cs)) (map (λ c. c .prec) cs) ≡ stolen m cs
-unfolding countOf stolen
-count-mask m [] = refl
-count-mask m (c ∷ cs) = rw (failing-odd isFree c cs m, failing-half isFree c cs m, count-mask (half m) cs)

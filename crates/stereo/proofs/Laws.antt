@@ -8,12 +8,13 @@ use mathlib.Core.Logic.{_↔_}
 use mathlib.Core.List.{List, [], _∷_, _++_, append-nil}
 use native.Mathlib.Omega.{arith}
 use lib.Dec.{T, T-not, not-T, eqb, leb, ltb, eqb→eq, eqb-refl, leb→le, nleb→lt, ltb→lt, nltb→le}
-use borrow.Author.Tests.{lt-ltb, le-ltb, le-leb, eq-eqb, ne-eqb}
+use borrow.Author.Tests.{le-leb}
 use lib.ListN.{length, drop, take, getD, length-append}
 use Rattle.machine.specs.Lists.{if_then_else_, all, any, keep, among}
 use Rattle.machine.proofs.Tests.{and-left, and-right, and-both, or-map, eqb-flip, test-true, test-false, by-test}
 use Rattle.machine_laws.proofs.Lists.{keep-append, keep-all, among-all, among-append}
-use Rattle.stereo.specs.Stereo.{named, lefts, rights, meets, below, wished, times, accepts, Accepted}
+use Rattle.wishes.specs.Wishes.{named, lefts, rights, meets}
+use Rattle.stereo.specs.Stereo.{below, wished, times, accepts, Accepted}
 
 or-one : (a b : Bool) → T a → T (a || b)
 or-one true b t = tt
@@ -193,21 +194,3 @@ ascending (m ∷ ms) = all (ltb m) ms && ascending ms
 pub wished-ascends : (l r : ℕ) → l ≤ 2 → r ≤ 2 → T (ascending (wished l r))
 unfolding ascending wished meets lefts rights named below keep all
 wished-ascends l r h g = nine (λ a b. ascending (wished a b)) tt l r h g
-
--- ---- the test of a map, step by step
-
-pub high-fails : (l r m : ℕ) → 15 < m → false ≡ meets l r m
-unfolding meets
-high-fails l r m h = rw (le-ltb m 16 (omega arith)) refl
-
-pub lefts-fail : (l r m k : ℕ) → k ≡ lefts m → (k ≡ l → ⊥) → false ≡ meets l r m
-unfolding meets
-lefts-fail l r m k e n = rw (ne-eqb (lefts m) l (λ q. n (e ∙ q))) (go (ltb m 16))
-  where
-    go : (b : Bool) → false ≡ (b && false && eqb (rights m) r)
-    go true = refl
-    go false = refl
-
-pub rights-tell : (l r m k j : ℕ) → m ≤ 15 → j ≡ lefts m → j ≡ l → k ≡ rights m → eqb k r ≡ meets l r m
-unfolding meets
-rights-tell l r m k j h e q f = rw (lt-ltb m 16 (omega arith), eq-eqb (lefts m) l (sym e ∙ q), f) refl

@@ -15,7 +15,8 @@ use Rattle.machine.proofs.Tests.{test-true, test-false}
 use Rattle.machine_laws.proofs.Lists.{all-append, among-all}
 use Rattle.memory.specs.Splice.{splice}
 use Rattle.memory.proofs.Splice.{splice-none, splice-snoc, length-splice}
-use Rattle.stereo.specs.Stereo.{meets, below, wished, refusal, count, made, Listed, Makes, times, accepts}
+use Rattle.wishes.specs.Wishes.{meets}
+use Rattle.stereo.specs.Stereo.{below, wished, refusal, count, made, Listed, Makes, times, accepts}
 use Rattle.stereo.specs.declared.Made.{Made}
 use Rattle.stereo.proofs.Laws.{next-meets, next-misses, room, wished-has}
 

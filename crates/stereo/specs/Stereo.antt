@@ -1,9 +1,6 @@
--- Document 02, #108, "A list maker for stereo": the maps that meet a wish, what the maker writes, and which lists the checker accepts.
+-- Document 02, #108, "A list maker for stereo": what the maker writes, and which lists the checker accepts.
 -- Assumes nothing.
 --
---   named m c            1 where the map names channel c, else 0
---   lefts m, rights m    how many left and right channels a map names
---   meets l r m          the map is one of the board's sixteen and has l left and r right channels
 --   below n              the numbers below n, ascending
 --   wished l r           the maps that meet the wish, ascending
 --   BADWISH, TOOSMALL    11 and 12
@@ -15,28 +12,16 @@
 --   times b ms           at how many places of the list the number b stands
 --   accepts l r ms       the checker's test
 --   Accepted l r ms      the same as the request words it
-use Prim.Native.Nat.{ℕ, zero, suc, _+_, _/_, _%_, _^_, _≤_}
+use Prim.Native.Nat.{ℕ, zero, suc, _≤_}
 use mathlib.Core.Path.{_≡_}
-use mathlib.Core.Bool.{Bool, true, false, _&&_, _||_}
+use mathlib.Core.Bool.{Bool, _&&_, _||_}
 use mathlib.Core.List.{List, [], _∷_, _++_}
 use lib.Dec.{eqb, leb, ltb}
 use lib.ListN.{length}
 use Rattle.machine.specs.Lists.{if_then_else_, all, keep}
 use Rattle.memory.specs.Splice.{splice}
+use Rattle.wishes.specs.Wishes.{meets}
 use Rattle.stereo.specs.declared.Made.{Made}
-
-unfoldable pub named : ℕ → ℕ → ℕ
-named m c = m / 2 ^ c % 2
-
--- "channels 0 and 3 sound left, 1 and 2 right"
-unfoldable pub lefts : ℕ → ℕ
-lefts m = named m 0 + named m 3
-
-unfoldable pub rights : ℕ → ℕ
-rights m = named m 1 + named m 2
-
-unfoldable pub meets : ℕ → ℕ → ℕ → Bool
-meets l r m = ltb m 16 && eqb (lefts m) l && eqb (rights m) r
 
 unfoldable pub below : ℕ → List ℕ
 below zero = []

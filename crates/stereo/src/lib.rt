@@ -1,49 +1,18 @@
 // Stereo: the list of all maps with so many left and so many right channels, and the test of any list from anyone. For the
 // four-channel board. Assumes nothing.
 ghost use mathlib.Core.Path.{_≡_};
-ghost use Prim.Native.Nat.{_≤_, _<_};
+ghost use Prim.Native.Nat.{_≤_};
 ghost use lib.Dec.{eqb};
 ghost use lib.ListN.{length};
 ghost use Rattle.machine.specs.Lists.{all};
 ghost use Rattle.memory.specs.Splice.{splice};
-ghost use Rattle.stereo.specs.Stereo.{named as namedOf, lefts as leftsOf, rights as rightsOf, meets as meetsOf, wished, Makes, times as timesOf, accepts as acceptsOf};
+ghost use Rattle.wishes.specs.Wishes.{meets as meetsOf};
+ghost use Rattle.stereo.specs.Stereo.{wished, Makes, times as timesOf, accepts as acceptsOf};
 
 // The refusal, or 0, and how many maps were written.
 pub struct Made {
     pub error: u8,
     pub count: usize,
-}
-
-// 1 where the map names channel c, else 0.
-fn named(map: u8, c: u8) -> u8
-    requires { ⌜ c < 8 ⌝ }
-    ensures { λ r. ⌜ (r ≡ namedOf map c) × (r ≤ 1) ⌝ }
-{
-    (map >> c) & 1
-}
-
-fn lefts(map: u8) -> u8
-    ensures { λ r. ⌜ r ≡ leftsOf map ⌝ }
-{
-    named(map, 0) + named(map, 3)
-}
-
-fn rights(map: u8) -> u8
-    ensures { λ r. ⌜ r ≡ rightsOf map ⌝ }
-{
-    named(map, 1) + named(map, 2)
-}
-
-fn meets(left: u8, right: u8, map: u8) -> bool
-    ensures { λ b. ⌜ b ≡ meetsOf left right map ⌝ }
-{
-    if map > 15 {
-        return false;
-    }
-    if lefts(map) != left {
-        return false;
-    }
-    rights(map) == right
 }
 
 // The maps that meet the wish, ascending, at the front of the room.
@@ -54,7 +23,7 @@ fn fill(left: u8, right: u8, maps: &mut [u8]) -> usize
     let mut n: usize = 0;
     let mut map: u8 = 0;
     while map < 16 {
-        if meets(left, right, map) {
+        if wishes::meets(left, right, map) {
             maps[n] = map;
             n += 1;
         }
@@ -108,7 +77,7 @@ fn nothing_else(left: u8, right: u8, maps: &[u8]) -> bool
 {
     let mut i: usize = 0;
     while i < maps.len() {
-        if !meets(left, right, maps[i]) {
+        if !wishes::meets(left, right, maps[i]) {
             return false;
         }
         i += 1;
@@ -122,7 +91,7 @@ fn each_once(left: u8, right: u8, maps: &[u8]) -> bool
 {
     let mut map: u8 = 0;
     while map < 16 {
-        if meets(left, right, map) {
+        if wishes::meets(left, right, map) {
             if times(map, maps) != 1 {
                 return false;
             }

@@ -18,8 +18,8 @@ use Rattle.store.specs.Store.{tableOf}
 use Rattle.board.specs.Board.{structOf, stateIn, Held}
 use Rattle.gathering.specs.declared.Gathered.{Gathered}
 use Rattle.gathering.specs.Lumps.{LINE, front, ended, used, kept, Gathers}
-use Rattle.feeding.specs.declared.Fed.{Fed}
-use Rattle.feeding.specs.Feeding.{Feeds}
+use Rattle.unheard.specs.declared.Fed.{Fed}
+use Rattle.serving.specs.Serving.{Feeds}
 use Rattle.taking.specs.declared.Taken.{Taken}
 use Rattle.taking.specs.Desk.{shownOf, fed, Desk, deskOf, gathered, answered, taken, closed, Leaves, Takes, Ends}
 

@@ -1,11 +1,11 @@
 // A log taken a fragment at a time, of any length: what stands of a line is kept in lent bytes, and a call answers one line at
 // most. The state is known to be sound. Assumes nothing.
 use board::Board;
-use feeding::Fed;
+use unheard::Fed;
 ghost use Prim.Native.Nat.{_≤_};
 ghost use lib.ListN.{length, take};
 ghost use Rattle.board.specs.Board.{Held};
-ghost use Rattle.feeding.specs.Feeding.{Feeds};
+ghost use Rattle.serving.specs.Serving.{Feeds};
 ghost use Rattle.gathering.specs.Lumps.{LINE};
 ghost use Rattle.taking.specs.Desk.{Takes, Ends};
 
@@ -23,7 +23,7 @@ fn answer(s: Board, line: &[u8], n: usize, table: &mut [u8], out: &mut [u8; 973]
     requires { ⌜ Held s (now table) × (n ≤ length (now line)) ⌝ }
     ensures { λ f. ⌜ Feeds s (now (table .entry)) (take n (now (line .entry))) (now (out .entry)) f (now (table .exit)) (now (out .exit)) ⌝ }
 {
-    feeding::feed_sound(s, &line[..n], table, out)
+    serving::feed_sound(s, &line[..n], table, out)
 }
 
 // The fragment up to its first LF, or all of it. Where the line has ended it is answered.

@@ -24,7 +24,7 @@ use Rattle.board.proofs.Laws.{struct-eight}
 use Rattle.channel_lines.proofs.ChannelLines.{board-few}
 use Rattle.gathering.specs.Lumps.{LINE, ended, used}
 use Rattle.gathering.proofs.Lumps.{used-within}
-use Rattle.feeding.proofs.Laws.{feed-few}
+use Rattle.serving.proofs.Laws.{feed-few}
 use Rattle.taking.specs.declared.Taken.{Taken}
 use Rattle.taking.specs.Desk.{shownOf, fed, Desk, deskOf, gathered, answered, taken, needed, fits, takes, filled, closed, finished, Leaves}
 use Rattle.taking.proofs.Kept.{Fine, held-fine, feed-fine, answered-fine, leaves-held}

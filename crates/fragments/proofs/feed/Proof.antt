@@ -6,8 +6,9 @@ use borrow.Author.Tests.{not-true, not-false}
 use lib.ListN.{length}
 use Rattle.gathering.specs.Lumps.{LINE}
 use Rattle.sizes.specs.Sizes.{ROOM}
-use Rattle.port.proofs.Laws.{Proper, allowed}
-use Rattle.fragments.proofs.Laws.{is-refused, is-served, open-moves, ended-moves, gathered-within, gathered-length, gathered-used, open-used}
+use Rattle.admitting.proofs.Laws.{Proper, allowed}
+use Rattle.telling.proofs.Laws.{is-refused, is-served}
+use Rattle.fragments.proofs.Laws.{open-moves, ended-moves, gathered-within, gathered-length, gathered-used, open-used}
 use borrow.Author.Needs.{needs}
 use Rattle.fragments.proofs.feed.Statement.{statement}
 use Rattle.fragments.proofs.feed.Tie as tie

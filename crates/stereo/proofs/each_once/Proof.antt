@@ -9,7 +9,7 @@ use Rattle.stereo.proofs.each_once.Statement.{statement}
 use Rattle.stereo.proofs.each_once.Tie as tie
 use Rattle.stereo.proofs.each_once.Reads as reads
 use Rattle.stereo.proofs.each_once.Lts as lts
-use Rattle.stereo.proofs.meets.Reads as meets-reads
+use Rattle.wishes.proofs.meets.Reads as meets-reads
 use Rattle.stereo.proofs.times.Reads as times-reads
 
 abbrev Inv-loop : tie.InvT-loop

@@ -10,7 +10,7 @@ use Rattle.stereo.proofs.fill.Statement.{statement}
 use Rattle.stereo.proofs.fill.Tie as tie
 use Rattle.stereo.proofs.fill.Reads as reads
 use Rattle.stereo.proofs.fill.Lts as lts
-use Rattle.stereo.proofs.meets.Reads as meets-reads
+use Rattle.wishes.proofs.meets.Reads as meets-reads
 
 abbrev Inv-loop : tie.InvT-loop
 Inv-loop left right maps₀ n₀ map₀ maps n map = Filled left right maps₀ maps n map

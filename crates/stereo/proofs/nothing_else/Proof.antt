@@ -9,7 +9,7 @@ use Rattle.stereo.proofs.nothing_else.Statement.{statement}
 use Rattle.stereo.proofs.nothing_else.Tie as tie
 use Rattle.stereo.proofs.nothing_else.Reads as reads
 use Rattle.stereo.proofs.nothing_else.Lts as lts
-use Rattle.stereo.proofs.meets.Reads as meets-reads
+use Rattle.wishes.proofs.meets.Reads as meets-reads
 
 abbrev Inv-loop : tie.InvT-loop
 Inv-loop left right maps i₀ i = Alone left right maps i

@@ -1,0 +1,36 @@
+-- Document 02, #107, "The log over a slow line": which bytes are a port, and why a call on one is refused.
+-- Assumes nothing.
+--
+--   isPort p           529 bytes, each below 256, of which at most 527 stand
+--   BADPORT, TOOSMALL  1 and 12
+--   refusalFor, refusal p room   why a call with this port and so much room is refused, or 0
+use Prim.Native.Nat.{ℕ}
+use mathlib.Core.Bool.{Bool, true, false, _&&_}
+use mathlib.Core.List.{List}
+use lib.Dec.{eqb, leb}
+use lib.ListN.{length}
+use Rattle.machine.specs.Lists.{all}
+use Rattle.image.specs.Image.{isByte}
+use Rattle.gathering.specs.Lumps.{LINE}
+use Rattle.sizes.specs.Sizes.{PORT, ROOM}
+use Rattle.port.specs.Port.{startedIn}
+
+-- "memory stays at one line"
+unfoldable pub isPort : List ℕ → Bool
+isPort p = eqb (length p) PORT && (leb (startedIn p) LINE && all isByte p)
+
+abbrev pub BADPORT : ℕ
+BADPORT = 1
+
+abbrev pub TOOSMALL : ℕ
+TOOSMALL = 12
+
+-- by whether it is a port, and whether the room is enough for one line's output: no port comes first
+abbrev pub refusalFor : Bool → Bool → ℕ
+refusalFor true true = 0
+refusalFor true false = TOOSMALL
+refusalFor false true = BADPORT
+refusalFor false false = BADPORT
+
+unfoldable pub refusal : List ℕ → ℕ → ℕ
+refusal p room = refusalFor (isPort p) (leb ROOM room)

@@ -1,0 +1,22 @@
+-- One line of a log on a sound state: what is promised of it.
+-- Assumes nothing.
+--
+--   Feeds s tb l out f tb′ out′     the promise on a sound state: the machine's `feed`, to the last byte; and the state is sound again
+use Prim.Native.Nat.{ℕ}
+use mathlib.Core.Path.{_≡_}
+use mathlib.Core.List.{List}
+use lib.ListN.{length}
+use Rattle.machine.specs.Log.{feed}
+use Rattle.memory.specs.Splice.{splice}
+use Rattle.board.specs.declared.Board.{Board}
+use Rattle.store.specs.Store.{tableOf}
+use Rattle.board.specs.Board.{structOf, stateIn, Held}
+use Rattle.unheard.specs.declared.Fed.{Fed}
+
+pub record Feeds (s : Board) (tb l out : List ℕ) (f : Fed) (tb′ out′ : List ℕ) : Type 0 where
+  pub struct : f .state ≡ structOf (feed (stateIn s tb) l .next)
+  pub table : tb′ ≡ tableOf (feed (stateIn s tb) l .next)
+  pub count : f .n ≡ length (feed (stateIn s tb) l .output)
+  pub bytes : out′ ≡ splice out 0 (feed (stateIn s tb) l .output)
+  pub kept : Held (f .state) tb′
+  pub next : stateIn (f .state) tb′ ≡ feed (stateIn s tb) l .next

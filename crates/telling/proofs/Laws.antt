@@ -1,0 +1,130 @@
+-- How a line's answer is told, and how a call on a port meets its promise, refused or served; no second outcome of a call fits; what is
+-- refused moves nothing; what a call writes has its room. Assumes nothing.
+use Prim.Native.Nat.{ℕ, _+_, _≤_}
+use mathlib.Core.Path.{_≡_, refl, ap, sym, _∙_}
+use mathlib.Core.Bool.{Bool, true, false}
+use mathlib.Core.List.{List, _∷_}
+use mathlib.Core.Option.{Option, none, some}
+use native.Mathlib.Omega.{arith}
+use borrow.Author.Tests.{eqb-true, eqb-false}
+use lib.Dec.{eqb}
+use lib.ListN.{length, take, drop}
+use lib.Seq.{take-at}
+use Rattle.memory.specs.Splice.{splice}
+use Rattle.memory.proofs.Splice.{length-splice}
+use Rattle.pouring.specs.Pouring.{Pours}
+use Rattle.sizes.specs.Sizes.{ROOM}
+use Rattle.admitting.specs.Admitting.{refusal}
+use Rattle.admitting.proofs.Laws.{Proper, allowed}
+use Rattle.hearing.specs.Hearing.{Tells}
+use Rattle.hearing.proofs.Laws.{Same, one-telling, hears-few}
+use Rattle.telling.specs.Telling.{Silent, Says, Answers, Still, Moves, Ported}
+
+-- ---- a line's output
+
+-- the bytes that are counted are the output
+pub told-front : {l st tb out : List ℕ} {n : ℕ} {st′ tb′ out′ : List ℕ} (t : Tells l st tb out n st′ tb′ out′) → take n out′ ≡ t .text
+unfolding splice
+told-front {out = out} t = rw (t .count, t .bytes) (take-at (t .text) (drop (0 + length (t .text)) out) (length (t .text)) refl)
+
+pub told-few : {l st tb out : List ℕ} {n : ℕ} {st′ tb′ out′ : List ℕ} → Tells l st tb out n st′ tb′ out′ → n ≤ 973
+told-few t = let e = t .count in let f = hears-few (t .heard) in omega arith
+
+pub told-length : {l st tb out : List ℕ} {n : ℕ} {st′ tb′ out′ : List ℕ} → 973 ≤ length out → Tells l st tb out n st′ tb′ out′ → length out′ ≡ length out
+told-length {out = out} h t = let f = hears-few (t .heard) in ap length (t .bytes) ∙ length-splice out 0 (t .text) (omega arith)
+
+-- copied into another room
+pub poured : (l : List ℕ) (m : ℕ) {st tb z out : List ℕ} {n k : ℕ} {st′ tb′ z′ out′ : List ℕ} → Tells (take m l) st tb z n st′ tb′ z′ → Pours z′ k out out′ → k ≡ n
+    → Says l m st tb out n st′ tb′ out′
+poured l m {out = out} {z′ = z′} t e h =
+    record {
+      tells = record { text = t .text; heard = t .heard; count = t .count; bytes = e .bytes ∙ ap (λ (x : ℕ). splice out 0 (take x z′)) h ∙ ap (splice out 0) (told-front t) };
+    }
+
+-- ---- refused or served
+
+module _ {o : Option (List ℕ)} {q : List ℕ} {v : ℕ} {p st tb out : List ℕ} {e : ℕ} (h : e ≡ refusal p (length out)) where
+  pub is-refused : (e ≡ 0 → ⊥) → {x u w : ℕ} → x ≡ e → u ≡ 0 → w ≡ 0 → Ported o q v p st tb out x u w p st tb out
+  is-refused n y u w =
+      record {
+        error = y ∙ h;
+        refused = λ _. record { used = u; port = refl; silent = record { count = w; state = refl; table = refl; bytes = refl } };
+        served = λ z. absurd (n (h ∙ z));
+      }
+
+  pub is-served : e ≡ 0 → {x u n : ℕ} {p′ st′ tb′ out′ : List ℕ} → x ≡ 0 → Moves o q v st tb out u n p′ st′ tb′ out′ → Ported o q v p st tb out x u n p′ st′ tb′ out′
+  is-served z y m = record { error = y ∙ sym z ∙ h; refused = λ n. absurd (n (sym h ∙ z)); served = λ _. m }
+
+-- a port by its bytes
+pub cons-cons : {a a₂ b b₂ : ℕ} {l l₂ : List ℕ} → a ≡ a₂ → b ≡ b₂ → l ≡ l₂ → a ∷ b ∷ l ≡ a₂ ∷ b₂ ∷ l₂
+cons-cons e f g i = e i ∷ f i ∷ g i
+
+-- ---- refused, or not
+
+-- a number is 0, or not
+pub none-or-not {ℓ} : {R : Type ℓ} (n : ℕ) → (n ≡ 0 → R) → ((n ≡ 0 → ⊥) → R) → R
+none-or-not {R = R} n y z = go (eqb n 0) refl
+  where
+    go : (b : Bool) → eqb n 0 ≡ b → R
+    go true e = y (eqb-true n 0 e)
+    go false e = z (eqb-false n 0 e)
+
+-- ---- no second outcome fits
+
+-- the same answer, the same numbers and the same bytes
+pub record SameCall (e e₂ u u₂ n n₂ : ℕ) (p p₂ st st₂ tb tb₂ out out₂ : List ℕ) : Type 0 where
+  pub error : e ≡ e₂
+  pub used : u ≡ u₂
+  pub written : n ≡ n₂
+  pub port : p ≡ p₂
+  pub state : st ≡ st₂
+  pub table : tb ≡ tb₂
+  pub output : out ≡ out₂
+
+one-silence : {st tb out : List ℕ} {n n₂ : ℕ} {st₁ st₂ tb₁ tb₂ out₁ out₂ : List ℕ} → Silent st tb out n st₁ tb₁ out₁ → Silent st tb out n₂ st₂ tb₂ out₂
+    → Same n n₂ st₁ st₂ tb₁ tb₂ out₁ out₂
+one-silence a b =
+    record {
+      count = a .count ∙ sym (b .count);
+      state = a .state ∙ sym (b .state);
+      table = a .table ∙ sym (b .table);
+      output = a .bytes ∙ sym (b .bytes);
+    }
+
+one-answering : (o : Option (List ℕ)) (st tb out : List ℕ) {n n₂ : ℕ} {st₁ st₂ tb₁ tb₂ out₁ out₂ : List ℕ} → Answers o st tb out n st₁ tb₁ out₁
+    → Answers o st tb out n₂ st₂ tb₂ out₂ → Same n n₂ st₁ st₂ tb₁ tb₂ out₁ out₂
+one-answering none st tb out a b = one-silence a b
+one-answering (some l) st tb out a b = one-telling a b
+
+module _ {p st tb out : List ℕ} {e e₂ u u₂ n n₂ : ℕ} {p₁ p₂ st₁ st₂ tb₁ tb₂ out₁ out₂ : List ℕ} where
+  pub one-porting : {o : Option (List ℕ)} {q : List ℕ} {v : ℕ} → Ported o q v p st tb out e u n p₁ st₁ tb₁ out₁ → Ported o q v p st tb out e₂ u₂ n₂ p₂ st₂ tb₂ out₂
+      → SameCall e e₂ u u₂ n n₂ p₁ p₂ st₁ st₂ tb₁ tb₂ out₁ out₂
+  one-porting {o} c d =
+      none-or-not (refusal p (length out))
+      (λ z. let x = c .served z in let y = d .served z in same (x .used ∙ sym (y .used)) (x .port ∙ sym (y .port)) (one-answering o st tb out (x .answers) (y .answers)))
+      (λ z. let x = c .refused z in let y = d .refused z in same (x .used ∙ sym (y .used)) (x .port ∙ sym (y .port)) (one-silence (x .silent) (y .silent)))
+    where
+      same : u ≡ u₂ → p₁ ≡ p₂ → Same n n₂ st₁ st₂ tb₁ tb₂ out₁ out₂ → SameCall e e₂ u u₂ n n₂ p₁ p₂ st₁ st₂ tb₁ tb₂ out₁ out₂
+      same a b s =
+          record { error = c .error ∙ sym (d .error); used = a; written = s .count; port = b; state = s .state; table = s .table; output = s .output }
+
+-- ---- what is refused moves nothing
+
+module _ {o : Option (List ℕ)} {q : List ℕ} {v : ℕ} {p st tb out : List ℕ} {e u n : ℕ} {p′ st′ tb′ out′ : List ℕ} (c : Ported o q v p st tb out e u n p′ st′ tb′ out′) where
+  pub refused-still : (e ≡ 0 → ⊥) → Still p st tb out u n p′ st′ tb′ out′
+  refused-still h = c .refused (λ z. h (c .error ∙ z))
+
+  -- what is not refused had a port and room
+  pub served-lent : e ≡ 0 → Proper p × (ROOM ≤ length out)
+  served-lent z = allowed p (length out) (sym (c .error) ∙ z)
+
+  -- the output of a line at most: it has its room
+  pub few-written : n ≤ ROOM
+  few-written =
+      none-or-not (refusal p (length out))
+      (λ z. go o (c .served z .answers))
+      (λ z. let k = c .refused z .silent .count in omega arith)
+    where
+      go : (o : Option (List ℕ)) → Answers o st tb out n st′ tb′ out′ → n ≤ ROOM
+      go none a = let k = a .count in omega arith
+      go (some l) a = told-few a

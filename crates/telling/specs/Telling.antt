@@ -1,0 +1,44 @@
+-- Document 02, #107, "The log over a slow line": the answer to a line, and what a call on a port leaves.
+-- Assumes nothing.
+--
+--   Silent ..                     nothing is written, and nothing moves
+--   Says l n ..                   the first n bytes of l are answered, as a line
+--   Answers o ..                  the line o is answered; where there is none, it is silent
+--   Still ..                      what a refused call leaves: everything as it was, and both numbers 0
+--   Moves o q u ..                what a call leaves that is not refused: the line o answered, the port q, u bytes used
+--   Ported o q u ..               a call by a line, a port and a number of bytes
+use Prim.Native.Nat.{ℕ}
+use mathlib.Core.Path.{_≡_}
+use mathlib.Core.List.{List}
+use mathlib.Core.Option.{Option, none, some}
+use lib.ListN.{length, take}
+use Rattle.admitting.specs.Admitting.{refusal}
+use Rattle.hearing.specs.Hearing.{Tells}
+
+pub record Silent (st tb out : List ℕ) (n : ℕ) (st′ tb′ out′ : List ℕ) : Type 0 where
+  pub count : n ≡ 0
+  pub state : st′ ≡ st
+  pub table : tb′ ≡ tb
+  pub bytes : out′ ≡ out
+
+pub record Says (l : List ℕ) (n : ℕ) (st tb out : List ℕ) (k : ℕ) (st′ tb′ out′ : List ℕ) : Type 0 where
+  pub tells : Tells (take n l) st tb out k st′ tb′ out′
+
+abbrev pub Answers : Option (List ℕ) → List ℕ → List ℕ → List ℕ → ℕ → List ℕ → List ℕ → List ℕ → Type 0
+Answers none st tb out n st′ tb′ out′ = Silent st tb out n st′ tb′ out′
+Answers (some l) st tb out n st′ tb′ out′ = Tells l st tb out n st′ tb′ out′
+
+pub record Still (p st tb out : List ℕ) (u n : ℕ) (p′ st′ tb′ out′ : List ℕ) : Type 0 where
+  pub used : u ≡ 0
+  pub port : p′ ≡ p
+  pub silent : Silent st tb out n st′ tb′ out′
+
+pub record Moves (o : Option (List ℕ)) (q : List ℕ) (v : ℕ) (st tb out : List ℕ) (u n : ℕ) (p′ st′ tb′ out′ : List ℕ) : Type 0 where
+  pub used : u ≡ v
+  pub port : p′ ≡ q
+  pub answers : Answers o st tb out n st′ tb′ out′
+
+pub record Ported (o : Option (List ℕ)) (q : List ℕ) (v : ℕ) (p st tb out : List ℕ) (e u n : ℕ) (p′ st′ tb′ out′ : List ℕ) : Type 0 where
+  pub error : e ≡ refusal p (length out)
+  pub refused : (refusal p (length out) ≡ 0 → ⊥) → Still p st tb out u n p′ st′ tb′ out′
+  pub served : refusal p (length out) ≡ 0 → Moves o q v st tb out u n p′ st′ tb′ out′
