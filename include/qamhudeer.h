@@ -5,9 +5,9 @@
  *   table    QAMHUDEER_TABLE_SIZE bytes, the 64 request blocks, kept from call to call
  *   replies  QAMHUDEER_REPLIES_SIZE bytes, room for 64 replies
  *   answer   QAMHUDEER_ANSWER_SIZE bytes
- * A call also reads a list of combinations. No two of these five overlap, nobody else writes to them during the call, and no
- * pointer is null, also where its length is 0. There is no other duty: whatever the bytes are and whatever the numbers, each
- * function returns, and each comment below says what every byte that was lent holds afterwards.
+ * A call also reads a list of combinations, or a write's numbers. No two of these five overlap, nobody else writes to them
+ * during the call, and no pointer is null, also where its length is 0. There is no other duty: whatever the bytes are and
+ * whatever the numbers, each function returns, and each comment below says what every byte that was lent holds afterwards.
  * That is proved of the code (crates/qamhudeer).
  */
 #ifndef QAMHUDEER_H
@@ -22,7 +22,7 @@ extern "C" {
 
 /* ---- sizes in bytes */
 
-#define QAMHUDEER_STATE_SIZE 758 /* of either board */
+#define QAMHUDEER_STATE_SIZE 823 /* of either board */
 #define QAMHUDEER_TABLE_SIZE 1472
 #define QAMHUDEER_REPLIES_SIZE 384
 #define QAMHUDEER_ANSWER_SIZE 6
@@ -43,13 +43,14 @@ extern "C" {
 #define QAMHUDEER_CHANNEL_WRITES 5
 /* A queue is its count, then 64 request ids, front first, with zeros behind them. */
 #define QAMHUDEER_OFFSET_OF_LOCKS 560
-#define QAMHUDEER_OFFSET_OF_WAITING 625
+#define QAMHUDEER_OFFSET_OF_WAITERS 625 /* ADCMD_WAITCYCLEs, oldest first */
+#define QAMHUDEER_OFFSET_OF_WAITING 690 /* waiting requests */
 /* The open keys: how many there are, at most QAMHUDEER_OPENS, then so many keys of two bytes in order of opening, with zeros
  * behind them. */
 #define QAMHUDEER_OPENS 32
-#define QAMHUDEER_OFFSET_OF_OPENS 690
-#define QAMHUDEER_OFFSET_OF_LAST 755
-#define QAMHUDEER_OFFSET_OF_CHANNELS 757
+#define QAMHUDEER_OFFSET_OF_OPENS 755
+#define QAMHUDEER_OFFSET_OF_LAST 820
+#define QAMHUDEER_OFFSET_OF_CHANNELS 822
 
 /* ---- a port: what stands of a line that has not ended. All 0 is a fresh one. */
 
@@ -101,12 +102,25 @@ extern "C" {
 #ifndef ADCMD_ALLOCATE
 #define ADCMD_FREE 9
 #define ADCMD_SETPREC 10
+#define ADCMD_FINISH 11
+#define ADCMD_PERVOL 12
 #define ADCMD_LOCK 13
+#define ADCMD_WAITCYCLE 14
 #define ADCMD_ALLOCATE 32
 #endif
 #ifndef ADIOF_NOWAIT
+#define ADIOF_SYNCCYCLE 32 /* ADCMD_FINISH and ADCMD_PERVOL: at the end of the cycle */
 #define ADIOF_NOWAIT 64
 #endif
+
+/* ---- what CMD_WRITE and ADCMD_PERVOL are handed in place of combinations: six bytes, or none for cycles 1, period 124, volume
+ * 64. Numbers have the high byte first. ADCMD_PERVOL reads over its cycles. Another length, a period outside 124 to 65,536 or a
+ * volume above 64: IOERR_BADLENGTH. */
+
+#define QAMHUDEER_NUMBERS_SIZE 6
+#define QAMHUDEER_NUMBERS_CYCLES 0 /* two bytes; 0: endless */
+#define QAMHUDEER_NUMBERS_PERIOD 2 /* three bytes */
+#define QAMHUDEER_NUMBERS_VOLUME 5
 
 /* ---- errors */
 
@@ -216,6 +230,7 @@ size_t qamhudeer_channel_size(void);
 size_t qamhudeer_port_size(void);
 size_t qamhudeer_room_size(void);
 size_t qamhudeer_offset_of_locks(void);
+size_t qamhudeer_offset_of_waiters(void);
 size_t qamhudeer_offset_of_waiting(void);
 size_t qamhudeer_offset_of_opens(void);
 size_t qamhudeer_offset_of_last(void);

@@ -1,5 +1,6 @@
 # Reads a log, and beside it the file 'output', what the program wrote for it with '--show', on a board of so many channels;
-# writes the same in words. ./explain runs it. POSIX awk.
+# writes the same in words. The program shows no queue, so which request waits on which channel, and what is remembered there,
+# is followed from the calls and the replies. ./explain runs it. POSIX awk.
 
 BEGIN {
     width = 98          # columns of a line, where words can be broken so
@@ -63,6 +64,27 @@ function pair(text, at) {
     return 256 * byte(text, at) + byte(text, at + 1)
 }
 
+function flag(text, mark) {
+    return int(byte(text, 2) / mark) % 2 == 1
+}
+
+# WRITE and PERVOL carry numbers: cycles in two bytes, a period in three, a volume in one. No bytes mean 1, 124 and 64.
+function carries(op) {
+    return op == 3 || op == 12
+}
+
+function cycles(text) {
+    return byte(text, 7) == 0 ? 1 : pair(text, 8)
+}
+
+function period(text) {
+    return byte(text, 7) == 0 ? 124 : 256 * pair(text, 10) + byte(text, 12)
+}
+
+function volume(text) {
+    return byte(text, 7) == 0 ? 64 : byte(text, 13)
+}
+
 # ---- Words
 
 # Adds a phrase to the words of the line at hand.
@@ -116,6 +138,14 @@ function key_words(key) {
     return key == 0 ? "no key" : "key " key
 }
 
+function tone_words(text) {
+    return "period " period(text) ", volume " volume(text)
+}
+
+function cycle_words(count) {
+    return count == 0 ? "endless" : count == 1 ? "1 cycle" : count " cycles"
+}
+
 # ---- The call
 
 # Why the line is malformed, or nothing if it is a frame.
@@ -130,7 +160,7 @@ function fault(text,    count) {
     if (count < 16)
         return "fewer than 8 bytes"
     if (count != 16 + 2 * byte(text, 7))
-        return byte(text, 7) " combinations said and " (count / 2 - 8) " there"
+        return byte(text, 7) " " (carries(byte(text, 0)) ? "bytes" : "combinations") " said and " (count / 2 - 8) " there"
     return ""
 }
 
@@ -145,18 +175,26 @@ function add_list(text,    count, i, shown) {
         add((count - shown) " more")
 }
 
+function add_numbers(text, op) {
+    if (byte(text, 7) != 0 && byte(text, 7) != 6)
+        add(byte(text, 7) " bytes")
+    else
+        add((op == 3 ? cycle_words(cycles(text)) ", " : "") tone_words(text))
+}
+
 # The fields that the call reads.
-function say_call(text,    op, flags) {
+function say_call(text,    op) {
     op = byte(text, 0)
-    flags = byte(text, 2)
     words = ""
     if (op < 240 || op > 243 || op == 242)
         add("id " byte(text, 1))
     if (op < 240 || op > 243) {
-        if (flags % 2 == 1)
+        if (flag(text, 1))
             add("QUICK")
-        if (op == 32 && int(flags / 64) % 2 == 1)
+        if (op == 32 && flag(text, 64))
             add("NOWAIT")
+        if ((op == 11 || op == 12) && flag(text, 32))
+            add("SYNCCYCLE")
     }
     if (op == 240 || op == 10 || op == 32)
         add("precedence " signed(byte(text, 4)))
@@ -165,6 +203,8 @@ function say_call(text,    op, flags) {
         add_list(text)
     else if (op != 241 && op != 242)
         add(on_channels(byte(text, 3)))
+    if (carries(op))
+        add_numbers(text, op)
     say(sprintf("%5d  %s", NR, call_name(op)), words)
 }
 
@@ -172,6 +212,79 @@ function say_call(text,    op, flags) {
 function say_malformed(text, why,    shown) {
     shown = length(text) > 24 ? "\"" substr(text, 1, 24) "\".. of " length(text) " characters" : "\"" text "\""
     printf "%-" margin "s%s\n", sprintf("%5d  malformed", NR), why (text == "" ? "" : ": " shown)
+}
+
+# ---- What the program does not show: the queues, who waits for a cycle, what is remembered
+
+# Requests stand in one text, oldest first, with a space around each.
+function joins(list, id) {
+    return (list == "" ? " " : list) id " "
+}
+
+function leaves(list, id,    at) {
+    at = index(list, " " id " ")
+    return at == 0 ? list : substr(list, 1, at) substr(list, at + length(id) + 2)
+}
+
+function lowest(map,    c) {
+    for (c = 0; c < board && map % 2 == 0; c++)
+        map /= 2
+    return c
+}
+
+# A reply: the request has left its list, and with a front write goes what was remembered.
+function follow_reply(text,    id, c) {
+    id = byte(text, 1)
+    if (byte(text, 2) == 14)
+        waiters = leaves(waiters, id)
+    if (byte(text, 2) == 3)
+        for (c = 0; c < board; c++) {
+            if (index(writes[c], " " id " ") == 1)
+                finish[c] = pervol[c] = ""
+            writes[c] = leaves(writes[c], id)
+        }
+}
+
+# An answer: a write or a WAITCYCLE that is outstanding has joined its list, on the lowest channel of its map.
+function follow_answer(text, call,    id, c) {
+    if (byte(text, 0) != 161)
+        return
+    id = byte(call, 1)
+    c = lowest(byte(call, 3))
+    if (byte(call, 0) == 3)
+        writes[c] = joins(writes[c], id)
+    if (byte(call, 0) == 14) {
+        waiters = joins(waiters, id)
+        awaited[id] = c
+    }
+}
+
+# A synced FINISH or PERVOL is remembered where a write is in progress, and where the answer's map names the channel.
+function follow_synced(map, call, c, marks) {
+    if (!flag(call, 32) || int(map / 2 ^ c) % 2 == 0 || marks >= 2 || writes[c] !~ /[0-9]/)
+        return
+    if (byte(call, 0) == 11)
+        finish[c] = "FINISH"
+    if (byte(call, 0) == 12)
+        pervol[c] = "PERVOL with period " period(call) " and volume " volume(call)
+}
+
+function say_waiters(    id, count, i) {
+    words = ""
+    count = split(waiters, id, " ")
+    for (i = 1; i <= count; i++)
+        add("id " id[i] " on channel " awaited[id[i]])
+    if (count > 0)
+        say("         waiters", words)
+}
+
+function say_remembered(    c) {
+    words = ""
+    for (c = 0; c < board; c++)
+        if (finish[c] pervol[c] != "")
+            words = words (words == "" ? "" : "; ") c ": " finish[c] (finish[c] == "" || pervol[c] == "" ? "" : ", ") pervol[c]
+    if (words != "")
+        say("         remembered", words)
 }
 
 # ---- What the program wrote
@@ -187,8 +300,25 @@ function say_reply(text,    number) {
     say("         reply", words)
 }
 
-# A0 done or A1 outstanding, error, map, key, last byte; op is the call's.
-function say_answer(text, op,    number, map, last) {
+# Why a command got -4, of the rules for its kind.
+function length_words(call,    op) {
+    op = byte(call, 0)
+    if (!carries(op))
+        return reason[-4]
+    if (byte(call, 7) != 0 && byte(call, 7) != 6)
+        return "neither 0 nor 6 bytes"
+    return period(call) < 124 || period(call) > 65536 ? "the period is not 124 to 65536" : "the volume is above 64"
+}
+
+function refusal_words(number, call) {
+    if (number == 2 && byte(call, 0) == 241)
+        return not_closed
+    return number == -4 ? length_words(call) : reason[number]
+}
+
+# A0 done or A1 outstanding, error, map, key, last byte.
+function say_answer(text, call,    op, number, map, last) {
+    op = byte(call, 0)
     number = signed(byte(text, 1))
     map = byte(text, 2)
     last = byte(text, 5)
@@ -196,7 +326,7 @@ function say_answer(text, op,    number, map, last) {
     if (byte(text, 0) == 161)
         add("outstanding")
     else if (number != 0)
-        add(error[number] (number in reason ? ": " (number == 2 && op == 241 ? not_closed : reason[number]) : ""))
+        add(error[number] (number in reason ? ": " refusal_words(number, call) : ""))
     else if (op == 242)
         add(last == 1 ? "aborted" : "not aborted")
     else if (op == 243)
@@ -207,20 +337,22 @@ function say_answer(text, op,    number, map, last) {
         add(on_channels(map))
     if (op == 2 && number == 0)
         add(last == 255 ? "no write plays" : "the write of id " last " plays")
+    if (op == 14 && number == 0 && byte(text, 0) == 160)
+        add("no write plays")
     if (number != 7)
         add(key_words(pair(text, 3)))
     say("         answer", words)
 }
 
 # B0, channel, key, precedence, marks (1 locked, 2 stopped), number of writes
-function channel_words(text,    key, marks, writes) {
+function channel_words(text,    key, marks, count) {
     key = pair(text, 2)
     marks = byte(text, 5)
-    writes = byte(text, 6)
+    count = byte(text, 6)
     if (key == 0)
         return "free"
     return "key " key ", precedence " signed(byte(text, 4)) (marks % 2 == 1 ? ", locked" : "") (marks >= 2 ? ", stopped" : "") \
-           (writes == 0 ? "" : writes == 1 ? ", 1 write" : ", " writes " writes")
+           (count == 0 ? "" : count == 1 ? ", 1 write" : ", " count " writes")
 }
 
 # Channels of which the same is to be said stand together.
@@ -243,21 +375,30 @@ function say_channels(said,    c, d, phrase) {
 
 {
     why = fault($0)
+    # A malformed line is no call. It stands here as a frame of command 0, of which nothing is followed.
+    call = why == "" ? $0 : "0000000000000000"
     if (why == "")
         say_call($0)
     else
         say_malformed($0, why)
     seen = 0
     while (seen < board && (getline text < output) > 0)
-        if (text ~ /^C0/)
+        if (text ~ /^C0/) {
             say_reply(text)
-        else if (text ~ /^A/)
-            say_answer(text, why == "" ? byte($0, 0) : -1)
-        else if (text ~ /^B0/)
+            follow_reply(text)
+        } else if (text ~ /^A/) {
+            say_answer(text, call)
+            follow_answer(text, call)
+            map = byte(text, 2)
+        } else if (text ~ /^B0/) {
+            follow_synced(map, call, seen, byte(text, 5))
             said[seen++] = channel_words(text)
+        }
     if (seen < board) {
         print "explain: the program's output ends at line " NR " of the log" | "cat 1>&2"
         exit 1
     }
     say_channels(said)
+    say_waiters()
+    say_remembered()
 }

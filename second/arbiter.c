@@ -99,31 +99,74 @@ static void end_request(struct Arbiter *a, uint8_t id, int error, unsigned map,
 
 /* ---- Channels ---- */
 
-/* "FLUSH aborts all its writes." */
-static void flush(struct Arbiter *a, unsigned c, struct Replies *r)
+/* "A write is in progress at the front of a queue that isn't stopped." */
+static int in_progress(const struct Channel *channel)
 {
+    return !channel->stopped && channel->writes.count > 0;
+}
+
+/* What is remembered is "dropped when that write ends". */
+static void forget(struct Channel *channel)
+{
+    channel->finish = channel->pervol = channel->volume = 0;
+    channel->period = 0;
+}
+
+/* The front write ends, however. Who waits for its cycle is replied apart. */
+static void end_front(struct Arbiter *a, unsigned c, int error, unsigned map, struct Replies *r)
+{
+    end_request(a, remove_id(&a->channel[c].writes, 0), error, map, r);
+    forget(&a->channel[c]);
+}
+
+/* "FLUSH aborts all its writes." The result is the channel's bit where a front write has
+   so ended, for its waiters. */
+static unsigned flush(struct Arbiter *a, unsigned c, struct Replies *r)
+{
+    unsigned ended = a->channel[c].writes.count > 0 ? 1u << c : 0;
+
     while (a->channel[c].writes.count > 0)
-        end_request(a, remove_id(&a->channel[c].writes, 0), IOERR_ABORTED, 0, r);
+        end_front(a, c, IOERR_ABORTED, 0, r);
+    return ended;
 }
 
 /* "RESET flushes and un-stops." It does not unlock. */
-static void reset(struct Arbiter *a, unsigned c, struct Replies *r)
+static unsigned reset(struct Arbiter *a, unsigned c, struct Replies *r)
 {
-    flush(a, c, r);
     a->channel[c].stopped = 0;
+    return flush(a, c, r);
 }
 
-/* "FREE resets it, unlocks it, makes it free and clears its bit in every lock; a lock
-   with no bit left is replied 0 with map 0." All writes come before all locks. */
-static void free_channels(struct Arbiter *a, unsigned map, struct Replies *r)
+/* The WAITCYCLEs on these channels end, oldest first over the whole board. "The event
+   answers waiters 0 with that bit"; "a front write that ends otherwise has its channel's
+   waiters replied -2, map 0, oldest first after the writes". */
+static void end_waiters(struct Arbiter *a, unsigned map, int error, struct Replies *r)
 {
     unsigned at = 0;
 
+    while (at < a->cycles.count) {
+        unsigned bit = a->request[a->cycles.id[at]].map;
+
+        if ((bit & map) != 0)
+            end_request(a, remove_id(&a->cycles, at), error, error == DONE ? bit : 0, r);
+        else
+            at++;
+    }
+}
+
+/* "FREE resets it, unlocks it, makes it free and clears its bit in every lock; a lock
+   with no bit left is replied 0 with map 0." All writes come first, then all waiters,
+   then all locks. */
+static void free_channels(struct Arbiter *a, unsigned map, struct Replies *r)
+{
+    unsigned at = 0, ended = 0;
+
     for (unsigned c = 0; c < a->channels; c++)
         if (names(map, c)) {
-            reset(a, c, r);
+            ended |= reset(a, c, r);
             memset(&a->channel[c], 0, sizeof a->channel[c]);
         }
+    end_waiters(a, ended, IOERR_ABORTED, r);
     while (at < a->locks.count) {
         struct Request *lock = &a->request[a->locks.id[at]];
 
@@ -241,16 +284,19 @@ enum Look arbiter_look(const struct Arbiter *a, int precedence,
 static uint16_t grant(struct Arbiter *a, uint16_t key, int precedence, unsigned map,
                       struct Replies *r)
 {
+    unsigned ended = 0;
+
     if (key == 0) {
         key = arbiter_new_key(a);
         a->last_key = key;
     }
     for (unsigned c = 0; c < a->channels; c++)
         if (names(map, c)) {
-            reset(a, c, r);
+            ended |= reset(a, c, r);
             a->channel[c].key = key;
             a->channel[c].precedence = (int8_t)precedence;
         }
+    end_waiters(a, ended, IOERR_ABORTED, r);
     return key;
 }
 
@@ -408,8 +454,36 @@ static struct Answer lock(struct Arbiter *a, const struct Frame *f, struct Repli
     return leave_outstanding(a, f, r);
 }
 
-/* "WRITE and READ use the lowest set bit; map 0 gives -10." */
-static struct Answer write_or_read(struct Arbiter *a, const struct Frame *f,
+/* The numbers of a WRITE or a PERVOL: "in a frame they are the bytes after n: two, three
+   and one, high byte first, with n 6; n 0 means 1, 124 and 64". */
+struct Sound {
+    unsigned cycles, period, volume;
+};
+
+static struct Sound sound_of(const struct Frame *f)
+{
+    const uint8_t *b = f->combination;
+    struct Sound sound = {1, LEAST_PERIOD, MOST_VOLUME};
+
+    if (f->length == 6) {
+        sound.cycles = 256u * b[0] + b[1];
+        sound.period = 65536u * b[2] + 256u * b[3] + b[4];
+        sound.volume = b[5];
+    }
+    return sound;
+}
+
+/* "Any other n, a period outside 124 to 65,536 or a volume above 64 gets -4." */
+static int bad_sound(const struct Frame *f)
+{
+    struct Sound sound = sound_of(f);
+
+    return (f->length != 0 && f->length != 6)
+        || sound.period < LEAST_PERIOD || sound.period > MOST_PERIOD || sound.volume > MOST_VOLUME;
+}
+
+/* WRITE, READ and WAITCYCLE "use the lowest set bit; map 0 gives -10". */
+static struct Answer on_one_channel(struct Arbiter *a, const struct Frame *f,
                                    struct Replies *r)
 {
     struct Channel *channel;
@@ -423,24 +497,69 @@ static struct Answer write_or_read(struct Arbiter *a, const struct Frame *f,
         return finish(a, f, r, ADIOERR_NOALLOCATION, 0, f->key);
     channel = &a->channel[c];
     if (f->operation == CMD_WRITE) {
-        begin_request(a, f);
+        struct Request *q = begin_request(a, f);
+        struct Sound sound = sound_of(f);
+
+        q->cycles = (uint16_t)sound.cycles;
+        q->period = sound.period;
+        q->volume = (uint8_t)sound.volume;
         insert_id(&channel->writes, channel->writes.count, f->id);
+        return leave_outstanding(a, f, r);
+    }
+    /* It "is outstanding if one is" in progress, "else done at once". */
+    if (f->operation == ADCMD_WAITCYCLE && in_progress(channel)) {
+        begin_request(a, f)->map = (uint8_t)(1u << c);
+        insert_id(&a->cycles, a->cycles.count, f->id);
         return leave_outstanding(a, f, r);
     }
     /* "The id at the front, or 255 if the queue is empty or the channel stopped." It is
        read before the walk, which may end that write. */
-    if (channel->writes.count > 0 && !channel->stopped)
+    if (f->operation == CMD_READ && in_progress(channel))
         id = channel->writes.id[0];
     made = finish(a, f, r, DONE, 1u << c, f->key);
     made.last = (uint8_t)id;
     return made;
 }
 
+/* "FINISH replies the write -2." A synced one "is remembered until the cycle ends". The
+   result is the channel's bit where its front write has ended. On a channel without a write
+   in progress it does nothing. */
+static unsigned cut(struct Arbiter *a, unsigned c, const struct Frame *f, struct Replies *r)
+{
+    if (!in_progress(&a->channel[c]))
+        return 0;
+    if ((f->flags & ADIOF_SYNCCYCLE) != 0) {
+        a->channel[c].finish = 1;
+        return 0;
+    }
+    end_front(a, c, IOERR_ABORTED, 0, r);
+    return 1u << c;
+}
+
+/* "PERVOL replaces the last two in the front write"; a synced one is remembered, "the last
+   of each standing". */
+static void change_sound(struct Arbiter *a, unsigned c, const struct Frame *f)
+{
+    struct Channel *channel = &a->channel[c];
+    struct Sound sound = sound_of(f);
+
+    if (!in_progress(channel))
+        return;
+    if ((f->flags & ADIOF_SYNCCYCLE) != 0) {
+        channel->pervol = 1;
+        channel->period = sound.period;
+        channel->volume = (uint8_t)sound.volume;
+    } else {
+        a->request[channel->writes.id[0]].period = sound.period;
+        a->request[channel->writes.id[0]].volume = (uint8_t)sound.volume;
+    }
+}
+
 /* "Any mismatch gives -10, and the rest is still done." */
 static struct Answer for_each_channel(struct Arbiter *a, const struct Frame *f,
                                       struct Replies *r)
 {
-    unsigned own = matching(a, f->map, f->key);
+    unsigned own = matching(a, f->map, f->key), ended = 0;
 
     if (f->operation == ADCMD_FREE)
         free_channels(a, own, r);
@@ -448,13 +567,16 @@ static struct Answer for_each_channel(struct Arbiter *a, const struct Frame *f,
         for (unsigned c = 0; c < a->channels; c++)
             if (names(own, c))
                 switch (f->operation) {
-                case CMD_RESET: reset(a, c, r); break;
-                case CMD_FLUSH: flush(a, c, r); break;
+                case CMD_RESET: ended |= reset(a, c, r); break;
+                case CMD_FLUSH: ended |= flush(a, c, r); break;
                 case CMD_STOP: a->channel[c].stopped = 1; break;
                 case CMD_START: a->channel[c].stopped = 0; break;
                 case ADCMD_SETPREC: a->channel[c].precedence = f->precedence; break;
+                case ADCMD_FINISH: ended |= cut(a, c, f, r); break;
+                case ADCMD_PERVOL: change_sound(a, c, f); break;
                 default: break;             /* "CLEAR and UPDATE do nothing." */
                 }
+    end_waiters(a, ended, IOERR_ABORTED, r);
     return finish(a, f, r, own == f->map ? DONE : ADIOERR_NOALLOCATION, own, f->key);
 }
 
@@ -462,8 +584,7 @@ static struct Answer for_each_channel(struct Arbiter *a, const struct Frame *f,
 
 static int known_command(unsigned command)
 {
-    return (command >= CMD_RESET && command <= ADCMD_SETPREC)
-        || command == ADCMD_LOCK || command == ADCMD_ALLOCATE;
+    return (command >= CMD_RESET && command <= ADCMD_WAITCYCLE) || command == ADCMD_ALLOCATE;
 }
 
 /* Seventeen entries, one of them 10, are -4: the length is checked first (M11). */
@@ -483,7 +604,12 @@ static int command_error(const struct Arbiter *a, const struct Frame *f)
         return IOERR_NOCMD;
     if (f->operation == ADCMD_ALLOCATE)
         return list_error(a, f);
-    return beyond_board(a, f->map) ? IOERR_BADADDRESS : DONE;
+    if (beyond_board(a, f->map))
+        return IOERR_BADADDRESS;
+    /* Request #101: "gets -4, checked after -5". */
+    if ((f->operation == CMD_WRITE || f->operation == ADCMD_PERVOL) && bad_sound(f))
+        return IOERR_BADLENGTH;
+    return DONE;
 }
 
 /* ---- The calls ---- */
@@ -507,7 +633,7 @@ static struct Answer command(struct Arbiter *a, const struct Frame *f, struct Re
     switch (f->operation) {
     case ADCMD_ALLOCATE: return allocate(a, f, r);
     case ADCMD_LOCK: return lock(a, f, r);
-    case CMD_WRITE: case CMD_READ: return write_or_read(a, f, r);
+    case CMD_WRITE: case CMD_READ: case ADCMD_WAITCYCLE: return on_one_channel(a, f, r);
     default: return for_each_channel(a, f, r);
     }
 }
@@ -552,24 +678,34 @@ static struct Answer close_device(struct Arbiter *a, const struct Frame *f,
 }
 
 /* "ABORT removes a waiting allocation or a write, replied -2; a lock or an idle id
-   answers 'not aborted'." */
+   answers 'not aborted'." Request #101: it "may name a WAITCYCLE", and a front write that
+   it ends takes its waiters with it. */
 static struct Answer abort_request(struct Arbiter *a, const struct Frame *f,
                                    struct Replies *r)
 {
     struct Ids *place = NULL;
     struct Answer made = answer(DONE, 0, f->key);
+    unsigned front = 0;
 
     if (f->id >= REQUESTS)
         return refuse(f, REFUSED_ID);
     if (a->request[f->id].command == ADCMD_ALLOCATE)
         place = &a->waiting;
+    if (a->request[f->id].command == ADCMD_WAITCYCLE)
+        place = &a->cycles;
     if (a->request[f->id].command == CMD_WRITE)
         for (unsigned c = 0; c < a->channels; c++)
-            if (find_id(&a->channel[c].writes, f->id) < a->channel[c].writes.count)
+            if (find_id(&a->channel[c].writes, f->id) < a->channel[c].writes.count) {
                 place = &a->channel[c].writes;
+                if (place->id[0] == f->id) {
+                    front = 1u << c;
+                    forget(&a->channel[c]);
+                }
+            }
     made.last = place != NULL;
     if (place != NULL)
         end_request(a, remove_id(place, find_id(place, f->id)), IOERR_ABORTED, 0, r);
+    end_waiters(a, front, IOERR_ABORTED, r);
     settle(a, r);
     return made;
 }
@@ -586,9 +722,10 @@ static struct Answer write_end(struct Arbiter *a, const struct Frame *f, struct 
         unsigned c = lowest_channel(f->map);
         struct Channel *channel = &a->channel[c];
 
-        if (!channel->stopped && channel->writes.count > 0) {
+        if (in_progress(channel)) {
             ended = 1u << c;
-            end_request(a, remove_id(&channel->writes, 0), DONE, ended, r);
+            end_waiters(a, ended, DONE, r);         /* "before the write" */
+            end_front(a, c, DONE, ended, r);
         }
     }
     settle(a, r);
@@ -655,27 +792,55 @@ static int no_allocation_fields(const struct Request *q)
         && all_zero(q->combination, COMBINATIONS);
 }
 
+/* What only a write uses. */
+static int no_numbers(const struct Request *q)
+{
+    return q->cycles == 0 && q->period == 0 && q->volume == 0;
+}
+
+/* "Stored numbers are in range." A count may be any of two bytes. */
+static int in_range(unsigned long period, unsigned volume)
+{
+    return period >= LEAST_PERIOD && period <= MOST_PERIOD && volume <= MOST_VOLUME;
+}
+
+static int sound_numbers(const struct Request *q)
+{
+    return in_range(q->period, q->volume);
+}
+
+/* "Nothing is remembered without a write"; what is not remembered is 0. */
+static int sound_memory(const struct Channel *channel)
+{
+    if (channel->finish > 1 || channel->pervol > 1)
+        return 0;
+    if (channel->writes.count == 0 && (channel->finish || channel->pervol))
+        return 0;
+    return channel->pervol ? in_range(channel->period, channel->volume)
+                           : channel->period == 0 && channel->volume == 0;
+}
+
 static int sound_channel(const struct Arbiter *a, const struct Channel *channel)
 {
     if (channel->locked > 1 || channel->stopped > 1)
         return 0;
     if (channel->key == 0)
         return channel->precedence == 0 && !channel->locked && !channel->stopped
-            && channel->writes.count == 0;
+            && channel->writes.count == 0 && sound_memory(channel);
     for (unsigned at = 0; at < channel->writes.count; at++) {
         const struct Request *q = &a->request[channel->writes.id[at]];
 
-        if (q->key != channel->key || q->map != 0 || !no_allocation_fields(q))
+        if (q->key != channel->key || q->map != 0 || !no_allocation_fields(q) || !sound_numbers(q))
             return 0;
     }
-    return 1;
+    return sound_memory(channel);
 }
 
 /* "Each lock's map nonempty and naming only locked channels; each write and lock with
    the key of its channels." */
 static int sound_lock(const struct Arbiter *a, const struct Request *q)
 {
-    if (q->map == 0 || beyond_board(a, q->map) || !no_allocation_fields(q))
+    if (q->map == 0 || beyond_board(a, q->map) || !no_allocation_fields(q) || !no_numbers(q))
         return 0;
     for (unsigned c = 0; c < a->channels; c++)
         if (names(q->map, c) && (!a->channel[c].locked || a->channel[c].key != q->key))
@@ -683,10 +848,21 @@ static int sound_lock(const struct Arbiter *a, const struct Request *q)
     return 1;
 }
 
+/* A WAITCYCLE "has the key of its channel, which has a write". Its map is one bit. */
+static int sound_waiter(const struct Arbiter *a, const struct Request *q)
+{
+    unsigned c;
+
+    if (q->map == 0 || beyond_board(a, q->map) || !no_allocation_fields(q) || !no_numbers(q))
+        return 0;
+    c = lowest_channel(q->map);
+    return q->map == 1u << c && a->channel[c].key == q->key && a->channel[c].writes.count > 0;
+}
+
 /* "Waiting requests with 1 to 16 combinations, each at most 15"; on eight channels, any. */
 static int sound_waiting(const struct Arbiter *a, const struct Request *q)
 {
-    if (q->length < 1 || q->length > COMBINATIONS || q->nowait > 1 || q->map != 0)
+    if (q->length < 1 || q->length > COMBINATIONS || q->nowait > 1 || q->map != 0 || !no_numbers(q))
         return 0;
     for (unsigned i = 0; i < q->length; i++)
         if (beyond_board(a, q->combination[i]))
@@ -697,7 +873,7 @@ static int sound_waiting(const struct Arbiter *a, const struct Request *q)
 /* "An idle id's entry with all its stored numbers 0." */
 static int sound_idle(const struct Request *q)
 {
-    return q->command == 0 && q->key == 0 && q->map == 0 && no_allocation_fields(q);
+    return q->command == 0 && q->key == 0 && q->map == 0 && no_allocation_fields(q) && no_numbers(q);
 }
 
 /* "Sound now includes at most 32 entries, none 0." */
@@ -723,8 +899,12 @@ int arbiter_sound(const struct Arbiter *a)
             || (c >= a->channels && a->channel[c].key != 0))
             return 0;
     if (!sound_place(a, &a->locks, ADCMD_LOCK, met)
-        || !sound_place(a, &a->waiting, ADCMD_ALLOCATE, met))
+        || !sound_place(a, &a->waiting, ADCMD_ALLOCATE, met)
+        || !sound_place(a, &a->cycles, ADCMD_WAITCYCLE, met))
         return 0;
+    for (unsigned at = 0; at < a->cycles.count; at++)
+        if (!sound_waiter(a, &a->request[a->cycles.id[at]]))
+            return 0;
     for (unsigned at = 0; at < a->locks.count; at++)
         if (!sound_lock(a, &a->request[a->locks.id[at]]))
             return 0;

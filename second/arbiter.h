@@ -17,9 +17,15 @@
 enum {
     CMD_RESET = 1, CMD_READ = 2, CMD_WRITE = 3, CMD_UPDATE = 4, CMD_CLEAR = 5,
     CMD_STOP = 6, CMD_START = 7, CMD_FLUSH = 8,
-    ADCMD_FREE = 9, ADCMD_SETPREC = 10, ADCMD_LOCK = 13, ADCMD_ALLOCATE = 32
+    ADCMD_FREE = 9, ADCMD_SETPREC = 10, ADCMD_FINISH = 11, ADCMD_PERVOL = 12,
+    ADCMD_LOCK = 13, ADCMD_WAITCYCLE = 14, ADCMD_ALLOCATE = 32
 };
-enum { IOF_QUICK = 1, ADIOF_NOWAIT = 64 };
+enum { IOF_QUICK = 1, ADIOF_SYNCCYCLE = 32, ADIOF_NOWAIT = 64 };
+
+/* Request #101: what a write plays. */
+#define LEAST_PERIOD 124u
+#define MOST_PERIOD 65536u
+#define MOST_VOLUME 64u
 
 /* Document 01, "Numbers a caller can get back" */
 enum {
@@ -51,17 +57,23 @@ struct Channel {
     int8_t precedence;
     uint8_t locked, stopped;                /* 0 or 1 */
     struct Ids writes;                      /* oldest first */
+    uint8_t finish, pervol;                 /* 0 or 1: remembered until the cycle ends */
+    uint32_t period;                        /* of the remembered PERVOL; without one 0 */
+    uint8_t volume;
 };
 
 /* One outstanding request. What its command does not use is 0; an idle entry is all 0. */
 struct Request {
     uint8_t command;                        /* 0: the id is idle */
     uint8_t nowait;                         /* waiting allocation: 0 or 1 */
-    uint8_t map;                            /* lock: the channels it still holds */
+    uint8_t map;                            /* lock: the channels it still holds; WAITCYCLE: its channel */
     int8_t precedence;                      /* waiting allocation */
     uint16_t key;
     uint8_t length;                         /* waiting allocation: 1 to 16 */
     uint8_t combination[COMBINATIONS];
+    uint16_t cycles;                        /* write: 0 is endless */
+    uint32_t period;                        /* write */
+    uint8_t volume;                         /* write */
 };
 
 struct Arbiter {
@@ -70,6 +82,7 @@ struct Arbiter {
     struct Request request[REQUESTS];
     struct Ids locks;                       /* oldest first */
     struct Ids waiting;                     /* highest precedence first, then arrival */
+    struct Ids cycles;                      /* outstanding WAITCYCLEs of all channels, oldest first */
     struct Keys open;                       /* one entry for each successful OPEN */
     uint16_t last_key;
 };

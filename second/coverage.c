@@ -27,7 +27,7 @@ static struct AnswerRow {
 };
 
 /* What a reply comes from. A call's number stands for itself. */
-enum { OWN = 256, SETTLING, STEAL };
+enum { OWN = 256, SETTLING, STEAL, CUT_BY_ABORT };
 #define ANY (-1)
 
 /* Rows of replies: by command, error and cause. ANY leaves a column open. */
@@ -55,7 +55,25 @@ static struct ReplyRow {
     {"WRITE  -2, RESET", CMD_WRITE, IOERR_ABORTED, CMD_RESET, 0},
     {"WRITE  -2, FLUSH", CMD_WRITE, IOERR_ABORTED, CMD_FLUSH, 0},
     {"WRITE  -2, ABORT", CMD_WRITE, IOERR_ABORTED, CALL_ABORT, 0},
+    {"WRITE  -2, FINISH", CMD_WRITE, IOERR_ABORTED, ADCMD_FINISH, 0},
     {"WRITE -10, own", CMD_WRITE, ADIOERR_NOALLOCATION, OWN, 0},
+    {"WRITE  -4, own: numbers", CMD_WRITE, IOERR_BADLENGTH, OWN, 0},
+    {"WAITCYCLE   0, event", ADCMD_WAITCYCLE, DONE, CALL_EVENT, 0},
+    {"WAITCYCLE   0, own: done at once", ADCMD_WAITCYCLE, DONE, OWN, 0},
+    {"WAITCYCLE -10, own", ADCMD_WAITCYCLE, ADIOERR_NOALLOCATION, OWN, 0},
+    {"WAITCYCLE  -2, stolen", ADCMD_WAITCYCLE, IOERR_ABORTED, STEAL, 0},
+    {"WAITCYCLE  -2, FREE", ADCMD_WAITCYCLE, IOERR_ABORTED, ADCMD_FREE, 0},
+    {"WAITCYCLE  -2, CLOSE", ADCMD_WAITCYCLE, IOERR_ABORTED, CALL_CLOSE, 0},
+    {"WAITCYCLE  -2, RESET", ADCMD_WAITCYCLE, IOERR_ABORTED, CMD_RESET, 0},
+    {"WAITCYCLE  -2, FLUSH", ADCMD_WAITCYCLE, IOERR_ABORTED, CMD_FLUSH, 0},
+    {"WAITCYCLE  -2, FINISH", ADCMD_WAITCYCLE, IOERR_ABORTED, ADCMD_FINISH, 0},
+    {"WAITCYCLE  -2, ABORT", ADCMD_WAITCYCLE, IOERR_ABORTED, CALL_ABORT, 0},
+    {"WAITCYCLE  -2, ABORT of the front write", ADCMD_WAITCYCLE, IOERR_ABORTED, CUT_BY_ABORT, 0},
+    {"FINISH   0, own", ADCMD_FINISH, DONE, OWN, 0},
+    {"FINISH -10, own", ADCMD_FINISH, ADIOERR_NOALLOCATION, OWN, 0},
+    {"PERVOL   0, own", ADCMD_PERVOL, DONE, OWN, 0},
+    {"PERVOL -10, own", ADCMD_PERVOL, ADIOERR_NOALLOCATION, OWN, 0},
+    {"PERVOL  -4, own: numbers", ADCMD_PERVOL, IOERR_BADLENGTH, OWN, 0},
     {"READ   0, own", CMD_READ, DONE, OWN, 0},
     {"READ -10, own", CMD_READ, ADIOERR_NOALLOCATION, OWN, 0},
     {"RESET   0, own", CMD_RESET, DONE, OWN, 0},
@@ -112,13 +130,32 @@ static struct CallRow {
     {"keys come round", 1, 0},
     {"keys come round over keys in use", 1, 0},
     {"new key passes over one of an opener alone", 0, 0},
-    {"keys come round over such a key", 1, 0}
+    {"keys come round over such a key", 1, 0},
+    {"FINISH remembered", 0, 0},
+    {"FINISH, plain, on a stopped channel", 0, 0},
+    {"FINISH, synced, on a stopped channel", 0, 0},
+    {"FINISH of the front of two writes", 0, 0},
+    {"PERVOL at once", 0, 0},
+    {"PERVOL remembered", 0, 0},
+    {"PERVOL remembered over another", 0, 0},
+    {"PERVOL at once beside a remembered one", 0, 0},
+    {"event drops what is remembered", 0, 0},
+    {"event answers two waiters or more", 0, 0},
+    {"two waiters or more cut, of two channels", 0, 0},
+    {"ABORT of the first of two writes, waited for", 0, 0},
+    {"ABORT of a write behind one waited for", 0, 0},
+    {"STOP of a channel waited for", 0, 0},
+    {"WAITCYCLE done on a stopped channel", 0, 0},
+    {"WRITE endless", 0, 0},
+    {"WRITE with period 124 or 65,536", 0, 0}
 };
 enum {
     OPEN_LIST, OPEN_PLAIN, OPEN_FAILED, OPEN_LAST, CLOSED, CLOSED_ONE, CLOSE_FOREIGN, EVENT_ENDED, EVENT_NOTHING, ABORTED, NOT_ABORTED,
     READ_ID, READ_NONE, HELD, HELD_NOWAIT, PARTIAL, MANY_GRANTS, FEWER, FEWER_HELD, TIED,
     SIXTEEN, SEVENTEEN, TEN_REPLIES, NEARLY_FULL, PASSES, ROUND, ROUND_PASSES,
-    PASSES_OPENER, ROUND_PASSES_OPENER
+    PASSES_OPENER, ROUND_PASSES_OPENER,
+    FINISH_LATER, FINISH_STOPPED, FINISH_LATER_STOPPED, FINISH_OF_TWO, PERVOL_NOW, PERVOL_LATER, PERVOL_AGAIN, PERVOL_BESIDE,
+    DROPPED, TWO_MET, TWO_CUT, ABORT_FIRST, ABORT_BEHIND, STOP_WAITED, WAIT_STOPPED, ENDLESS, LONG_PERIODS
 };
 
 #define COUNT_OF(array) (sizeof (array) / sizeof *(array))
@@ -162,6 +199,15 @@ static unsigned channel_of(const struct Arbiter *before, unsigned id)
     return 0;
 }
 
+static unsigned lowest_of(unsigned map)
+{
+    unsigned c = 0;
+
+    while (c < MOST_CHANNELS - 1 && (map >> c & 1) == 0)
+        c++;
+    return c;
+}
+
 static int cause_of(const struct Arbiter *before, const struct Frame *f,
                     const struct Answer *answer, const struct Reply *reply)
 {
@@ -174,12 +220,15 @@ static int cause_of(const struct Arbiter *before, const struct Frame *f,
         return SETTLING;
     if (reply->command == ADCMD_ALLOCATE)
         return reply->error == IOERR_ABORTED ? CALL_ABORT : SETTLING;
-    if (reply->command != CMD_WRITE || reply->error != IOERR_ABORTED)
+    if (reply->error != IOERR_ABORTED)
         return f->operation;
-    /* A call aborts by itself only writes of its own key on its own channels. */
-    c = channel_of(before, reply->id);
+    /* A call aborts by itself only writes of its own key on its own channels, and who waits for them. */
+    c = reply->command == ADCMD_WAITCYCLE ? lowest_of(was->map) : channel_of(before, reply->id);
+    if (reply->command == ADCMD_WAITCYCLE && f->operation == CALL_ABORT && before->channel[c].writes.id[0] == f->id
+        && before->channel[c].writes.count > 0)
+        return CUT_BY_ABORT;
     switch (f->operation) {
-    case CMD_RESET: case CMD_FLUSH: case ADCMD_FREE:
+    case CMD_RESET: case CMD_FLUSH: case ADCMD_FREE: case ADCMD_FINISH:
         return was->key == f->key && (f->map >> c & 1) ? f->operation : STEAL;
     case CALL_CLOSE:
         return was->key == f->key ? CALL_CLOSE : STEAL;
@@ -258,6 +307,75 @@ static void count_new_key(const struct Arbiter *before, unsigned key)
     call_rows[ROUND_PASSES].count += round && (before->last_key < LAST_OF_KEYS || key > 1);
     call_rows[PASSES_OPENER].count += openers > 0;
     call_rows[ROUND_PASSES_OPENER].count += round && openers > 0;
+}
+
+static unsigned waiters_on(const struct Arbiter *a, unsigned c)
+{
+    unsigned count = 0;
+
+    for (unsigned at = 0; at < a->cycles.count; at++)
+        count += a->request[a->cycles.id[at]].map == 1u << c;
+    return count;
+}
+
+/* FINISH and PERVOL, channel by channel. */
+static void count_front(const struct Frame *f, const struct Channel *was, const struct Channel *is)
+{
+    int synced = (f->flags & ADIOF_SYNCCYCLE) != 0, plays = was->writes.count > 0 && !was->stopped;
+
+    if (f->operation == ADCMD_FINISH) {
+        call_rows[FINISH_LATER].count += synced && plays && is->finish;
+        call_rows[FINISH_STOPPED].count += !synced && was->stopped && was->writes.count > 0;
+        call_rows[FINISH_LATER_STOPPED].count += synced && was->stopped && was->writes.count > 0;
+        call_rows[FINISH_OF_TWO].count += !synced && plays && was->writes.count > 1;
+    } else {
+        call_rows[PERVOL_NOW].count += !synced && plays;
+        call_rows[PERVOL_LATER].count += synced && plays && !was->pervol;
+        call_rows[PERVOL_AGAIN].count += synced && plays && was->pervol;
+        call_rows[PERVOL_BESIDE].count += !synced && plays && was->pervol && is->pervol;
+    }
+}
+
+/* Request #101: clean cuts. */
+static void count_cuts(const struct Arbiter *before, const struct Arbiter *after, const struct Frame *f,
+                       const struct Answer *answer, const struct Replies *replies)
+{
+    unsigned met = 0, cut = 0, places = 0, c = lowest_of(f->map);
+
+    for (size_t i = 0; i < replies->count; i++) {
+        const struct Reply *r = &replies->record[i];
+
+        met += r->command == ADCMD_WAITCYCLE && r->error == DONE && f->operation == CALL_EVENT;
+        if (r->command == ADCMD_WAITCYCLE && r->error == IOERR_ABORTED) {
+            cut++;
+            places |= before->request[r->id].map;
+        }
+    }
+    call_rows[TWO_MET].count += met > 1;
+    call_rows[TWO_CUT].count += cut > 1 && (places & (places - 1)) != 0;
+    if (f->operation == ADCMD_FINISH || f->operation == ADCMD_PERVOL)
+        for (unsigned k = 0; k < before->channels; k++)
+            if (answer->map >> k & 1)
+                count_front(f, &before->channel[k], &after->channel[k]);
+    if (f->operation == CALL_EVENT && answer->map != 0)
+        call_rows[DROPPED].count += before->channel[c].finish || before->channel[c].pervol;
+    if (f->operation == CALL_ABORT && answer->last == 1 && before->request[f->id].command == CMD_WRITE) {
+        unsigned k = channel_of(before, f->id);
+        int first = before->channel[k].writes.id[0] == f->id;
+
+        call_rows[ABORT_FIRST].count += first && before->channel[k].writes.count > 1 && waiters_on(before, k) > 0;
+        call_rows[ABORT_BEHIND].count += !first && waiters_on(before, k) > 0;
+    }
+    if (f->operation == CMD_STOP)
+        for (unsigned k = 0; k < before->channels; k++)
+            call_rows[STOP_WAITED].count += (answer->map >> k & 1) && waiters_on(before, k) > 0;
+    if (f->operation == ADCMD_WAITCYCLE && answer->error == DONE && !answer->outstanding)
+        call_rows[WAIT_STOPPED].count += before->channel[c].stopped && before->channel[c].writes.count > 0;
+    if (f->operation == CMD_WRITE && answer->outstanding) {
+        call_rows[ENDLESS].count += after->request[f->id].command == CMD_WRITE && after->request[f->id].cycles == 0;
+        call_rows[LONG_PERIODS].count += f->length == 6
+            && (after->request[f->id].period == LEAST_PERIOD || after->request[f->id].period == MOST_PERIOD);
+    }
 }
 
 static void count_call(const struct Arbiter *before, const struct Arbiter *after,
@@ -367,6 +485,7 @@ static void play(FILE *log, unsigned channels)
             for (size_t i = 0; i < replies.count; i++)
                 count_reply(&record[i], cause_of(&before, &frame, &answer, &record[i]));
             count_call(&before, &state, &frame, &answer, &replies);
+            count_cuts(&before, &state, &frame, &answer, &replies);
         }
         count_answer(&answer);
     }

@@ -14,13 +14,13 @@
 
 enum Kind {
     OPEN, CLOSE, ABORT, EVENT, RESET, READ, WRITE, UPDATE, CLEAR, STOP, START, FLUSH,
-    FREE, SETPREC, LOCK, ALLOCATE, UNKNOWN, KINDS
+    FREE, SETPREC, LOCK, ALLOCATE, UNKNOWN, FINISH, PERVOL, WAITCYCLE, KINDS
 };
 
 static const uint8_t operation_of[KINDS] = {
     CALL_OPEN, CALL_CLOSE, CALL_ABORT, CALL_EVENT, CMD_RESET, CMD_READ, CMD_WRITE,
     CMD_UPDATE, CMD_CLEAR, CMD_STOP, CMD_START, CMD_FLUSH, ADCMD_FREE, ADCMD_SETPREC,
-    ADCMD_LOCK, ADCMD_ALLOCATE, 0
+    ADCMD_LOCK, ADCMD_ALLOCATE, 0, ADCMD_FINISH, ADCMD_PERVOL, ADCMD_WAITCYCLE
 };
 
 struct Style {
@@ -35,33 +35,34 @@ struct Style {
 
 enum {
     MIX, LOCKS, NOWAIT, QUEUES, FULL, ABORTS, PRECEDENCES, REFUSALS, MALFORMED, LISTS,
-    BYTES, TIES, OPENS, KEYS, MANY_LOCKS, MANY_STEALS, MANY_ENTRIES, MANY_WAITING, STYLES
+    BYTES, TIES, CUTS, OPENS, KEYS, MANY_LOCKS, MANY_STEALS, MANY_ENTRIES, MANY_WAITING, STYLES
 };
-#define SHORT_STYLES KEYS       /* 1 to 12 take part in the mix */
+#define SHORT_STYLES KEYS       /* 1 to 13 take part in the mix */
 #define LONG_STRETCH 67500ul    /* lines in which the keys reach their end */
 #define LONG_LOG 70000ul        /* a mix this long begins with such a stretch */
 
 static const struct Style styles[STYLES] = {
-    /*              Op Cl Ab Ev Rs Rd Wr Up Cr Sp St Fl Fr Pr Lk Al Un */
+    /*              Op Cl Ab Ev Rs Rd Wr Up Cr Sp St Fl Fr Pr Lk Al Un Fi Pv Wc */
     {"mix",         {0}, 0, 0, 0, 0, 0},
-    {"locks",       {2, 2, 2, 1, 1, 1, 6, 1, 1, 1, 1, 1,18, 6,26,34, 0}, 30, 2,  5,  1, 30},
-    {"nowait",      {2, 1, 3, 1, 1, 1, 3, 0, 0, 1, 1, 1, 9,26,20,36, 0}, 85, 2,  5,  1, 30},
-    {"queues",      {2, 1, 5,14, 3, 8,46, 1, 1, 4, 6, 2, 2, 2, 1, 5, 0}, 30, 2,  5,  1, 62},
-    {"full",        {3, 0, 1, 2, 0, 3,64, 0, 0, 2, 2, 0, 0, 1, 6,18, 0}, 30, 3,  5,  1, 62},
-    {"aborts",      {2, 1,30, 3, 1, 2,22, 1, 1, 1, 1, 1, 4, 4, 8,24, 0}, 20, 3,  5,  1, 40},
-    {"precedences", {5, 4, 3, 2, 1, 1, 8, 1, 1, 1, 1, 1, 8,30, 6,30, 0}, 25, 2, 10,  1, 40},
-    {"refusals",    {9,14, 4, 5, 4, 4, 9, 4, 4, 4, 4, 4, 6, 5, 5,18,10}, 40,40, 15,  2, 30},
-    {"malformed",   {6, 4, 4, 6, 3, 4,12, 3, 3, 4, 4, 3, 8, 6, 8,20, 2}, 40, 5, 10, 50, 40},
-    {"lists",       {14,8, 3, 2, 1, 1, 6, 0, 0, 1, 1, 1,12, 6, 8,46, 0}, 40,12, 60,  1, 40},
-    {"bytes",       {1, 1, 1, 1, 1, 1, 1, 1, 1, 1, 1, 1, 1, 1, 1, 1, 1}, 50,30, 20,  5, 50},
-    {"ties",        {2, 1, 3, 1, 1, 1, 4, 0, 0, 1, 1, 1, 4,30, 1,50, 0}, 70, 2,  8,  1, 30},
-    {"opens",       {40,22, 2, 2, 1, 1, 4, 1, 1, 1, 1, 1, 4, 3, 3,12, 1}, 40, 3, 5,  1, 40},
-    {"keys",        {6, 1, 2, 2, 1, 1, 4, 1, 1, 1, 1, 1, 4, 6, 4,40, 1}, 20, 2, 10,  1, 40},
+    {"locks",       {2, 2, 2, 1, 1, 1, 6, 1, 1, 1, 1, 1,18, 6,26,34, 0, 1, 1, 1}, 30, 2,  5,  1, 30},
+    {"nowait",      {2, 1, 3, 1, 1, 1, 3, 0, 0, 1, 1, 1, 9,26,20,36, 0, 0, 0, 1}, 85, 2,  5,  1, 30},
+    {"queues",      {2, 1, 5,14, 3, 8,46, 1, 1, 4, 6, 2, 2, 2, 1, 5, 0, 4, 4, 8}, 30, 2,  5,  1, 62},
+    {"full",        {3, 0, 1, 2, 0, 3,64, 0, 0, 2, 2, 0, 0, 1, 6,18, 0, 1, 1, 6}, 30, 3,  5,  1, 62},
+    {"aborts",      {2, 1,30, 3, 1, 2,22, 1, 1, 1, 1, 1, 4, 4, 8,24, 0, 1, 1, 8}, 20, 3,  5,  1, 40},
+    {"precedences", {5, 4, 3, 2, 1, 1, 8, 1, 1, 1, 1, 1, 8,30, 6,30, 0, 1, 1, 1}, 25, 2, 10,  1, 40},
+    {"refusals",    {9,14, 4, 5, 4, 4, 9, 4, 4, 4, 4, 4, 6, 5, 5,18,10, 3, 3, 3}, 40,40, 15,  2, 30},
+    {"malformed",   {6, 4, 4, 6, 3, 4,12, 3, 3, 4, 4, 3, 8, 6, 8,20, 2, 2, 2, 2}, 40, 5, 10, 50, 40},
+    {"lists",       {14,8, 3, 2, 1, 1, 6, 0, 0, 1, 1, 1,12, 6, 8,46, 0, 0, 0, 0}, 40,12, 60,  1, 40},
+    {"bytes",       {1, 1, 1, 1, 1, 1, 1, 1, 1, 1, 1, 1, 1, 1, 1, 1, 1, 1, 1, 1}, 50,30, 20,  5, 50},
+    {"ties",        {2, 1, 3, 1, 1, 1, 4, 0, 0, 1, 1, 1, 4,30, 1,50, 0, 0, 0, 0}, 70, 2,  8,  1, 30},
+    {"cuts",        {2, 1, 5,14, 2, 2,26, 0, 0, 5, 7, 2, 2, 1, 1, 8, 0,12,12,20}, 20, 3,  5,  1, 55},
+    {"opens",       {40,22, 2, 2, 1, 1, 4, 1, 1, 1, 1, 1, 4, 3, 3,12, 1, 1, 1, 1}, 40, 3, 5,  1, 40},
+    {"keys",        {6, 1, 2, 2, 1, 1, 4, 1, 1, 1, 1, 1, 4, 6, 4,40, 1, 0, 0, 0}, 20, 2, 10,  1, 40},
     /* One kind of work each, for measuring: good frames, and hardly a refusal. */
-    {"many-locks",  {1, 0, 2, 1, 1, 2, 4, 2, 2, 2, 2, 1, 4, 8,60, 3, 0}, 90, 0,  5,  0, 50},
-    {"many-steals", {1, 0, 1, 1, 0, 1,30, 0, 0, 1, 1, 0, 1,36, 0,36, 0},100, 0,  5,  0, 50},
-    {"many-entries",{6, 4, 3, 1, 1, 1, 4, 1, 1, 1, 1, 1, 9, 9, 2,55, 0}, 60, 0,100,  0, 40},
-    {"many-waiting",{1, 0, 4, 4, 1, 8, 8, 4, 4, 4, 4, 2, 0, 1, 0,55, 0},  0, 0,  5,  0, 56}
+    {"many-locks",  {1, 0, 2, 1, 1, 2, 4, 2, 2, 2, 2, 1, 4, 8,60, 3, 0, 0, 0, 0}, 90, 0,  5,  0, 50},
+    {"many-steals", {1, 0, 1, 1, 0, 1,30, 0, 0, 1, 1, 0, 1,36, 0,36, 0, 0, 0, 0},100, 0,  5,  0, 50},
+    {"many-entries",{6, 4, 3, 1, 1, 1, 4, 1, 1, 1, 1, 1, 9, 9, 2,55, 0, 0, 0, 0}, 60, 0,100,  0, 40},
+    {"many-waiting",{1, 0, 4, 4, 1, 8, 8, 4, 4, 4, 4, 2, 0, 1, 0,55, 0, 0, 0, 0},  0, 0,  5,  0, 56}
 };
 
 /* ---- The device as it stands ---- */
@@ -231,6 +232,31 @@ static void pick_list(struct Frame *f, const struct Style *s)
         memset(f->combination, f->combination[0], COMBINATIONS - 1);
 }
 
+/* The six numbers of a WRITE or a PERVOL: mostly good ones, at times an end of a range or
+   one beyond it, at times another length. */
+static void pick_sound(struct Frame *f)
+{
+    static const uint32_t periods[8] = {124, 125, 65535, 65536, 123, 65537, 0, 0xFFFFFF};
+    static const uint8_t volumes[4] = {0, 64, 65, 255};
+    static const uint8_t lengths[6] = {1, 4, 5, 7, 16, 255};
+    uint32_t period = 124 + below(1000);
+    unsigned volume = below(65), cycles = percent(70) ? below(4) : below(65536);
+
+    if (percent(40))
+        return;
+    if (percent(25))
+        period = periods[below(percent(60) ? 4 : 8)];
+    if (percent(20))
+        volume = volumes[below(percent(60) ? 2 : 4)];
+    f->length = (uint8_t)(percent(95) ? 6 : lengths[below(6)]);
+    f->combination[0] = (uint8_t)(cycles >> 8);
+    f->combination[1] = (uint8_t)(cycles & 255);
+    f->combination[2] = (uint8_t)(period >> 16);
+    f->combination[3] = (uint8_t)(period >> 8 & 255);
+    f->combination[4] = (uint8_t)(period & 255);
+    f->combination[5] = (uint8_t)volume;
+}
+
 /* A list that is refused, or with ignore set any list at all, up to the longest. */
 static void spoil_list(struct Frame *f, int ignore)
 {
@@ -254,14 +280,14 @@ static void spoil_list(struct Frame *f, int ignore)
 /* Every number but those of the listed commands and of F0 to F3. */
 static unsigned pick_unknown(void)
 {
-    static const uint8_t near[8] = {0, 11, 12, 14, 15, 31, 33, 0xF4};
+    static const uint8_t near[8] = {0, 15, 16, 30, 31, 33, 0xEF, 0xF4};
     unsigned number = near[below(8)];
 
     if (percent(40))
         number = below(256);
-    for (unsigned kind = 0; kind < UNKNOWN; kind++)
-        if (operation_of[kind] == number)
-            return 11;
+    for (unsigned kind = 0; kind < KINDS; kind++)
+        if (kind != UNKNOWN && operation_of[kind] == number)
+            return 15;
     return number;
 }
 
@@ -353,8 +379,30 @@ static void make_frame(struct Frame *f, enum Kind kind, const struct Style *s)
     case UNKNOWN:
         f->operation = (uint8_t)pick_unknown();
         break;
+    case WRITE: case PERVOL:
+        if (s < &styles[MANY_LOCKS])
+            pick_sound(f);
+        break;
+    case WAITCYCLE:
+        if (percent(70)) {
+            unsigned c = pick_playing();
+
+            f->map = (uint8_t)(1u << c);
+            f->key = state.channel[c].key;
+        }
+        break;
     default:
         break;
+    }
+    if (kind == FINISH || kind == PERVOL) {
+        if (percent(50))
+            f->flags |= ADIOF_SYNCCYCLE;
+        if (percent(60)) {
+            unsigned c = pick_playing();
+
+            f->map = (uint8_t)(1u << c | (percent(30) ? 1u << pick_playing() : 0u));
+            f->key = state.channel[c].key;
+        }
     }
     if (percent(s->wrong))
         spoil(f);

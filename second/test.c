@@ -352,6 +352,7 @@ static void test_unsettled(void)
     b = a;
     b.request[30].command = CMD_WRITE;
     b.request[30].key = 5;
+    b.request[30].period = LEAST_PERIOD;
     b.channel[0].writes.id[0] = 30;
     b.channel[0].writes.count = 1;
     check(same_answer(call(&b, CMD_READ, 0, IOF_QUICK, 1, 0, 5, ""), 0, 0, 1, 5, 30)
@@ -442,6 +443,30 @@ static void test_sound(void)
     UNSOUND(a.open.count = 2);
     UNSOUND(a.open.key[31] = 9);
     UNSOUND(while (a.open.count < MOST_OPENS) enter(&a, 9); a.open.count = 33);
+    SOUND(a.request[2].cycles = 0);
+    SOUND(a.request[2].cycles = 65535; a.request[2].period = 65536; a.request[2].volume = 0);
+    UNSOUND(a.request[2].period = 123);
+    UNSOUND(a.request[2].period = 65537);
+    UNSOUND(a.request[3].volume = 65);
+    UNSOUND(a.request[1].period = 124);
+    UNSOUND(a.request[4].volume = 1);
+    SOUND(a.channel[0].finish = 1);
+    SOUND(a.channel[0].pervol = 1; a.channel[0].period = 124; a.channel[0].volume = 64);
+    UNSOUND(a.channel[0].pervol = 1; a.channel[0].period = 123);
+    UNSOUND(a.channel[0].period = 124);
+    UNSOUND(a.channel[0].finish = 2);
+    UNSOUND(a.channel[2].finish = 1);
+    UNSOUND(a.channel[1].pervol = 1; a.channel[1].period = 124);
+    call(&good, ADCMD_WAITCYCLE, 8, 0, 1, 0, 5, "");
+    check(good.cycles.count == 1 && arbiter_sound(&good), "a WAITCYCLE is outstanding, and sound");
+    SOUND(a.channel[0].stopped = 1);
+    UNSOUND(a.request[8].map = 3);
+    UNSOUND(a.request[8].map = 0);
+    UNSOUND(a.request[8].map = 4);
+    UNSOUND(a.request[8].key = 6);
+    UNSOUND(a.request[8].volume = 1);
+    UNSOUND(a.cycles.count = 0);
+    UNSOUND(a.cycles.id[1] = 2; a.cycles.count = 2);
     SOUND(a.last_key = 65535);
     SOUND(a.request[4].nowait = 1; a.request[4].combination[0] = 0);
     SOUND(a.waiting.id[0] = 5; a.waiting.id[1] = 4);

@@ -73,6 +73,14 @@ static void add_id(struct Ids *list, unsigned id)
     list->id[list->count++] = (uint8_t)id;
 }
 
+/* An end of the range now and then. */
+static uint32_t any_period(void)
+{
+    static const uint32_t ends[4] = {124, 125, 65535, 65536};
+
+    return percent(30) ? ends[below(4)] : 124 + below(65413);
+}
+
 static void make_channel(struct Arbiter *a, struct Channel *channel)
 {
     unsigned writes = percent(40) ? 1 + below(2) : 0;
@@ -88,8 +96,31 @@ static void make_channel(struct Arbiter *a, struct Channel *channel)
 
         a->request[id].command = CMD_WRITE;
         a->request[id].key = channel->key;
+        a->request[id].cycles = (uint16_t)(percent(30) ? below(65536) : below(3));
+        a->request[id].period = any_period();
+        a->request[id].volume = (uint8_t)below(65);
         add_id(&channel->writes, id);
     }
+    if (writes > 0) {
+        channel->finish = (uint8_t)percent(25);
+        channel->pervol = (uint8_t)percent(25);
+        channel->period = channel->pervol ? any_period() : 0;
+        channel->volume = (uint8_t)(channel->pervol ? below(65) : 0);
+    }
+}
+
+/* A WAITCYCLE on one of the channels that have a write. */
+static void make_cycle(struct Arbiter *a)
+{
+    unsigned c = below(CHANNELS), id;
+
+    if (a->channel[c].writes.count == 0)
+        return;
+    id = take_id();
+    a->request[id].command = ADCMD_WAITCYCLE;
+    a->request[id].key = a->channel[c].key;
+    a->request[id].map = (uint8_t)(1u << c);
+    add_id(&a->cycles, id);
 }
 
 static void make_lock(struct Arbiter *a)
@@ -142,6 +173,8 @@ static void make_state(struct Arbiter *a)
         make_channel(a, &a->channel[c]);
     for (unsigned i = 0; i < locks; i++)
         make_lock(a);
+    for (unsigned i = below(4); i > 0; i--)
+        make_cycle(a);
     for (unsigned i = 0; i < waiting; i++) {
         unsigned at = i;
 
@@ -176,7 +209,7 @@ static int at_rest(const struct Arbiter *a)
     return 1;
 }
 
-#define SPOILS 9u
+#define SPOILS 15u
 
 /* One thing that a sound state may not have, where both programs can say it. */
 static void spoil(struct Arbiter *a, unsigned kind)
@@ -221,6 +254,39 @@ static void spoil(struct Arbiter *a, unsigned kind)
         if (a->open.count > 0)
             a->open.key[a->open.count - 1] = 0;
         break;
+    case 8:                                 /* a WAITCYCLE of two channels */
+        if (a->cycles.count > 0)
+            a->request[a->cycles.id[0]].map |= (uint8_t)(a->request[a->cycles.id[0]].map > 1 ? 1 : 2);
+        break;
+    case 9:                                 /* a WAITCYCLE with another key */
+        if (a->cycles.count > 0)
+            a->request[a->cycles.id[0]].key ^= 3;
+        break;
+    case 10:                                /* a WAITCYCLE on a channel without a write */
+        if (a->cycles.count > 0)
+            for (unsigned c = 0; c < CHANNELS; c++)
+                if (a->request[a->cycles.id[0]].map == 1u << c) {
+                    while (a->channel[c].writes.count > 0) {
+                        id = a->channel[c].writes.id[--a->channel[c].writes.count];
+                        a->channel[c].writes.id[a->channel[c].writes.count] = 0;
+                        memset(&a->request[id], 0, sizeof a->request[id]);
+                    }
+                    a->channel[c].finish = a->channel[c].pervol = a->channel[c].volume = 0;
+                    a->channel[c].period = 0;
+                }
+        break;
+    case 11:                                /* a write with a period of 123 */
+        if (channel->writes.count > 0)
+            a->request[channel->writes.id[channel->writes.count - 1]].period = 123;
+        break;
+    case 12:                                /* a write with a volume of 65 */
+        if (channel->writes.count > 0)
+            a->request[channel->writes.id[0]].volume = 65;
+        break;
+    case 13:                                /* a remembered period of 65,537 */
+        if (channel->pervol)
+            channel->period = 65537;
+        break;
     default:                                /* a waiting request without a combination */
         if (a->waiting.count > 0) {
             struct Request *q = &a->request[a->waiting.id[0]];
@@ -241,9 +307,10 @@ static void make_call(struct Frame *f, unsigned operation)
     f->id = (uint8_t)idle_id();
     if (percent(operation == CALL_ABORT ? 60 : 5))
         f->id = (uint8_t)below(72);
-    f->flags = (uint8_t)((percent(50) ? IOF_QUICK : 0) | (percent(50) ? ADIOF_NOWAIT : 0));
+    f->flags = (uint8_t)((percent(50) ? IOF_QUICK : 0) | (percent(50) ? ADIOF_NOWAIT : 0)
+                         | (percent(50) ? ADIOF_SYNCCYCLE : 0));
     if (percent(10))
-        f->flags |= 0x2A;                   /* bits without a meaning */
+        f->flags |= 0x0A;                   /* bits without a meaning */
     f->map = (uint8_t)(percent(96) ? below(ALL_CHANNELS + 1) : below(256));
     f->precedence = any_precedence();
     f->key = percent(10) ? 0 : any_key();
@@ -256,6 +323,18 @@ static void make_call(struct Frame *f, unsigned operation)
             f->length = 17;
         if (percent(4) && f->length > 0)
             f->combination[f->length - 1] = 255;
+    }
+    if ((operation == CMD_WRITE || operation == ADCMD_PERVOL) && percent(70)) {
+        uint32_t period = percent(92) ? any_period() : percent(50) ? 123 : 65537;
+        unsigned cycles = percent(50) ? below(3) : below(65536);
+
+        f->length = (uint8_t)(percent(95) ? 6 : 4);
+        f->combination[0] = (uint8_t)(cycles >> 8);
+        f->combination[1] = (uint8_t)(cycles & 255);
+        f->combination[2] = (uint8_t)(period >> 16);
+        f->combination[3] = (uint8_t)(period >> 8 & 255);
+        f->combination[4] = (uint8_t)(period & 255);
+        f->combination[5] = (uint8_t)(percent(95) ? below(65) : 65);
     }
 }
 
@@ -338,6 +417,58 @@ static int two_new_keys(void)               /* the call's and at least one of th
     return answer.error == DONE && call.key == 0 && grants() >= 1
         && after.last_key != answer.key && after.last_key != before.last_key;
 }
+static unsigned told(unsigned command, int error)   /* how many replies */
+{
+    unsigned count = 0;
+
+    for (size_t i = 0; i < replies.count; i++)
+        count += replies.record[i].command == command && replies.record[i].error == error;
+    return count;
+}
+static unsigned remembered(const struct Arbiter *a)
+{
+    unsigned count = 0;
+
+    for (unsigned c = 0; c < CHANNELS; c++)
+        count += a->channel[c].finish + a->channel[c].pervol;
+    return count;
+}
+static int cuts_waiters(void) { return told(ADCMD_WAITCYCLE, IOERR_ABORTED) > 0; }
+static int cuts_two(void)                   /* oldest first, and not by channel */
+{
+    unsigned last = 0, falls = 0;
+
+    for (size_t i = 0; i < replies.count; i++)
+        if (replies.record[i].command == ADCMD_WAITCYCLE) {
+            unsigned map = before.request[replies.record[i].id].map;
+
+            falls += map < last;
+            last = map;
+        }
+    return falls > 0 && told(ADCMD_WAITCYCLE, IOERR_ABORTED) > 1;
+}
+static int meets_waiters(void) { return told(ADCMD_WAITCYCLE, DONE) > 0; }
+static int drops_memory(void) { return answer.map != 0 && remembered(&after) < remembered(&before); }
+static int remembers(void) { return remembered(&after) > remembered(&before); }
+static int tunes_front(void)
+{
+    for (unsigned c = 0; c < CHANNELS; c++)
+        for (unsigned at = 0; at < before.channel[c].writes.count; at++) {
+            unsigned id = before.channel[c].writes.id[at];
+
+            if (after.request[id].command == CMD_WRITE && after.request[id].period != before.request[id].period)
+                return 1;
+        }
+    return 0;
+}
+static int front_aborted(void)              /* the first of two writes, and somebody waits */
+{
+    return answer.last == 1 && cuts_waiters() && before.request[call.id].command == CMD_WRITE;
+}
+static int waiter_aborted(void) { return answer.last == 1 && before.request[call.id].command == ADCMD_WAITCYCLE; }
+static int waits(void) { return answer.outstanding; }
+static int waits_not(void) { return answer.error == DONE && !answer.outstanding; }
+static int own_cut(void) { return ended_itself(IOERR_ABORTED); }
 static int closed(void) { return answer.error == REFUSED_CLOSED && unchanged(); }
 static unsigned entries(const struct Arbiter *a, unsigned key)
 {
@@ -428,7 +559,21 @@ static const struct Wish wishes[] = {
     {"outstanding-ids", 2, {CMD_WRITE, ADCMD_ALLOCATE}, id_outstanding,
      "refused with 3: nothing is settled"},
     {"high-ids", 2, {CALL_ABORT, ADCMD_LOCK}, id_high, "refused with 4: nothing is settled"},
-    {"no-commands", 2, {12, 0xF4}, no_command, "refused with -3: nothing is settled"},
+    {"cuts-tell", 8, {CMD_RESET, CMD_FLUSH, ADCMD_FREE, ADCMD_FINISH, CALL_CLOSE, CALL_OPEN, ADCMD_ALLOCATE, CALL_ABORT}, cuts_waiters,
+     "a front write ends otherwise than by the event: who waits for its cycle is replied -2"},
+    {"cuts-by-age", 3, {CMD_FLUSH, ADCMD_FREE, ADCMD_FINISH}, cuts_two, "who waits is told by age, and not by channel"},
+    {"events-tell", 3, {CALL_EVENT}, meets_waiters, "the event answers who waits, then the write"},
+    {"events-forget", 2, {CALL_EVENT}, drops_memory, "what is remembered is dropped with the write"},
+    {"fronts-aborted", 2, {CALL_ABORT}, front_aborted, "ABORT of the front write: then who waits for it"},
+    {"waiters-aborted", 2, {CALL_ABORT}, waiter_aborted, "ABORT of a WAITCYCLE"},
+    {"later", 4, {ADCMD_FINISH, ADCMD_PERVOL}, remembers, "a synced FINISH or PERVOL is remembered"},
+    {"tuned", 3, {ADCMD_PERVOL}, tunes_front, "PERVOL replaces the numbers of the front write"},
+    {"cycles-awaited", 2, {ADCMD_WAITCYCLE}, waits, "WAITCYCLE is outstanding"},
+    {"cycles-done", 2, {ADCMD_WAITCYCLE}, waits_not, "WAITCYCLE is done at once"},
+    {"walk-cuts-its-own", 2, {ADCMD_WAITCYCLE}, own_cut,
+     "WAITCYCLE is answered as outstanding, and ended by a steal of its own call"},
+    {"bad-numbers", 4, {CMD_WRITE, ADCMD_PERVOL}, bad_length, "refused with -4 for its numbers: nothing is settled"},
+    {"no-commands", 2, {15, 0xF4}, no_command, "refused with -3: nothing is settled"},
     {"bad-lengths", 2, {ADCMD_ALLOCATE, CALL_OPEN}, bad_length,
      "refused with -4: nothing is settled"},
     {"bad-addresses", 4, {ADCMD_ALLOCATE, CALL_OPEN, CMD_STOP, CALL_EVENT}, bad_address,
@@ -501,7 +646,30 @@ static unsigned shifted(int precedence)     /* the machine stores precedence + 1
     return (unsigned)(precedence + 128);
 }
 
-static void put_channel(const struct Channel *channel)
+/* The writes, front first; what is remembered stands with the front one. */
+static void put_writes(const struct Arbiter *a, const struct Channel *channel)
+{
+    if (channel->writes.count == 0) {
+        printf("[]");
+        return;
+    }
+    putchar('(');
+    for (unsigned at = 0; at < channel->writes.count; at++) {
+        static const struct Request none;
+        unsigned id = channel->writes.id[at];
+        const struct Request *q = id < REQUESTS ? &a->request[id] : &none;
+        int finish = at == 0 && channel->finish, pervol = at == 0 && channel->pervol;
+
+        printf("%s %u %u %u %u ", finish ? pervol ? "both" : "cuts" : pervol ? "tunes" : "plays", id,
+               q->cycles, (unsigned)q->period, q->volume);
+        if (pervol)
+            printf("%u %u ", (unsigned)channel->period, channel->volume);
+        printf("∷ ");
+    }
+    printf("[])");
+}
+
+static void put_channel(const struct Arbiter *a, const struct Channel *channel)
 {
     if (channel->key == 0 && channel->precedence == 0 && !channel->locked
         && !channel->stopped && channel->writes.count == 0) {
@@ -510,14 +678,14 @@ static void put_channel(const struct Channel *channel)
     }
     printf("chan %u %u %s %s ", channel->key, shifted(channel->precedence),
            truth(channel->locked), truth(channel->stopped));
-    put_numbers(channel->writes.id, channel->writes.count);
+    put_writes(a, channel);
 }
 
 static void put_state(const struct Arbiter *a)
 {
     printf("(stands (");
     for (unsigned c = 0; c < CHANNELS; c++) {
-        put_channel(&a->channel[c]);
+        put_channel(a, &a->channel[c]);
         printf(" ∷ ");
     }
     printf("[])\n    (");
@@ -525,6 +693,12 @@ static void put_state(const struct Arbiter *a)
         const struct Request *q = &a->request[a->locks.id[at]];
 
         printf("lock %u %u %u ∷ ", a->locks.id[at], q->key, q->map);
+    }
+    printf("[])\n    (");
+    for (unsigned at = 0; at < a->cycles.count; at++) {
+        const struct Request *q = &a->request[a->cycles.id[at]];
+
+        printf("lock %u %u %u ∷ ", a->cycles.id[at], q->key, q->map);
     }
     printf("[])\n    (");
     for (unsigned at = 0; at < a->waiting.count; at++) {
@@ -575,7 +749,7 @@ static void put_remark(void)
 {
     static const char *const command[] = {
         "", "RESET", "READ", "WRITE", "UPDATE", "CLEAR", "STOP", "START", "FLUSH", "FREE",
-        "SETPREC"
+        "SETPREC", "FINISH", "PERVOL", "LOCK", "WAITCYCLE"
     };
     static const char *const other[4] = {"OPEN", "CLOSE", "ABORT", "event"};
     unsigned n = call.operation;
@@ -583,10 +757,10 @@ static void put_remark(void)
     printf("    -- ");
     if (n >= CALL_OPEN && n <= CALL_EVENT)
         printf("%s", other[n - CALL_OPEN]);
-    else if (n >= CMD_RESET && n <= ADCMD_SETPREC)
+    else if (n >= CMD_RESET && n <= ADCMD_WAITCYCLE)
         printf("%s", command[n]);
-    else if (n == ADCMD_LOCK || n == ADCMD_ALLOCATE)
-        printf("%s", n == ADCMD_LOCK ? "LOCK" : "ALLOCATE");
+    else if (n == ADCMD_ALLOCATE)
+        printf("ALLOCATE");
     else
         printf("command %02X", n);
     printf(": %s, error %d, replies %u\n", answer.outstanding ? "outstanding" : "done",

@@ -24,7 +24,7 @@ use Rattle.machine.specs.State.{OPEN, CLOSE, ABORT, EVENT, COMMAND, free}
 use Rattle.machine.specs.Text.{bytes, page}
 use Rattle.machine.specs.Log.{log}
 use Rattle.machine.specs.Drawn.{Talk, given, written}
-use Rattle.machine.specs.Walks.{Vector, vector, Computes, chan, lock, wait, stands, asks, reply, says, gets}
+use Rattle.machine.specs.Walks.{Vector, vector, Computes, plays, cuts, tunes, both, chan, lock, wait, stands, asks, reply, says, gets}
 use Rattle.machine.specs.Machine.{machine}
 
 abbrev pub Answers : Talk → Type 0
@@ -51,6 +51,8 @@ log of-lists 11 lists
 log of-bytes 12 bytes
 log of-ties 14 ties
 log of-opens 15 opens
+log of-cuts 16 cuts
+log of-cuts-again 17 cuts
 
 printf '\n%s\n' '-- ---- Calls on a board of four channels'
 ./vectors calls 1 || exit 1

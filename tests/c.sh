@@ -55,9 +55,16 @@ tried() {
     [ ! -x "$made" ] || check "$1" gives "$2" "$made" "$4"
 }
 
-# quoted LANGUAGE: the page's lines that stand between fences of this language.
+# quoted LANGUAGE NUMBER: the page's lines that stand between the fences of this language with this number, from 1.
 quoted() {
-    awk -v fence='```'"$1" '$0 == fence { on = 1; next } /^```/ { on = 0 } on' docs/desk.md
+    awk -v fence='```'"$1" -v number="$2" '$0 == fence { on = ++seen == number; next } /^```/ { on = 0 } on' docs/desk.md
+}
+
+# page NAME SOURCE EXPECTED: the page's first source, which each of its desks begins with, then this one.
+page() {
+    { quoted c 1; quoted c "$2"; } >"$work/page$2.c"
+    quoted text "$3" >"$work/page$2.out"
+    tried "$1" "$work/page$2.out" "$work/page$2.c" /dev/null
 }
 
 if ! library_ready; then
@@ -70,9 +77,8 @@ elif linker_ready; then
     tried "the example desk on eight channels" examples/eight.out examples/eight.c /dev/null
     tried "the example desk that wants stereo" examples/stereo.out examples/stereo.c /dev/null
     tried "a log byte by byte through the service port" second/sample.out examples/port.c second/sample.log
-    quoted c >"$work/page.c"
-    quoted text >"$work/page.out"
-    tried "the desk of docs/desk.md" "$work/page.out" "$work/page.c" /dev/null
+    page "the desk of docs/desk.md" 2 1
+    page "the desk of docs/desk.md that cuts a message" 3 2
 else
     leave "the library from C: it is for x86-64, and no $linker or no emulator is here, and none could be installed"
 fi

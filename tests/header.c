@@ -14,19 +14,29 @@ static void same(const char *name, size_t header, size_t library)
     }
 }
 
-/* What the comments say of a state's bytes: channel 2 with key 258 and precedence 5, locked, stopped, with a write. */
+/* What the comments say of a state's bytes: channel 2 with key 258 and precedence 5, locked, stopped, with a write of two cycles,
+ * period 300 and volume 50, and a request that waits for a cycle's end. */
 static void places(void)
 {
     static uint8_t state[QAMHUDEER_STATE_SIZE], table[QAMHUDEER_TABLE_SIZE], replies[QAMHUDEER_REPLIES_SIZE], answer[QAMHUDEER_ANSWER_SIZE];
     static const uint8_t combos[1] = {4};
+    uint8_t numbers[QAMHUDEER_NUMBERS_SIZE] = {0};
     const uint8_t *c = state + 2 * QAMHUDEER_CHANNEL_SIZE;
 #define CALL(op, id, map, prec, key, combos, n)                                                                                  \
     qamhudeer_call(op, id, 0, map, prec, key, combos, n, state, sizeof state, table, sizeof table, replies, sizeof replies, answer, sizeof answer)
     same("fresh", 0, qamhudeer_fresh(4, state, sizeof state, table, sizeof table));
     CALL(QAMHUDEER_OPEN, 0, 0, 0, 258, combos, 0);
     CALL(ADCMD_ALLOCATE, 1, 0, 5, 258, combos, 1);
+    numbers[QAMHUDEER_NUMBERS_CYCLES + 1] = 2;
+    numbers[QAMHUDEER_NUMBERS_PERIOD + 1] = 300 / 256;
+    numbers[QAMHUDEER_NUMBERS_PERIOD + 2] = 300 % 256;
+    numbers[QAMHUDEER_NUMBERS_VOLUME] = 65;
+    CALL(CMD_WRITE, 3, 4, 0, 258, numbers, sizeof numbers);
+    same("too loud", 256 + IOERR_BADLENGTH, answer[QAMHUDEER_ANSWER_ERROR]);
+    numbers[QAMHUDEER_NUMBERS_VOLUME] = 50;
+    CALL(CMD_WRITE, 3, 4, 0, 258, numbers, sizeof numbers);
+    CALL(ADCMD_WAITCYCLE, 7, 4, 0, 258, combos, 0);
     CALL(CMD_STOP, 2, 4, 0, 258, combos, 0);
-    CALL(CMD_WRITE, 3, 4, 0, 258, combos, 0);
     CALL(ADCMD_LOCK, 9, 4, 0, 258, combos, 0);
     CALL(ADCMD_ALLOCATE, 11, 0, 0, 0, combos, 1);
     CALL(QAMHUDEER_OPEN, 0, 0, 0, 0, combos, 0);
@@ -38,6 +48,8 @@ static void places(void)
     same("front write", 3, c[QAMHUDEER_CHANNEL_WRITES + 1]);
     same("locks", 1, state[QAMHUDEER_OFFSET_OF_LOCKS]);
     same("oldest lock", 9, state[QAMHUDEER_OFFSET_OF_LOCKS + 1]);
+    same("waiters", 1, state[QAMHUDEER_OFFSET_OF_WAITERS]);
+    same("oldest waiter", 7, state[QAMHUDEER_OFFSET_OF_WAITERS + 1]);
     same("waiting", 1, state[QAMHUDEER_OFFSET_OF_WAITING]);
     same("first waiting", 11, state[QAMHUDEER_OFFSET_OF_WAITING + 1]);
     same("open keys", 2, state[QAMHUDEER_OFFSET_OF_OPENS]);
@@ -152,6 +164,7 @@ int main(void)
     same("port", QAMHUDEER_PORT_SIZE, qamhudeer_port_size());
     same("room", QAMHUDEER_ROOM_SIZE, qamhudeer_room_size());
     same("locks", QAMHUDEER_OFFSET_OF_LOCKS, qamhudeer_offset_of_locks());
+    same("waiters", QAMHUDEER_OFFSET_OF_WAITERS, qamhudeer_offset_of_waiters());
     same("waiting", QAMHUDEER_OFFSET_OF_WAITING, qamhudeer_offset_of_waiting());
     same("opens", QAMHUDEER_OFFSET_OF_OPENS, qamhudeer_offset_of_opens());
     same("last", QAMHUDEER_OFFSET_OF_LAST, qamhudeer_offset_of_last());

@@ -6,6 +6,7 @@
 #include <string.h>
 
 #define ENTRY 23u                           /* bytes of a table's entry */
+#define NUMBERS 12u                         /* bytes of a write's numbers */
 
 int8_t twos(uint8_t b)
 {
@@ -40,6 +41,19 @@ static void put_queue(uint8_t *b, const struct Ids *q)
     memcpy(b + 1, q->id, REQUESTS);
 }
 
+static uint32_t period_at(const uint8_t *b)
+{
+    return 65536u * b[0] + 256u * b[1] + b[2];
+}
+
+static void put_period(uint8_t *b, uint32_t period)
+{
+    b[0] = (uint8_t)(period >> 16);
+    b[1] = (uint8_t)(period >> 8 & 255);
+    b[2] = (uint8_t)(period & 255);
+}
+
+/* A write has its numbers where an allocation has combinations: twelve bytes, of which the last six are what it remembers. */
 static void read_entry(struct Request *q, const uint8_t *b)
 {
     q->command = b[0];
@@ -48,6 +62,14 @@ static void read_entry(struct Request *q, const uint8_t *b)
     /* Only a waiting allocation has a precedence; in any other entry 0 means nothing, and stands as 0. */
     q->precedence = b[0] == ADCMD_ALLOCATE ? plus_128(b[4]) : twos(b[4]);
     q->nowait = b[5];
+    if (b[0] == CMD_WRITE) {
+        q->length = (uint8_t)(b[6] - NUMBERS);
+        q->cycles = key_at(b + 7);
+        q->period = period_at(b + 9);
+        q->volume = b[12];
+        memcpy(q->combination, b + 7 + NUMBERS, COMBINATIONS - NUMBERS);
+        return;
+    }
     q->length = b[6];
     memcpy(q->combination, b + 7, COMBINATIONS);
 }
@@ -59,8 +81,63 @@ static void put_entry(uint8_t *b, const struct Request *q)
     b[3] = q->map;
     b[4] = (uint8_t)(q->command == ADCMD_ALLOCATE ? q->precedence + 128 : q->precedence);
     b[5] = q->nowait;
+    if (q->command == CMD_WRITE) {
+        memset(b + 7, 0, COMBINATIONS);
+        b[6] = NUMBERS;
+        put_key(b + 7, q->cycles);
+        put_period(b + 9, q->period);
+        b[12] = q->volume;
+        return;
+    }
     b[6] = q->length;
     memcpy(b + 7, q->combination, COMBINATIONS);
+}
+
+/* What is remembered stands in the front write's entry, and nothing in the entry of any other write. */
+static int memory_fits(const struct Arbiter *a, const uint8_t *table)
+{
+    static const uint8_t none[6];
+
+    for (unsigned id = 0; id < REQUESTS; id++) {
+        int front = 0;
+
+        for (unsigned c = 0; c < MOST_CHANNELS; c++)
+            front = front || (a->channel[c].writes.count > 0 && a->channel[c].writes.id[0] == id);
+        if (table[id * ENTRY] == CMD_WRITE && !front && memcmp(table + id * ENTRY + 13, none, sizeof none) != 0)
+            return 0;
+    }
+    return 1;
+}
+
+static void read_memory(struct Arbiter *a, const uint8_t *table)
+{
+    for (unsigned c = 0; c < MOST_CHANNELS; c++) {
+        struct Channel *channel = &a->channel[c];
+        unsigned id = channel->writes.id[0];
+        const uint8_t *b = table + id * ENTRY + 13;
+
+        if (channel->writes.count == 0 || id >= REQUESTS || table[id * ENTRY] != CMD_WRITE)
+            continue;
+        channel->finish = b[0];
+        channel->pervol = b[1];
+        channel->period = period_at(b + 2);
+        channel->volume = b[5];
+    }
+}
+
+static void put_memory(uint8_t *table, const struct Arbiter *a)
+{
+    for (unsigned c = 0; c < MOST_CHANNELS; c++) {
+        const struct Channel *channel = &a->channel[c];
+        uint8_t *b = table + channel->writes.id[0] * ENTRY + 13;
+
+        if (channel->writes.count == 0)
+            continue;
+        b[0] = channel->finish;
+        b[1] = channel->pervol;
+        put_period(b + 2, channel->period);
+        b[5] = channel->volume;
+    }
 }
 
 void read_all(struct Arbiter *a, const uint8_t *state, const uint8_t *table)
@@ -76,6 +153,7 @@ void read_all(struct Arbiter *a, const uint8_t *state, const uint8_t *table)
         read_queue(&a->channel[c].writes, b + QAMHUDEER_CHANNEL_WRITES);
     }
     read_queue(&a->locks, state + QAMHUDEER_OFFSET_OF_LOCKS);
+    read_queue(&a->cycles, state + QAMHUDEER_OFFSET_OF_WAITERS);
     read_queue(&a->waiting, state + QAMHUDEER_OFFSET_OF_WAITING);
     a->channels = state[QAMHUDEER_OFFSET_OF_CHANNELS];
     a->open.count = state[QAMHUDEER_OFFSET_OF_OPENS];
@@ -84,6 +162,7 @@ void read_all(struct Arbiter *a, const uint8_t *state, const uint8_t *table)
     a->last_key = key_at(state + QAMHUDEER_OFFSET_OF_LAST);
     for (unsigned id = 0; id < REQUESTS; id++)
         read_entry(&a->request[id], table + id * ENTRY);
+    read_memory(a, table);
 }
 
 void put_all(uint8_t *state, uint8_t *table, const struct Arbiter *a)
@@ -98,6 +177,7 @@ void put_all(uint8_t *state, uint8_t *table, const struct Arbiter *a)
         put_queue(b + QAMHUDEER_CHANNEL_WRITES, &a->channel[c].writes);
     }
     put_queue(state + QAMHUDEER_OFFSET_OF_LOCKS, &a->locks);
+    put_queue(state + QAMHUDEER_OFFSET_OF_WAITERS, &a->cycles);
     put_queue(state + QAMHUDEER_OFFSET_OF_WAITING, &a->waiting);
     state[QAMHUDEER_OFFSET_OF_CHANNELS] = a->channels;
     state[QAMHUDEER_OFFSET_OF_OPENS] = a->open.count;
@@ -106,6 +186,7 @@ void put_all(uint8_t *state, uint8_t *table, const struct Arbiter *a)
     put_key(state + QAMHUDEER_OFFSET_OF_LAST, a->last_key);
     for (unsigned id = 0; id < REQUESTS; id++)
         put_entry(table + id * ENTRY, &a->request[id]);
+    put_memory(table, a);
 }
 
 int decodes(const struct Bytes *state)
@@ -126,7 +207,7 @@ int is_sound(const struct Bytes *state, const struct Bytes *table, struct Arbite
     if (state->length != QAMHUDEER_STATE_SIZE || table->length != QAMHUDEER_TABLE_SIZE)
         return 0;
     read_all(a, state->byte, table->byte);
-    return arbiter_sound(a);
+    return memory_fits(a, table->byte) && arbiter_sound(a);
 }
 
 /* ---- Damage */
@@ -134,11 +215,12 @@ int is_sound(const struct Bytes *state, const struct Bytes *table, struct Arbite
 /* One of the queues of the board. */
 static uint8_t *any_queue(uint8_t *state, unsigned board)
 {
-    unsigned q = below(board + 2);
+    static const unsigned other[3] = {QAMHUDEER_OFFSET_OF_LOCKS, QAMHUDEER_OFFSET_OF_WAITERS, QAMHUDEER_OFFSET_OF_WAITING};
+    unsigned q = below(board + 3);
 
     if (q < board)
         return state + q * QAMHUDEER_CHANNEL_SIZE + QAMHUDEER_CHANNEL_WRITES;
-    return state + (q == board ? QAMHUDEER_OFFSET_OF_LOCKS : QAMHUDEER_OFFSET_OF_WAITING);
+    return state + other[q - board];
 }
 
 /* The entry of a request that is outstanding, from a random one on; any if there is none. */
@@ -208,6 +290,14 @@ static void come_round(uint8_t *state, uint8_t *table, unsigned board)
     put_all(state, table, &a);
 }
 
+/* A remembered PERVOL: one more, another, or none; at times out of range. */
+static void set_pervol(uint8_t *b, unsigned value)
+{
+    b[0] = (uint8_t)(value % 4 != 0);
+    put_period(b + 1, value % 4 == 0 ? 0 : value % 16 == 1 ? 123 : value % 16 == 2 ? 65537 : 124 + below(65413));
+    b[4] = (uint8_t)(value % 4 == 0 ? 0 : value % 16 == 3 ? 65 : below(65));
+}
+
 /* Numbers that a good state may have at any time, in places no log puts them: sound, but not settled. */
 static void unsettle(uint8_t *state, uint8_t *table, unsigned board)
 {
@@ -229,6 +319,12 @@ static void unsettle(uint8_t *state, uint8_t *table, unsigned board)
         come_round(state, table, board);
     else if (odds == 6)
         put_key(state + QAMHUDEER_OFFSET_OF_LAST, (uint16_t)(value < 128 ? 65535 - value % 4 : value % 8));
+    else if (entry[0] == CMD_WRITE && value < 80)
+        entry[13] ^= 1;                                     /* FINISH remembered, or not */
+    else if (entry[0] == CMD_WRITE && value < 160)
+        set_pervol(entry + 14, value);
+    else if (entry[0] == CMD_WRITE)
+        entry[7 + value % 6] = (uint8_t)below(256);         /* one of its numbers */
     else if (entry[0] == ADCMD_ALLOCATE && value < 128)
         entry[5] ^= 1;
     else if (entry[0] == ADCMD_ALLOCATE && entry[6] > 0)

@@ -1,7 +1,10 @@
-// ABORT: a write or a waiting allocation is removed and replied -2; a lock or an idle id is left alone.
+// ABORT: a write, a WAITCYCLE or a waiting allocation is removed and replied -2; a lock or an idle id is left alone. Where the write
+// was in front, those who wait for its cycle follow it.
 // The id's entry tells which it is. Assumes nothing.
 use answers::Outcome;
 use answers::Request;
+use fates::End;
+use fronts::Front;
 use reply::Reply;
 use store::State;
 ghost use mathlib.Core.Path.{_≡_};
@@ -18,7 +21,7 @@ ghost use Rattle.aborting.specs.Aborting.{cancels as cancelsM};
 fn cancels(command: u8) -> bool
     ensures { λ b. ⌜ b ≡ cancelsM command ⌝ }
 {
-    command == 3 || command == 32
+    command == 3 || command == 14 || command == 32
 }
 
 // Removed, and replied -2 with the command and the key that its entry has.
@@ -27,6 +30,8 @@ fn cancel(r: Request, s: State, table: &mut [u8], replies: &mut [u8], command: u
     ensures { λ d. ⌜ Does (doAbort (callOf r [])) s (now (table .entry)) (now (replies .entry)) d (now (table .exit)) (now (replies .exit)) ⌝ }
 {
     let key = table::key(table, r.id);
+    let cs = s.channels;
+    let m = fronts::which(cs, Front::Leads(r.id), State::TOP);
     let n = reply::put(
         replies,
         0,
@@ -39,12 +44,16 @@ fn cancel(r: Request, s: State, table: &mut [u8], replies: &mut [u8], command: u
         },
     );
     table::clear(table, r.id);
-    let t = leaving::leave(s, r.id);
+    let mut t = leaving::leave(s, r.id);
+    let q = t.waiters;
+    let f = locks::sift(q, table, replies, n, m, End::Cut);
+    let left = f.left;
+    t.waiters = left;
     let a = answers::done(0, 0, r.key, 1);
     Outcome {
         answer: a,
         state: t,
-        n,
+        n: f.n,
     }
 }
 

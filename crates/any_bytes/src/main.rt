@@ -5,7 +5,8 @@
 //   N n                   a fresh device of n channels; 0, or left out, is four
 //   B id k b              byte k of the id's entry in the table; id 64 stands behind the 64 that are lent
 //   C i key prec l s      the numbers of channel i: key (two bytes), precedence, lock mark, stop mark
-//   W i n k id            the writes of channel i (the locks at 8, the waiting requests at 9): their count, and the id at place k
+//   W i n k id            the writes of channel i (the locks at 8, the WAITCYCLEs at 9, the waiting requests at 10): their count,
+//                         and the id at place k
 //   O n k key             the open keys: their count, and the key at place k (two bytes)
 //   T n, R n              how many bytes of the table and of the reply list are lent (three bytes)
 //   Z n                   so many combinations 0, in the place of the frame's (three bytes)

@@ -18,8 +18,8 @@ pub fn bytes(a: &[u8], b: &[u8], from: usize) -> bool {
 
 // Two boards are the same where their bytes are.
 pub fn states(s: Board, t: Board) -> bool {
-    let mut a = [0u8; 758];
-    let mut b = [0u8; 758];
+    let mut a = [0u8; 823];
+    let mut b = [0u8; 823];
     saving::save(s, &mut a);
     saving::save(t, &mut b);
     bytes(&a, &b, 0)

@@ -231,17 +231,21 @@ impl Scene {
         if i < 8 { cs[i] } else { Channel::unused() }
     }
 
-    // The writes of a channel, the locks at place 8, the waiting requests at any other.
+    // The writes of a channel, the locks at place 8, the WAITCYCLEs at 9, the waiting requests at any other.
     fn queue(self, place: usize) -> Queue {
         let s = self.state();
         let c = self.channel(place);
         let writes = c.writes;
         let locks = s.locks;
+        let waiters = s.waiters;
         let waiting = s.waiting;
         if place < 8 {
             return writes;
         }
-        if place == 8 { locks } else { waiting }
+        if place == 8 {
+            return locks;
+        }
+        if place == 9 { waiters } else { waiting }
     }
 
     fn with_queue(self, place: usize, q: Queue) -> Self {
@@ -252,7 +256,11 @@ impl Scene {
         let mut s = self.state();
         if place == 8 {
             s.locks = q;
-        } else {
+        }
+        if place == 9 {
+            s.waiters = q;
+        }
+        if place > 9 {
             s.waiting = q;
         }
         self.with_state(s)

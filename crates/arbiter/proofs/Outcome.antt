@@ -1,11 +1,11 @@
 -- What the promise of a call comes to: no second outcome fits it, what is refused moves nothing, and a sound state is followed
 -- by a sound state. Assumes nothing.
-use Prim.Native.Nat.{ℕ, _+_, _≤_}
+use Prim.Native.Nat.{ℕ, _+_, _≤_, _<_}
 use mathlib.Core.Path.{_≡_, refl, ap, sym, subst, _∙_}
 use mathlib.Core.Bool.{Bool, true, false}
 use mathlib.Core.List.{List, []}
 use lib.Dec.{T, leb, le→leb}
-use lib.ListN.{length}
+use lib.ListN.{length, getD}
 use Rattle.memory.proofs.Splice.{splice-none}
 use Rattle.machine.specs.Numbers.{UNSOUND}
 use Rattle.machine.specs.Lists.{any, among}
@@ -15,7 +15,7 @@ use Rattle.machine.specs.Call.{call, inRange}
 use Rattle.machine.proofs.Tests.{and-both}
 use Rattle.machine_laws.proofs.Sound.{parts}
 use Rattle.machine_laws.proofs.Refusals.{refusals, mute, heard, ownReply, refused-same, refused-mute, refused-heard}
-use Rattle.machine_laws.proofs.KeepingCalls.{call-sound}
+use Rattle.machine_laws.proofs.KeepingCalls.{Counted, call-sound}
 use Rattle.machine_laws.proofs.Board.{call-wide}
 use Rattle.reply.specs.Replies.{sent}
 use Rattle.store.specs.Store.{tableOf}
@@ -31,6 +31,7 @@ use Rattle.refusals.specs.declared.Op.{Op}
 use Rattle.refusals.specs.Refusals.{opIn, askedOf}
 use Rattle.arbiter.specs.Arbiter.{Unmoved, Handled, Called}
 use Rattle.refusing.proofs.Laws.{false-true}
+use Rattle.deciding.proofs.Laws.{bytes-cycles}
 
 -- the same answer, board, count, table and list
 pub record Same (d d₂ : Outcome) (tb tb₂ l l₂ : List ℕ) : Type 0 where
@@ -119,14 +120,15 @@ module _ {o : Op} {r : Request} {b : Board} {ms tb l : List ℕ} where
 
 -- a sound state is followed by a sound state: the one that the machine names
 pub held-after : (o : Op) (r : Request) (ms l : List ℕ) {b : Board} {tb : List ℕ} {d : Outcome} {tb₁ l₁ : List ℕ} → Held b tb
-    → (r .prec ≤ 255) × (r .key ≤ 65535) → Told (call (stateIn b tb) (askedOf o r ms (length l))) l d tb₁ l₁
+    → (r .prec ≤ 255) × (r .key ≤ 65535) → Counted (opIn o (r .command)) (askedOf o r ms (length l)) → Told (call (stateIn b tb) (askedOf o r ms (length l))) l d tb₁ l₁
     → Held (d .state) tb₁ × (stateIn (d .state) tb₁ ≡ call (stateIn b tb) (askedOf o r ms (length l)) .next)
 unfolding inRange
-held-after o r ms l {b} {tb} {d} {tb₁} h g t =
+held-after o r ms l {b} {tb} {d} {tb₁} h g y t =
     let c = askedOf o r ms (length l) in
-    let p = call-sound (stateIn b tb) c (and-both (leb (r .prec) 255) (leb (r .key) 65535) (le→leb (r .prec) 255 (g .0)) (le→leb (r .key) 65535 (g .1))) (h .sane) in
+    let p = call-sound (stateIn b tb) c (and-both (leb (r .prec) 255) (leb (r .key) 65535) (le→leb (r .prec) 255 (g .0)) (le→leb (r .key) 65535 (g .1))) y (h .sane) in
     held-next (call (stateIn b tb) c .next) (d .state) tb₁ (parts _ p) (subst (λ (n : ℕ). T (sized n)) (sym (call-wide (stateIn b tb) c)) (h .size)) (t .did .struct) (t .did .table)
 
 pub handled : (o : Op) (r : Request) (ms l : List ℕ) {b : Board} {tb : List ℕ} {d : Outcome} {tb₁ l₁ : List ℕ} → Held b tb
-    → (r .prec ≤ 255) × (r .key ≤ 65535) → Told (call (stateIn b tb) (askedOf o r ms (length l))) l d tb₁ l₁ → Handled o r b ms tb l d tb₁ l₁
-handled o r ms l h g t = let k = held-after o r ms l h g t in record { told = t; kept = k .0; next = k .1 }
+    → (r .prec ≤ 255) × (r .key ≤ 65535) → ((i : ℕ) → getD ms i 0 < 256) → Told (call (stateIn b tb) (askedOf o r ms (length l))) l d tb₁ l₁
+    → Handled o r b ms tb l d tb₁ l₁
+handled o r ms l h g y t = let k = held-after o r ms l h g (λ _. bytes-cycles ms y) t in record { told = t; kept = k .0; next = k .1 }

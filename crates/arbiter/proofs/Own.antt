@@ -1,12 +1,12 @@
 -- From eight channels to the board's own: what is decided by the board's refusal, done on eight channels, is the machine's call on
 -- the board's own (crate `widening`). Assumes nothing.
-use Prim.Native.Nat.{ℕ, zero, suc, _-_, _≤_}
+use Prim.Native.Nat.{ℕ, zero, suc, _-_, _≤_, _<_}
 use mathlib.Core.Path.{_≡_, ap, sym, subst, _∙_}
 use mathlib.Core.Bool.{Bool, false}
 use mathlib.Core.List.{List}
 use native.Mathlib.Omega.{arith}
 use lib.Dec.{T, leb, le→leb, leb→le}
-use lib.ListN.{length}
+use lib.ListN.{length, getD}
 use Rattle.machine.specs.State.{State as StateM, Call}
 use Rattle.machine.specs.Refusals.{Refusal, accepted, refusal}
 use Rattle.machine.specs.Call.{answering, call, inRange}
@@ -57,11 +57,12 @@ module _ (l : List ℕ) {o : Op} {r : Request} {b : Board} {ms tb : List ℕ} {e
       go zero q = sym (zero-accepted (opIn o (r .command)) (askedOf o r ms (length l)) (stateIn b tb) q)
       go (suc x) q = sym (number-refused (refusal (opIn o (r .command)) (askedOf o r ms (length l)) (stateIn b tb)) (suc x) q (λ z. omega arith))
 
-  pub may-decide : Decided o e r (b .state) ms tb l
-  may-decide =
+  pub may-decide : ((i : ℕ) → getD ms i 0 < 256) → Decided o e r (b .state) ms tb l
+  may-decide y =
       record {
         held = held-wide h .0;
         range = g;
+        bytes = y;
         room =
             λ f. let z = late-room (opIn o (r .command)) c₀ u₀ e (number-refused (refusal (opIn o (r .command)) c₀ u₀) e (w .number) (λ q. omega arith)) f in
             omega arith;

@@ -18,9 +18,8 @@ use Rattle.machine.specs.Refusals.{accepted, refusal}
 use Rattle.machine_laws.proofs.Sound.{Parts, parts, unparts}
 use Rattle.channel.specs.declared.Channel.{Channel}
 use Rattle.channel.specs.Channel.{channelOf, channelIn}
-use Rattle.channel.proofs.Laws.{channelsIn-of}
 use Rattle.store.specs.declared.State.{State}
-use Rattle.store.specs.Store.{structOf as wideOf, stateIn as wideIn, tableOf, items, writeItems, Held as WideHeld}
+use Rattle.store.specs.Store.{structOf as wideOf, stateIn as wideIn, writeIn, tableOf, items, writeItems, Held as WideHeld}
 use Rattle.open_keys.specs.OpenKeys.{keysIn}
 use Rattle.store.proofs.Store.{stateIn-of as wideIn-of, held-next as wide-next, held-parts as wide-parts, opens-count, length-tableOf, parts-long}
 use Rattle.widening.specs.Widening.{wider, widen}
@@ -87,8 +86,8 @@ module _ (s : StateM) (p : Parts s) where
       let k = 8 - length (s .channels) in
       let e : wideIn (wideOf (widen k s)) (tableOf s) ≡ widen k s =
       subst (λ (tb : List ℕ). wideIn (wideOf (widen k s)) tb ≡ widen k s) (table-wide k s) (wideIn-of (widen k s) own-wide) in
-      let c : take (length (s .channels)) (map channelIn (map channelOf (wider k (s .channels)))) ≡ s .channels =
-      ap (take (length (s .channels))) (channelsIn-of (wider k (s .channels))) ∙ take-at (s .channels) (frees k) (length (s .channels)) refl in
+      let c : take (length (s .channels)) (map (channelIn (writeIn (tableOf s))) (map channelOf (wider k (s .channels)))) ≡ s .channels =
+      ap (λ (x : StateM). take (length (s .channels)) (x .channels)) e ∙ take-at (s .channels) (frees k) (length (s .channels)) refl in
       ap₂ withChannels c e
 
   pub held-of : T (sized (length (s .channels))) → Held (structOf s) (tableOf s)
@@ -144,27 +143,27 @@ module _ {b : Board} {tb : List ℕ} (h : Held b tb) where
   held-length = ap length (h .table) ∙ length-tableOf (stateIn b tb) (parts-long (stateIn b tb) (held-parts h))
 
   -- the channels behind the board's own are free
-  pub held-spare : drop (b .width) (map channelIn (b .state .channels)) ≡ frees (8 - b .width)
+  pub held-spare : drop (b .width) (map (channelIn (writeIn tb)) (b .state .channels)) ≡ frees (8 - b .width)
   held-spare =
       let u = stateIn b tb in
       let e = ap (λ (x : StateM). x .channels) (held-wide .1) in
       ap (drop (b .width)) e ∙ (drop-at (u .channels) (frees (8 - length (u .channels))) (b .width) (sym held-width) ∙ ap (λ (n : ℕ). frees (8 - n)) (sym held-width))
 
 -- and the other way: a state of eight channels, of which those behind the board's own are free and waited for by nobody
-module _ (w : ℕ) (st : State) (tb : List ℕ) (t : T (sized w)) (h : WideHeld st tb) (free : drop w (map channelIn (st .channels)) ≡ frees (8 - w)) where
-  all-channels : map channelIn (st .channels) ≡ wider (8 - w) (take w (map channelIn (st .channels)))
-  all-channels = sym (take-append-drop w (map channelIn (st .channels))) ∙ ap (λ (l : List ChannelM). take w (map channelIn (st .channels)) ++ l) free
+module _ (w : ℕ) (st : State) (tb : List ℕ) (t : T (sized w)) (h : WideHeld st tb) (free : drop w (map (channelIn (writeIn tb)) (st .channels)) ≡ frees (8 - w)) where
+  all-channels : map (channelIn (writeIn tb)) (st .channels) ≡ wider (8 - w) (take w (map (channelIn (writeIn tb)) (st .channels)))
+  all-channels = sym (take-append-drop w (map (channelIn (writeIn tb)) (st .channels))) ∙ ap (λ (l : List ChannelM). take w (map (channelIn (writeIn tb)) (st .channels)) ++ l) free
 
-  pub own-length : length (take w (map channelIn (st .channels))) ≡ w
+  pub own-length : length (take w (map (channelIn (writeIn tb)) (st .channels))) ≡ w
   own-length =
       let n = sized-within w t in
-      let e = length-map (st .channels) channelIn ∙ h .eight in
+      let e = length-map (st .channels) (channelIn (writeIn tb)) ∙ h .eight in
       simp length-take (omega arith)
 
   as-wide : wideIn st tb ≡ widen (8 - w) (stateIn (record { width = w; state = st }) tb)
   as-wide = ap (λ (l : List ChannelM). withChannels l (wideIn st tb)) all-channels
 
-  pub held-own : T (all (soundRequest (take w (map channelIn (st .channels)))) (wideIn st tb .waiting)) → Held (record { width = w; state = st }) tb
+  pub held-own : T (all (soundRequest (take w (map (channelIn (writeIn tb)) (st .channels)))) (wideIn st tb .waiting)) → Held (record { width = w; state = st }) tb
   held-own r =
       let u = stateIn (record { width = w; state = st }) tb in
       let n = sized-within w t in

@@ -21,7 +21,7 @@ use Rattle.machine.specs.Sound.{sound}
 use Rattle.widening.specs.Widening.{widen}
 use Rattle.channel.specs.Channel.{channelIn}
 use Rattle.reply.specs.Replies.{sent}
-use Rattle.store.specs.Store.{structOf as wideOf, stateIn as wideIn, tableOf}
+use Rattle.store.specs.Store.{structOf as wideOf, stateIn as wideIn, writeIn, tableOf}
 use Rattle.answers.specs.Answers.{answerOf}
 use Rattle.board.specs.declared.Board.{Board}
 use Rattle.board.specs.declared.Outcome.{Outcome}
@@ -39,7 +39,7 @@ abbrev pub freshBoard : ℕ → Board
 freshBoard w = record { width = w; state = wideOf (freshOn 8) }
 
 abbrev pub stateIn : Board → List ℕ → StateM
-stateIn b tb = withChannels (take (b .width) (map channelIn (b .state .channels))) (wideIn (b .state) tb)
+stateIn b tb = withChannels (take (b .width) (map (channelIn (writeIn tb)) (b .state .channels))) (wideIn (b .state) tb)
 
 pub record Held (b : Board) (tb : List ℕ) : Type 0 where
   pub size : T (sized (length (stateIn b tb .channels)))

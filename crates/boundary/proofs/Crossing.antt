@@ -16,6 +16,7 @@ use Rattle.machine_laws.proofs.Sound.{parts}
 use Rattle.machine.proofs.Tests.{by-test}
 use Rattle.machine_laws.proofs.Refusals.{refusals}
 use Rattle.machine_laws.proofs.Replies.{call-replies}
+use Rattle.machine_laws.proofs.KeepingCalls.{Counted}
 use Rattle.store.specs.Store.{items, writeItems, lookup, entries, tableOf}
 use Rattle.board.specs.declared.Board.{Board}
 use Rattle.board.specs.declared.Outcome.{Outcome}
@@ -160,11 +161,12 @@ module _ {op : ℕ} {r : Request} {ms st tb l an : List ℕ} {n : ℕ} {st′ tb
     abbrev next : StateM
     next = call (stateIn (stateOf st) tb) (askedOf o₀ r ms (length l)) .next
 
-    pub sound-after : (r .prec ≤ 255) × (r .key ≤ 65535) → Whole st′ × Held (stateOf st′) tb′ × (stateIn (stateOf st′) tb′ ≡ next)
-    sound-after g =
+    pub sound-after : (r .prec ≤ 255) × (r .key ≤ 65535) → Counted (opIn o₀ (r .command)) (askedOf o₀ r ms (length l))
+        → Whole st′ × Held (stateOf st′) tb′ × (stateIn (stateOf st′) tb′ ≡ next)
+    sound-after g y =
         let k = c .carried h w in
         let d = k .outcome in
-        let a = held-after o₀ r ms l s g (k .called .sound s) in
+        let a = held-after o₀ r ms l s g y (k .called .sound s) in
         let e : d .state ≡ stateOf st′ = sym (ap stateOf (k .state .bytes) ∙ stateOf-imageOf (d .state) (k .state .sized)) in
         (k .state .whole, subst (λ (x : Board). Held x tb′) e (a .0), subst (λ (x : Board). stateIn x tb′ ≡ next) e (a .1))
 

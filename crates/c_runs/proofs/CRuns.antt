@@ -18,7 +18,7 @@ use Rattle.sizes.specs.Sizes.{ANSWER}
 use Rattle.handed.specs.Handed.{opFor, requestOf, answerBytes}
 use Rattle.boundary.specs.Boundary.{Carried, Crossed}
 use Rattle.two_runs.specs.TwoRuns.{Party, Start, said}
-use Rattle.code_runs.specs.CodeRuns.{Turn as TurnC, Took as TookC, Move as MoveC, ours as oursC, others as othersC, Chained as ChainedC, Keeps as KeepsC, Full as FullC, Run as RunC, ownCalls as ownCallsC, recordsTo, ownRecords, viewOf, Sight as SightC, told as toldC, got as gotC, has as hasC, sights as sightsC}
+use Rattle.code_runs.specs.CodeRuns.{Turn as TurnC, Took as TookC, Move as MoveC, ours as oursC, others as othersC, Chained as ChainedC, Keeps as KeepsC, Full as FullC, Run as RunC, ownCalls as ownCallsC, recordsTo, ownRecords, viewOf, storedOf, Sight as SightC, told as toldC, got as gotC, has as hasC, sights as sightsC}
 use Rattle.code_runs.proofs.CodeRuns.{K-sees-the-same-of-the-code, took-held}
 use Rattle.c_runs.specs.CRuns.{Turn, request, asked, Took, Move, ours, others, turn, Chained, Keeps, Full, Run, ownCalls, viewBytes, Sight, told, got, has, sights, Demand3·bytes}
 
@@ -37,6 +37,7 @@ module _ {st tb : List ℕ} {t : Turn} (w : Whole st) (h : Held (stateOf st) tb)
         called = k .crossed .carried (k .six) w .called;
         prec = (let y : (t .prec + 128) % 256 < 256 = mod-lt (t .prec + 128) (omega arith) in let z : (t .prec + 128) % 256 ≤ 255 = omega arith in z);
         key = k .key;
+        count = k .count;
       }
 
   next-state : turnC .outcome .state ≡ stateOf (t .state)
@@ -100,7 +101,7 @@ runC p st tb ms w h r =
 abbrev spelt : SightC → Sight
 spelt (toldC a) = told (answerBytes a)
 spelt (gotC b) = got b
-spelt (hasC cs) = has (map channelBytes cs)
+spelt (hasC cs bs) = has (map channelBytes cs) bs
 
 spelt-got : (bs : List (List ℕ)) → map spelt (map gotC bs) ≡ map got bs
 spelt-got [] = refl
@@ -112,27 +113,29 @@ others-step : (p : Party) (l : List ℕ) {n m : ℕ} → n ≡ m → {zs : List 
 others-step p l {m = m} e ys q =
     ap₂ _++_ (ap (λ (k : ℕ). map got (recordsTo p k l)) e ∙ sym (spelt-got (recordsTo p m l))) q ∙ sym (map-append spelt (map gotC (recordsTo p m l)) ys)
 
-ours-step : (p : Party) (l : List ℕ) {n m : ℕ} → n ≡ m → {an : List ℕ} (a : AnswerC) → an ≡ answerBytes a → (u : List ℕ) {x : Board} → x ≡ stateOf u
+ours-step : (p : Party) (l : List ℕ) {n m : ℕ} → n ≡ m → {an : List ℕ} (a : AnswerC) → an ≡ answerBytes a → (u v : List ℕ) {x : Board} → x ≡ stateOf u
     → {zs : List Sight} (ys : List SightC) → zs ≡ map spelt ys
-    → map got (recordsTo p n l) ++ told an ∷ has (viewBytes p u) ∷ zs ≡ map spelt (map gotC (recordsTo p m l) ++ toldC a ∷ hasC (viewOf p x) ∷ ys)
+    → map got (recordsTo p n l) ++ told an ∷ has (viewBytes p u) (storedOf p (stateOf u) v) ∷ zs
+    ≡ map spelt (map gotC (recordsTo p m l) ++ toldC a ∷ hasC (viewOf p x) (storedOf p x v) ∷ ys)
 unfolding viewBytes
-ours-step p l e a f u {x} g ys q =
-    others-step p l e (toldC a ∷ hasC (viewOf p x) ∷ ys) (ap₂ (λ (b : List ℕ) (c : List Sight). told b ∷ c) f (ap₂ (λ (x : Board) (c : List Sight). has (map channelBytes (viewOf p x)) ∷ c) (sym g) q))
+ours-step p l e a f u v {x} g ys q =
+    others-step p l e (toldC a ∷ hasC (viewOf p x) (storedOf p x v) ∷ ys)
+    (ap₂ (λ (b : List ℕ) (c : List Sight). told b ∷ c) f (ap₂ (λ (x : Board) (c : List Sight). has (map channelBytes (viewOf p x)) (storedOf p x v) ∷ c) (sym g) q))
 
 sights-spelt : (p : Party) (st tb : List ℕ) (ms : List Move) (w : Whole st) (h : Held (stateOf st) tb) (c : Chained st tb ms)
-    → sights p st ms ≡ map spelt (sightsC p (stateOf st) (movesC st tb ms w h c))
+    → sights p st tb ms ≡ map spelt (sightsC p (stateOf st) tb (movesC st tb ms w h c))
 unfolding sights sightsC movesC ownRecords
 sights-spelt p st tb [] w h c = unfold viewBytes in refl
 sights-spelt p st tb (ours t ∷ ms) w h c =
     let v = c .0 .crossed .carried (c .0 .six) w in
     let rest = movesC (t .state) (t .table) ms (next-whole w h (c .0)) (next-held w h (c .0)) (c .1) in
-    ours-step p (t .list) (v .count) (v .outcome .answer) (v .answer) (t .state) (next-state w h (c .0)) (sightsC p (v .outcome .state) rest)
-    (sights-spelt p (t .state) (t .table) ms (next-whole w h (c .0)) (next-held w h (c .0)) (c .1) ∙ ap (λ (x : Board). map spelt (sightsC p x rest)) (sym (next-state w h (c .0))))
+    ours-step p (t .list) (v .count) (v .outcome .answer) (v .answer) (t .state) (t .table) (next-state w h (c .0)) (sightsC p (v .outcome .state) (t .table) rest)
+    (sights-spelt p (t .state) (t .table) ms (next-whole w h (c .0)) (next-held w h (c .0)) (c .1) ∙ ap (λ (x : Board). map spelt (sightsC p x (t .table) rest)) (sym (next-state w h (c .0))))
 sights-spelt p st tb (others t ∷ ms) w h c =
     let v = c .0 .crossed .carried (c .0 .six) w in
     let rest = movesC (t .state) (t .table) ms (next-whole w h (c .0)) (next-held w h (c .0)) (c .1) in
-    others-step p (t .list) (v .count) (sightsC p (v .outcome .state) rest)
-    (sights-spelt p (t .state) (t .table) ms (next-whole w h (c .0)) (next-held w h (c .0)) (c .1) ∙ ap (λ (x : Board). map spelt (sightsC p x rest)) (sym (next-state w h (c .0))))
+    others-step p (t .list) (v .count) (sightsC p (v .outcome .state) (t .table) rest)
+    (sights-spelt p (t .state) (t .table) ms (next-whole w h (c .0)) (next-held w h (c .0)) (c .1) ∙ ap (λ (x : Board). map spelt (sightsC p x (t .table) rest)) (sym (next-state w h (c .0))))
 
 -- ---- the claim
 

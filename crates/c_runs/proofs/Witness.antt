@@ -15,7 +15,6 @@ use Rattle.machine.specs.Call.{call, inRange}
 use Rattle.machine.specs.Machine.{machine}
 use Rattle.machine.proofs.Tests.{and-left, and-right}
 use Rattle.machine_laws.proofs.Sound.{parts}
-use Rattle.machine_laws.proofs.KeepingCalls.{call-sound}
 use Rattle.reply.specs.Replies.{sent}
 use Rattle.store.specs.Store.{tableOf}
 use Rattle.board.specs.declared.Board.{Board}
@@ -28,10 +27,10 @@ use Rattle.refusals.specs.Refusals.{askedOf}
 use Rattle.arbiter.specs.Arbiter.{Called}
 use Rattle.sizes.specs.Sizes.{REPLIES}
 use Rattle.handed.specs.Handed.{opFor, requestOf, answerBytes}
-use Rattle.two_runs.specs.TwoRuns.{Party, Start, Step, our, their, Keeps as KeepsM, Run as RunM, calls, claim, own, said}
+use Rattle.two_runs.specs.TwoRuns.{Party, Start, Step, our, their, Keeps as KeepsM, Run as RunM, calls, claim, counted, inBytes, own, said}
 use Rattle.two_runs.proofs.Premises.{premises, runs-all, starts-all}
-use Rattle.code_runs.proofs.Made.{OnBoard, board-held, board-next, board-state, outcomeOf}
-use Rattle.code_runs.proofs.Witness.{party, start, board}
+use Rattle.code_runs.proofs.Made.{OnBoard, bytes-count, bytes-range, board-held, board-next, board-state, outcomeOf, sound-next}
+use Rattle.code_runs.proofs.Witness.{party, start, board, numbers}
 use Rattle.c_runs.specs.CRuns.{Turn, asked, request, Took, Move, ours, others, Chained, Keeps, Full, Run, ownCalls, sights}
 use Rattle.c_runs.proofs.CRuns.{K-sees-the-same-bytes}
 
@@ -107,7 +106,7 @@ module _ {s : StateM} (b : OnBoard s) where
   bytes-held : Held (stateOf (bytesOf s)) (tableOf s)
   bytes-held = rw bytes-state (board-held b)
 
-  module _ (a : Ask) (f : T (inRange (spelt a))) where
+  module _ (a : Ask) (f : T (inBytes (spelt a))) where
     made-told : Told (call s (spelt a)) records (outcomeOf (call s (spelt a))) (tableOf (call s (spelt a) .next)) (sent records 0 (call s (spelt a) .replies))
     made-told = record { answer = refl; did = record { struct = refl; table = refl; list = refl; count = sym (zero-add (length (call s (spelt a) .replies))) } }
 
@@ -128,39 +127,40 @@ module _ {s : StateM} (b : OnBoard s) where
                   outcome = outcomeOf o;
                   called = rw bytes-state made-called;
                   count = refl;
-                  state = saved-of (o .next) (parts (o .next) (call-sound s (spelt a) f (b .sane)));
+                  state = saved-of (o .next) (parts (o .next) (sound-next s (spelt a) f (b .sane)));
                   answer = refl;
                 };
               };
           six = refl;
-          key = leb→le (a .key) 65535 (and-right (leb (spelt a .prec) 255) (leb (a .key) 65535) f);
+          key = leb→le (a .key) 65535 (and-right (leb (spelt a .prec) 255) (leb (a .key) 65535) (bytes-range (spelt a) f));
+          count = bytes-count (spelt a) f;
         }
 
 -- ---- so the run is one of a program in C
 
-chained-moves : (s : StateM) (xs : List Says) → OnBoard s → T (all inRange (calls (steps xs))) → Chained (bytesOf s) (tableOf s) (moves s xs)
+chained-moves : (s : StateM) (xs : List Says) → OnBoard s → T (all inBytes (calls (steps xs))) → Chained (bytesOf s) (tableOf s) (moves s xs)
 unfolding calls all
 chained-moves s [] b f = tt
 chained-moves s (ourAsk a ∷ xs) b f =
-    let g = and-left (inRange (spelt a)) (all inRange (calls (steps xs))) f in
-    (made-took b a g, chained-moves (call s (spelt a) .next) xs (board-next s (spelt a) g b) (and-right (inRange (spelt a)) (all inRange (calls (steps xs))) f))
+    let g = and-left (inBytes (spelt a)) (all inBytes (calls (steps xs))) f in
+    (made-took b a g, chained-moves (call s (spelt a) .next) xs (board-next s (spelt a) g b) (and-right (inBytes (spelt a)) (all inBytes (calls (steps xs))) f))
 chained-moves s (theirAsk a ∷ xs) b f =
-    let g = and-left (inRange (spelt a)) (all inRange (calls (steps xs))) f in
-    (made-took b a g, chained-moves (call s (spelt a) .next) xs (board-next s (spelt a) g b) (and-right (inRange (spelt a)) (all inRange (calls (steps xs))) f))
+    let g = and-left (inBytes (spelt a)) (all inBytes (calls (steps xs))) f in
+    (made-took b a g, chained-moves (call s (spelt a) .next) xs (board-next s (spelt a) g b) (and-right (inBytes (spelt a)) (all inBytes (calls (steps xs))) f))
 
-keeps-moves : (p : Party) (s : StateM) (xs : List Says) → OnBoard s → T (all inRange (calls (steps xs))) → KeepsM p s (steps xs)
+keeps-moves : (p : Party) (s : StateM) (xs : List Says) → OnBoard s → T (all inBytes (calls (steps xs))) → KeepsM p s (steps xs)
     → Keeps p (bytesOf s) (tableOf s) (moves s xs)
 unfolding calls all
 keeps-moves p s [] b f k = tt
 keeps-moves p s (ourAsk a ∷ xs) b f k =
-    let g = and-left (inRange (spelt a)) (all inRange (calls (steps xs))) f in (
+    let g = and-left (inBytes (spelt a)) (all inBytes (calls (steps xs))) f in (
       rw (bytes-state b, board-state b) (k .0),
-      keeps-moves p (call s (spelt a) .next) xs (board-next s (spelt a) g b) (and-right (inRange (spelt a)) (all inRange (calls (steps xs))) f) (k .1),
+      keeps-moves p (call s (spelt a) .next) xs (board-next s (spelt a) g b) (and-right (inBytes (spelt a)) (all inBytes (calls (steps xs))) f) (k .1),
     )
 keeps-moves p s (theirAsk a ∷ xs) b f k =
-    let g = and-left (inRange (spelt a)) (all inRange (calls (steps xs))) f in (
+    let g = and-left (inBytes (spelt a)) (all inBytes (calls (steps xs))) f in (
       rw (bytes-state b, board-state b) (k .0),
-      keeps-moves p (call s (spelt a) .next) xs (board-next s (spelt a) g b) (and-right (inRange (spelt a)) (all inRange (calls (steps xs))) f) (k .1),
+      keeps-moves p (call s (spelt a) .next) xs (board-next s (spelt a) g b) (and-right (inBytes (spelt a)) (all inBytes (calls (steps xs))) f) (k .1),
     )
 
 enough : REPLIES ≤ length records
@@ -181,16 +181,17 @@ machine-runs-are-runs-of-C p s xs b r =
 abbrev ask : ℕ → ℕ → ℕ → ℕ → ℕ → List ℕ → Ask
 ask op i m p k l = record { op = op; id = i; flags = 0; map = m; prec = p; key = k; combos = l }
 
--- K writes on channel 1, its write on channel 0 ends, it stops both
+-- K writes on channel 1 and waits for a cycle there, its write on channel 0 ends, it stops both
 abbrev quiet : List Says
-quiet = ourAsk (ask 3 9 2 0 1 []) ∷ ourAsk (ask 0xF3 0 1 0 0 []) ∷ ourAsk (ask 6 5 3 0 1 []) ∷ []
+quiet = ourAsk (ask 3 9 2 0 1 numbers) ∷ ourAsk (ask 14 11 2 0 1 []) ∷ ourAsk (ask 0xF3 0 1 0 0 []) ∷ ourAsk (ask 6 5 3 0 1 []) ∷ []
 
 -- the others open with a list and steal channel 2, take channel 3, wait for channel 0 and close; the event has a bit more
 abbrev busy : List Says
 busy =
     theirAsk (ask 0xF0 0 0 10 0 (4 ∷ []))
-    ∷ ourAsk (ask 3 9 2 0 1 [])
+    ∷ ourAsk (ask 3 9 2 0 1 numbers)
     ∷ theirAsk (ask 32 31 0 10 0 (8 ∷ []))
+    ∷ ourAsk (ask 14 11 2 0 1 [])
     ∷ theirAsk (ask 32 32 0 10 0 (1 ∷ []))
     ∷ ourAsk (ask 0xF3 0 5 0 0 [])
     ∷ theirAsk (ask 0xF1 0 0 0 8 [])
@@ -210,7 +211,7 @@ same-calls : own (steps quiet) ≡ own (steps busy)
 unfolding machine claim
 same-calls = refl
 
-pub alike : sights party (bytesOf start) (moves start quiet) ≡ sights party (bytesOf start) (moves start busy)
+pub alike : sights party (bytesOf start) (tableOf start) (moves start quiet) ≡ sights party (bytesOf start) (tableOf start) (moves start busy)
 alike =
     K-sees-the-same-bytes party (bytesOf start) (tableOf start) (moves start quiet) (moves start busy) (bytes-whole board) (bytes-held board)
     (rw (bytes-state board, board-state board) begins) (machine-runs-are-runs-of-C party start quiet board quiet-runs)

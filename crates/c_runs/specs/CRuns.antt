@@ -6,15 +6,17 @@
 --   Turn                 one call: the numbers, combinations, reply list and room for the answer as lent; the result, and all bytes
 --                        as they became
 --   request t, asked t   its numbers as the struct has them; as the machine's call has them
---   Took st tb t         it took the bytes of a state and a table there, by the promise; a key is two bytes
+--   Took st tb t         it took the bytes of a state and a table there, by the promise; a key and a WRITE's count of cycles are two
+--                        bytes
 --   Move, Chained, Keeps, Full, Run, ownCalls   as in crates/code_runs, on bytes
 --   viewBytes p st       the bytes of the board's channels, those without K as a free one's
---   Sight, sights p st ms   the bytes of answers, records and channels, in the order of the run
+--   Sight, sights p st tb ms   the bytes of answers, records, channels and what the table stores of them, in the order of the run
 --   Demand3·bytes        two runs with the same calls of the K party show it the same
 --   bytesClaim           one name that unfolds these definitions
 use Prim.Native.Nat.{ℕ, _≤_}
 use mathlib.Core.Path.{_≡_}
 use mathlib.Core.List.{List, [], _∷_, _++_, map}
+use lib.Dec.{T}
 use lib.ListN.{length}
 use Rattle.machine.specs.State.{Call}
 use Rattle.machine.specs.Log.{opOf}
@@ -25,8 +27,8 @@ use Rattle.refusals.specs.Refusals.{askedOf}
 use Rattle.sizes.specs.Sizes.{ANSWER, REPLIES}
 use Rattle.handed.specs.Handed.{opFor, requestOf}
 use Rattle.boundary.specs.Boundary.{Crossed}
-use Rattle.two_runs.specs.TwoRuns.{Party, Start, ByK, ByOthers, said}
-use Rattle.code_runs.specs.CodeRuns.{recordsTo, viewOf}
+use Rattle.two_runs.specs.TwoRuns.{Party, Start, ByK, ByOthers, counted, said}
+use Rattle.code_runs.specs.CodeRuns.{recordsTo, viewOf, storedOf}
 
 pub record Turn : Type 0 where
   pub op : ℕ
@@ -54,6 +56,7 @@ pub record Took (st tb : List ℕ) (t : Turn) : Type 0 where
   pub crossed : Crossed (t .op) (request t) (t .combos) st tb (t .lent) (t .room) (t .n) (t .state) (t .table) (t .list) (t .answer)
   pub six : length (t .room) ≡ ANSWER
   pub key : t .key ≤ 65535
+  pub count : T (counted (asked t .op) (asked t))
 
 pub data Move : Type 0 where
   ours : Turn → Move
@@ -92,17 +95,19 @@ viewBytes p st = map channelBytes (viewOf p (stateOf st))
 pub data Sight : Type 0 where
   told : List ℕ → Sight
   got : List ℕ → Sight
-  has : List (List ℕ) → Sight
+  has : List (List ℕ) → List (List ℕ) → Sight
 
-unfoldable pub sights : Party → List ℕ → List Move → List Sight
-sights p st [] = has (viewBytes p st) ∷ []
-sights p st (ours t ∷ ms) = map got (recordsTo p (t .n) (t .list)) ++ told (t .answer) ∷ has (viewBytes p (t .state)) ∷ sights p (t .state) ms
-sights p st (others t ∷ ms) = map got (recordsTo p (t .n) (t .list)) ++ sights p (t .state) ms
+unfoldable pub sights : Party → List ℕ → List ℕ → List Move → List Sight
+sights p st tb [] = has (viewBytes p st) (storedOf p (stateOf st) tb) ∷ []
+sights p st tb (ours t ∷ ms) =
+    map got (recordsTo p (t .n) (t .list))
+    ++ told (t .answer) ∷ has (viewBytes p (t .state)) (storedOf p (stateOf (t .state)) (t .table)) ∷ sights p (t .state) (t .table) ms
+sights p st tb (others t ∷ ms) = map got (recordsTo p (t .n) (t .list)) ++ sights p (t .state) (t .table) ms
 
 abbrev pub Demand3·bytes : Type 0
 Demand3·bytes =
     (p : Party) (st tb : List ℕ) (ms ns : List Move) → Whole st → Held (stateOf st) tb → Start p (stateIn (stateOf st) tb) → Run p st tb ms → Run p st tb ns
-    → ownCalls ms ≡ ownCalls ns → sights p st ms ≡ sights p st ns
+    → ownCalls ms ≡ ownCalls ns → sights p st tb ms ≡ sights p st tb ns
 
 unfoldable pub bytesClaim : Unit {0}
 unfolding ownCalls viewBytes sights

@@ -8,10 +8,10 @@ use native.Mathlib.Omega.{arith}
 use lib.Dec.{T, ltb, lt→ltb}
 use lib.ListN.{length, length-append, length-map}
 use Rattle.machine.specs.Lists.{if_then_else_, all, keep, among, distinct}
-use Rattle.machine.specs.State.{Channel as ChannelM, Lock, State as StateM, Call}
+use Rattle.machine.specs.State.{Write, Channel as ChannelM, Lock, State as StateM, Call}
 use Rattle.machine.specs.Maps.{odd, half, minus}
-use Rattle.machine.specs.Granting.{aborted, abortedIn}
-use Rattle.machine.specs.Commands.{reset, same, setStop, flushed, setPrec, cleared, isEmpty, freeingReplies, eachChange, doFree, doRead, doWrite, doLock}
+use Rattle.machine.specs.Granting.{aborted, abortedIn, onChannels, cutReplies, dropped}
+use Rattle.machine.specs.Commands.{reset, same, setStop, flushed, setPrec, cleared, isEmpty, freeingReplies, eachChange, doFree, doRead, doWrite, doWaitcycle, doLock}
 use Rattle.machine.specs.Sound.{writesOf, ids}
 use Rattle.machine.specs.Kinds.{kind}
 use Rattle.machine.specs.Call.{perform}
@@ -27,42 +27,57 @@ use Rattle.changing.specs.Changing.{Accepted, Among}
 
 -- ---- room: with its own id idle, at most 63 others can be replied
 
-aborted-few : (m : ℕ) (cs : List ChannelM) → length (abortedIn m cs) ≤ length (writesOf cs)
+pub aborted-few : (m : ℕ) (cs : List ChannelM) → length (abortedIn m cs) ≤ length (writesOf cs)
 unfolding abortedIn writesOf aborted
 aborted-few m [] = omega arith
 aborted-few m (c ∷ cs) = go (odd m) (aborted-few (half m) cs)
   where
     go : (b : Bool) → length (abortedIn (half m) cs) ≤ length (writesOf cs)
-        → length ((if b then map (λ i. record { id = i; command = 3; error = 254; map = 0; key = c .key }) (c .writes) else []) ++ abortedIn (half m) cs) ≤ length (c .writes ++ writesOf cs)
+        → length ((if b then map (λ (w : Write). record { id = w .id; command = 3; error = 254; map = 0; key = c .key }) (c .writes) else []) ++ abortedIn (half m) cs)
+        ≤ length (map (λ (w : Write). w .id) (c .writes) ++ writesOf cs)
     go true ih = simp (length-append, length-map) (omega arith)
-    go false ih = rw (length-append (c .writes) (writesOf cs)) (omega arith)
+    go false ih = rw (length-append (map (λ (w : Write). w .id) (c .writes)) (writesOf cs)) (omega arith)
+
+-- those who wait for a cycle are told once each
+pub cut-few : (m : ℕ) (s : StateM) → length (cutReplies m s) ≤ length (s .waiters)
+unfolding cutReplies
+cut-few m s =
+    let k = keep-length (onChannels (length (s .channels)) m) (s .waiters) in
+    simp length-map k
+
+pub dropped-few : (m : ℕ) (s : StateM) → length (dropped m s) ≤ length (writesOf (s .channels)) + length (s .waiters)
+unfolding dropped
+dropped-few m s =
+    let a = aborted-few m (s .channels) in
+    let k = cut-few m s in
+    simp length-append (omega arith)
 
 lock-without : ℕ → ℕ → Lock → Lock
 lock-without n m l = record { id = l .id; key = l .key; map = minus n (l .map) m }
 
-pub freed-few : (m : ℕ) (s : StateM) → length (freeingReplies m s) ≤ length (writesOf (s .channels)) + length (s .locks)
+pub freed-few : (m : ℕ) (s : StateM) → length (freeingReplies m s) ≤ length (writesOf (s .channels)) + length (s .locks) + length (s .waiters)
 unfolding freeingReplies cleared lock-without
 freed-few m s =
-    let a = aborted-few m (s .channels) in
+    let a = dropped-few m s in
     let f = lock-without (length (s .channels)) m in
     let k = keep-length isEmpty (map {B = Lock} f (s .locks)) in
     let e = length-map (s .locks) f in
     simp (length-append, length-map) (omega arith)
 
-own-few : (s : StateM) (j : ℕ) → Parts s → j < 64 → T (not (among j (ids s))) → length (writesOf (s .channels)) + length (s .locks) + length (s .waiting) ≤ 63
+pub own-few : (s : StateM) (j : ℕ) → Parts s → j < 64 → T (not (among j (ids s))) → length (writesOf (s .channels)) + length (s .locks) + length (s .waiters) + length (s .waiting) ≤ 63
 unfolding ids distinct all
 own-few s j p b n =
     let g = pigeon 64 (j ∷ ids s) (and-both (not (among j (ids s))) (distinct (ids s)) n (p .apart)) (and-both (ltb j 64) (all (λ k. ltb k 64) (ids s)) (lt→ltb j 64 b) (p .small)) in
-    let e : length (ids s) ≡ length (writesOf (s .channels)) + length (s .locks) + length (s .waiting) = simp (length-append, length-map) in
+    let e : length (ids s) ≡ length (writesOf (s .channels)) + length (s .locks) + length (s .waiters) + length (s .waiting) = simp (length-append, length-map) in
     omega arith
 
 module _ {r : Request} {s : State} {tb l : List ℕ} (a : Accepted r s tb l) where
   pub ready-one : Ready s tb l 0 1
   ready-one = record { held = a .held; room = a .room; fits = omega arith }
 
-  pub ready-abort : (m : ℕ) → Ready s tb l 0 (length (abortedIn m (stateIn s tb .channels)) + 1)
+  pub ready-abort : (m : ℕ) → Ready s tb l 0 (length (dropped m (stateIn s tb)) + 1)
   ready-abort m =
-      let f = aborted-few m (stateIn s tb .channels) in
+      let f = dropped-few m (stateIn s tb) in
       let o = own-few (stateIn s tb) (r .id) (held-parts (a .held)) (a .valid) (a .idle) in
       record { held = a .held; room = a .room; fits = omega arith }
 
@@ -112,6 +127,10 @@ module _ (c : Call) (s : StateM) (n : ℕ) where
   unfolding perform kind
   is-write e = ap (λ (k : ℕ). perform (kind k) c s) e
 
+  pub is-wait : n ≡ 14 → perform (kind n) c s ≡ doWaitcycle c s
+  unfolding perform kind
+  is-wait e = ap (λ (k : ℕ). perform (kind k) c s) e
+
   pub is-lock : n ≡ 13 → perform (kind n) c s ≡ doLock c s
   unfolding perform kind
   is-lock e = ap (λ (k : ℕ). perform (kind k) c s) e
@@ -132,8 +151,8 @@ left-same n (inr (inr (inr (inl e)))) a b d = absurd (b e)
 left-same n (inr (inr (inr (inr (inl e))))) a b d = absurd (d e)
 left-same n (inr (inr (inr (inr (inr e))))) a b d = absurd e
 
-pub left-lock : (n : ℕ) → Among n (2 ∷ 3 ∷ 13 ∷ []) → (n ≡ 2 → ⊥) → (n ≡ 3 → ⊥) → n ≡ 13
+pub left-lock : (n : ℕ) → Among n (2 ∷ 13 ∷ 14 ∷ []) → (n ≡ 2 → ⊥) → (n ≡ 14 → ⊥) → n ≡ 13
 left-lock n (inl e) a b = absurd (a e)
-left-lock n (inr (inl e)) a b = absurd (b e)
-left-lock n (inr (inr (inl e))) a b = e
+left-lock n (inr (inl e)) a b = e
+left-lock n (inr (inr (inl e))) a b = absurd (b e)
 left-lock n (inr (inr (inr e))) a b = absurd e

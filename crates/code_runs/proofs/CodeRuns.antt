@@ -3,18 +3,21 @@
 -- machine's next state. So what the K party sees of it is what it sees of the machine's run, spelt in structs and bytes, and
 -- the machine's theorem carries over.
 -- Assumes nothing.
-use Prim.Native.Nat.{ℕ, _+_, _/_, _≤_}
+use Prim.Native.Nat.{ℕ, _+_, _/_, _≤_, _<_}
 use mathlib.Core.Path.{_≡_, refl, ap, ap₂, sym, subst, _∙_}
-use mathlib.Core.Bool.{Bool, true, false}
+use mathlib.Core.Bool.{Bool, true, false, not, _&&_}
 use mathlib.Core.List.{List, [], _∷_, _++_, map, map-append}
 use native.Mathlib.Omega.{arith}
 use native.Mathlib.Nat.{zero-add}
-use lib.Dec.{T, eqb, leb, le→leb}
-use lib.ListN.{length, drop}
+use lib.Dec.{T, eqb, leb, le→leb, leb→le}
+use lib.ListN.{length, getD, drop}
 use Rattle.machine.specs.Lists.{if_then_else_, all, keep}
-use Rattle.machine.specs.State.{Call, Channel as ChannelM, Reply, State as StateM, free}
+use Rattle.machine.specs.Numbers.{CMD·WRITE, CYCLES}
+use Rattle.machine.specs.State.{Call, Channel as ChannelM, Op as OpM, OPEN, CLOSE, ABORT, EVENT, COMMAND, Reply, State as StateM, free}
+use Rattle.machine.specs.Commands.{cyclesIn}
 use Rattle.machine.specs.Call.{call, inRange}
-use Rattle.machine.proofs.Tests.{and-both}
+use Rattle.machine.proofs.Tests.{and-both, or-right}
+use Rattle.machine_laws.proofs.KeepingCalls.{Counted}
 use Rattle.memory.specs.Splice.{splice}
 use Rattle.channel.specs.declared.Channel.{Channel}
 use Rattle.channel.specs.Channel.{channelOf}
@@ -27,10 +30,11 @@ use Rattle.board.specs.declared.Outcome.{Outcome}
 use Rattle.answers.specs.declared.Request.{Request}
 use Rattle.refusals.specs.declared.Op.{Op}
 use Rattle.arbiter.proofs.Outcome.{Same, held-after, one-outcome}
-use Rattle.two_runs.specs.TwoRuns.{Party, Start, Step, our, their, Keeps as KeepsM, Run as RunM, reached, calls, lends, own, said, mask, view, ownReplies, Seen, answered, received, owning, seen}
-use Rattle.two_runs.proofs.Part.{project}
+use Rattle.two_runs.specs.TwoRuns.{Party, Start, Step, our, their, Keeps as KeepsM, Run as RunM, reached, calls, counted, inBytes, lends, own, said, mask, view, waitersOf, ownReplies, Seen, answered, received, owning, seen}
+use Rattle.two_runs.specs.Part.{project}
 use Rattle.two_runs.proofs.TwoRuns.{K-sees-its-part, others-leave-K-alone}
-use Rattle.code_runs.specs.CodeRuns.{Turn, asked, Took, Move, ours, others, Chained, Keeps, Full, Run, ownCalls, records, recordsTo, ownRecords, maskOf, viewOf, Sight, told, got, has, sights, Demand3·code, stateAfter, tableAfter}
+use Rattle.code_runs.specs.CodeRuns.{Turn, asked, Took, Move, ours, others, Chained, Keeps, Full, Run, ownCalls, records, recordsTo, ownRecords, maskOf, viewOf, storedOf, Sight, told, got, has, sights, Demand3·code, stateAfter, tableAfter}
+use Rattle.code_runs.proofs.Stored.{storedIn, stored-of}
 
 -- ---- the machine's steps of a run
 
@@ -49,12 +53,29 @@ ownCalls-steps (others t ∷ ms) = ownCalls-steps ms
 
 -- ---- one call: the machine's outcome, and what is next is held
 
+pub count-of : (o : OpM) (c : Call) → T (counted o c) → Counted o c
+unfolding counted
+count-of o c t e = leb→le (cyclesIn (c .combos)) CYCLES (subst (λ (x : OpM). T (counted x c)) e t)
+
+-- what a program lends are bytes, and two of them are a count
+pub bytes-counted : (o : OpM) (c : Call) → ((i : ℕ) → getD (c .combos) i 0 < 256) → T (counted o c)
+unfolding counted cyclesIn
+bytes-counted OPEN c h = tt
+bytes-counted CLOSE c h = tt
+bytes-counted ABORT c h = tt
+bytes-counted EVENT c h = tt
+bytes-counted (COMMAND n) c h = or-right (not (eqb n CMD·WRITE)) (leb (cyclesIn (c .combos)) CYCLES) (le→leb (cyclesIn (c .combos)) CYCLES (go (c .combos) h))
+  where
+    go : (ms : List ℕ) → ((i : ℕ) → getD ms i 0 < 256) → cyclesIn ms ≤ CYCLES
+    go [] g = omega arith
+    go (b ∷ ms) g = omega (arith, g 0, g 1)
+
 module _ {st : Board} {tb : List ℕ} {t : Turn} (h : Held st tb) (k : Took st tb t) where
   pub took-told : Told (call (stateIn st tb) (asked t)) (t .lent) (t .outcome) (t .table) (t .list)
   took-told = k .called .sound h
 
   took-after : Held (t .outcome .state) (t .table) × (stateIn (t .outcome .state) (t .table) ≡ call (stateIn st tb) (asked t) .next)
-  took-after = held-after (t .op) (t .request) (t .combos) (t .lent) h (k .prec, k .key) took-told
+  took-after = held-after (t .op) (t .request) (t .combos) (t .lent) h (k .prec, k .key) (count-of (asked t .op) (asked t) (k .count)) took-told
 
   pub took-held : Held (t .outcome .state) (t .table)
   took-held = took-after .0
@@ -103,29 +124,33 @@ pub view-of : {st : Board} {tb : List ℕ} (p : Party) → Held st tb → viewOf
 unfolding viewOf view
 view-of {st} {tb} p h = ap (map (maskOf p)) (held-channels h) ∙ mask-of p (stateIn st tb .channels)
 
+pub stores : {st : Board} {tb : List ℕ} (p : Party) → Held st tb → storedOf p st tb ≡ storedIn (view p (stateIn st tb)) (waitersOf p (stateIn st tb))
+stores p h = stored-of p h (view-of p h)
+
 -- ---- what the K party sees is what it sees of the machine's run
 
 abbrev pub spelt : Seen → Sight
 spelt (answered a) = told (answerOf a)
 spelt (received r) = got (encode r)
-spelt (owning cs) = has (map channelOf cs)
+spelt (owning cs ws) = has (map channelOf cs) (storedIn cs ws)
 
 spelt-received : (rs : List Reply) → map spelt (map received rs) ≡ map got (map encode rs)
 spelt-received [] = refl
 spelt-received (r ∷ rs) = ap (λ (x : List Sight). got (encode r) ∷ x) (spelt-received rs)
 
 pub sights-spelt : (p : Party) (st : Board) (tb : List ℕ) (ms : List Move) → Held st tb → Chained st tb ms
-    → sights p st ms ≡ map spelt (seen p (stateIn st tb) (steps ms))
+    → sights p st tb ms ≡ map spelt (seen p (stateIn st tb) (steps ms))
 unfolding sights seen
-sights-spelt p st tb [] h c = ap (λ (cs : List Channel). has cs ∷ []) (view-of p h)
+sights-spelt p st tb [] h c = ap₂ (λ (cs : List Channel) (bs : List (List ℕ)). has cs bs ∷ []) (view-of p h) (stores p h)
 sights-spelt p st tb (ours t ∷ ms) h c =
     let o = call (stateIn st tb) (asked t) in
     rw (
-      map-append spelt (map received (ownReplies p (o .replies))) (answered (o .answer) ∷ owning (view p (o .next)) ∷ seen p (o .next) (steps ms)),
+      map-append spelt (map received (ownReplies p (o .replies))) (answered (o .answer) ∷ owning (view p (o .next)) (waitersOf p (o .next)) ∷ seen p (o .next) (steps ms)),
       spelt-received (ownReplies p (o .replies)),
       took-records p h (c .0),
       took-told h (c .0) .answer,
       view-of p (took-held h (c .0)),
+      stores p (took-held h (c .0)),
       sights-spelt p (t .outcome .state) (t .table) ms (took-held h (c .0)) (c .1),
       took-next h (c .0),
     )
@@ -148,16 +173,18 @@ keeps-steps p st tb (ours t ∷ ms) h c k =
 keeps-steps p st tb (others t ∷ ms) h c k =
     (k .0, subst (λ (s : StateM). KeepsM p s (steps ms)) (took-next h (c .0)) (keeps-steps p (t .outcome .state) (t .table) ms (took-held h (c .0)) (c .1) (k .1)))
 
-took-range : {st : Board} {tb : List ℕ} {t : Turn} → Took st tb t → T (inRange (asked t))
-unfolding inRange
+took-range : {st : Board} {tb : List ℕ} {t : Turn} → Took st tb t → T (inBytes (asked t))
+unfolding inBytes inRange
 took-range {t = t} k =
-    and-both (leb (t .request .prec) 255) (leb (t .request .key) 65535) (le→leb (t .request .prec) 255 (k .prec)) (le→leb (t .request .key) 65535 (k .key))
+    and-both (leb (t .request .prec) 255 && leb (t .request .key) 65535) (counted (asked t .op) (asked t))
+    (and-both (leb (t .request .prec) 255) (leb (t .request .key) 65535) (le→leb (t .request .prec) 255 (k .prec)) (le→leb (t .request .key) 65535 (k .key)))
+    (k .count)
 
-fits-steps : (st : Board) (tb : List ℕ) (ms : List Move) → Chained st tb ms → T (all inRange (calls (steps ms)))
+fits-steps : (st : Board) (tb : List ℕ) (ms : List Move) → Chained st tb ms → T (all inBytes (calls (steps ms)))
 unfolding calls all
 fits-steps st tb [] c = tt
-fits-steps st tb (ours t ∷ ms) c = and-both (inRange (asked t)) (all inRange (calls (steps ms))) (took-range (c .0)) (fits-steps (t .outcome .state) (t .table) ms (c .1))
-fits-steps st tb (others t ∷ ms) c = and-both (inRange (asked t)) (all inRange (calls (steps ms))) (took-range (c .0)) (fits-steps (t .outcome .state) (t .table) ms (c .1))
+fits-steps st tb (ours t ∷ ms) c = and-both (inBytes (asked t)) (all inBytes (calls (steps ms))) (took-range (c .0)) (fits-steps (t .outcome .state) (t .table) ms (c .1))
+fits-steps st tb (others t ∷ ms) c = and-both (inBytes (asked t)) (all inBytes (calls (steps ms))) (took-range (c .0)) (fits-steps (t .outcome .state) (t .table) ms (c .1))
 
 -- 384 bytes are 64 records
 full-lends : (t : Turn) → 384 ≤ length (t .lent) → T (lends (asked t))
@@ -179,7 +206,7 @@ run-steps p st tb ms h r =
 -- more than is asked: the runs may begin with two boards and two tables, if K's part of what they hold is the same
 pub K-sees-its-part-of-the-code : (p : Party) (st su : Board) (tb tc : List ℕ) (ms ns : List Move) → Held st tb → Held su tc
     → Start p (stateIn st tb) → Start p (stateIn su tc) → project p (stateIn st tb) ≡ project p (stateIn su tc)
-    → Run p st tb ms → Run p su tc ns → ownCalls ms ≡ ownCalls ns → sights p st ms ≡ sights p su ns
+    → Run p st tb ms → Run p su tc ns → ownCalls ms ≡ ownCalls ns → sights p st tb ms ≡ sights p su tc ns
 K-sees-its-part-of-the-code p st su tb tc ms ns h g a b q r s e =
     sights-spelt p st tb ms h (r .chained)
     ∙ ap (map spelt)
@@ -208,9 +235,11 @@ behind st tb (others u ∷ ms) t h c =
     let b = behind (u .outcome .state) (u .table) ms t (took-held h (c .0)) (c .1) in
     record { held = b .held; same = b .same ∙ ap (λ (s : StateM). reached s (steps ms)) (took-next h (c .0)); took = b .took }
 
--- a call of the others, behind any run, reports no record to an id of the K party's and leaves its channels as they are
+-- a call of the others, behind any run, reports no record to an id of the K party's and leaves its channels, and what is stored of
+-- them, as they are
 pub others-leave-K-alone-of-the-code : (p : Party) (st : Board) (tb : List ℕ) (ms : List Move) (t : Turn) → Held st tb → Start p (stateIn st tb)
     → Run p st tb (ms ++ others t ∷ []) → (ownRecords p t ≡ []) × (viewOf p (t .outcome .state) ≡ viewOf p (stateAfter st ms))
+    × (storedOf p (t .outcome .state) (t .table) ≡ storedOf p (stateAfter st ms) (tableAfter tb ms))
 others-leave-K-alone-of-the-code p st tb ms t h a r =
     let b = behind st tb ms t h (r .chained) in
     let m : RunM p (stateIn st tb) (steps ms ++ their (asked t) ∷ []) = rw (map-append step ms (others t ∷ [])) at (run-steps p st tb (ms ++ others t ∷ []) h r) in
@@ -220,6 +249,10 @@ others-leave-K-alone-of-the-code p st tb ms t h a r =
           ∙ ap (λ (s : StateM). map channelOf (view p s)) (took-next (b .held) (b .took))
           ∙ ap (map channelOf) (q .1)
           ∙ sym (view-of p (b .held)),
+      stores p (took-held (b .held) (b .took))
+          ∙ ap (λ (s : StateM). storedIn (view p s) (waitersOf p s)) (took-next (b .held) (b .took))
+          ∙ ap₂ storedIn (q .1) (q .2)
+          ∙ sym (stores p (b .held)),
     )
 
 -- ---- one turn

@@ -1,3 +1,4 @@
+pub mod Stored
 pub mod CodeRuns
 pub mod Made
 pub mod Parts

@@ -26,8 +26,9 @@ use Rattle.answers.specs.Answers.{answerOf}
 use Rattle.refusals.specs.declared.Op.{Op}
 use Rattle.refusals.specs.declared.Op.the-variants.{Open, Close, Abort, Event, Command}
 use Rattle.refusals.specs.Refusals.{opIn}
-use Rattle.two_runs.specs.TwoRuns.{Party, Step, our, their, Keeps as KeepsM, Run as RunM, calls, lends, own, said}
+use Rattle.two_runs.specs.TwoRuns.{Party, Step, our, their, Keeps as KeepsM, Run as RunM, calls, counted, inBytes, lends, own, said}
 use Rattle.code_runs.specs.CodeRuns.{Turn, asked, Took, Move, ours, others, Chained, Keeps, Full, Run, ownCalls}
+use Rattle.code_runs.proofs.CodeRuns.{count-of}
 
 -- ---- the call of the code
 
@@ -98,8 +99,19 @@ pub record OnBoard (s : StateM) : Type 0 where
   pub sane : T (sound s)
   pub size : T (sized (length (s .channels)))
 
-pub board-next : (s : StateM) (c : Call) → T (inRange c) → OnBoard s → OnBoard (call s c .next)
-board-next s c f b = record { sane = call-sound s c f (b .sane); size = subst (λ (n : ℕ). T (sized n)) (sym (call-wide s c)) (b .size) }
+pub bytes-range : (c : Call) → T (inBytes c) → T (inRange c)
+unfolding inBytes
+bytes-range c t = and-left (inRange c) (counted (c .op) c) t
+
+pub bytes-count : (c : Call) → T (inBytes c) → T (counted (c .op) c)
+unfolding inBytes
+bytes-count c t = and-right (inRange c) (counted (c .op) c) t
+
+pub sound-next : (s : StateM) (c : Call) → T (inBytes c) → T (sound s) → T (sound (call s c .next))
+sound-next s c f t = call-sound s c (bytes-range c f) (count-of (c .op) c (bytes-count c f)) t
+
+pub board-next : (s : StateM) (c : Call) → T (inBytes c) → OnBoard s → OnBoard (call s c .next)
+board-next s c f b = record { sane = sound-next s c f (b .sane); size = subst (λ (n : ℕ). T (sized n)) (sym (call-wide s c)) (b .size) }
 
 module _ {s : StateM} (b : OnBoard s) where
   pub board-state : stateIn (structOf s) (tableOf s) ≡ s
@@ -112,40 +124,42 @@ module _ {s : StateM} (b : OnBoard s) where
     made-told : Told (call s c) (blank (c .room)) (outcomeOf (call s c)) (tableOf (call s c .next)) (sent (blank (c .room)) 0 (call s c .replies))
     made-told = record { answer = refl; did = record { struct = refl; table = refl; list = refl; count = sym (zero-add (length (call s c .replies))) } }
 
-    made-took : T (inRange c) → Took (structOf s) (tableOf s) (made s c)
+    made-took : T (inBytes c) → Took (structOf s) (tableOf s) (made s c)
     unfolding inRange
     made-took f =
+        let g = bytes-range c f in
         record {
           called = record { sound = λ _. rw (board-state, asked-made s c) made-told; unsound = λ n. absurd (n board-held) };
-          prec = leb→le (c .prec) 255 (and-left (leb (c .prec) 255) (leb (c .key) 65535) f);
-          key = leb→le (c .key) 65535 (and-right (leb (c .prec) 255) (leb (c .key) 65535) f);
+          prec = leb→le (c .prec) 255 (and-left (leb (c .prec) 255) (leb (c .key) 65535) g);
+          key = leb→le (c .key) 65535 (and-right (leb (c .prec) 255) (leb (c .key) 65535) g);
+          count = subst (λ (d : Call). T (counted (d .op) d)) (sym (asked-made s c)) (bytes-count c f);
         }
 
 -- ---- so the run is one of the code
 
-chained-moves : (s : StateM) (xs : List Step) → OnBoard s → T (all inRange (calls xs)) → Chained (structOf s) (tableOf s) (moves s xs)
+chained-moves : (s : StateM) (xs : List Step) → OnBoard s → T (all inBytes (calls xs)) → Chained (structOf s) (tableOf s) (moves s xs)
 unfolding calls all
 chained-moves s [] b f = tt
 chained-moves s (our c ∷ xs) b f =
-    let g = and-left (inRange c) (all inRange (calls xs)) f in
-    (made-took b c g, chained-moves (call s c .next) xs (board-next s c g b) (and-right (inRange c) (all inRange (calls xs)) f))
+    let g = and-left (inBytes c) (all inBytes (calls xs)) f in
+    (made-took b c g, chained-moves (call s c .next) xs (board-next s c g b) (and-right (inBytes c) (all inBytes (calls xs)) f))
 chained-moves s (their c ∷ xs) b f =
-    let g = and-left (inRange c) (all inRange (calls xs)) f in
-    (made-took b c g, chained-moves (call s c .next) xs (board-next s c g b) (and-right (inRange c) (all inRange (calls xs)) f))
+    let g = and-left (inBytes c) (all inBytes (calls xs)) f in
+    (made-took b c g, chained-moves (call s c .next) xs (board-next s c g b) (and-right (inBytes c) (all inBytes (calls xs)) f))
 
-keeps-moves : (p : Party) (s : StateM) (xs : List Step) → OnBoard s → T (all inRange (calls xs)) → KeepsM p s xs
+keeps-moves : (p : Party) (s : StateM) (xs : List Step) → OnBoard s → T (all inBytes (calls xs)) → KeepsM p s xs
     → Keeps p (structOf s) (tableOf s) (moves s xs)
 unfolding calls all
 keeps-moves p s [] b f k = tt
 keeps-moves p s (our c ∷ xs) b f k =
-    let g = and-left (inRange c) (all inRange (calls xs)) f in (
+    let g = and-left (inBytes c) (all inBytes (calls xs)) f in (
       rw (board-state b, asked-made s c) (k .0),
-      keeps-moves p (call s c .next) xs (board-next s c g b) (and-right (inRange c) (all inRange (calls xs)) f) (k .1),
+      keeps-moves p (call s c .next) xs (board-next s c g b) (and-right (inBytes c) (all inBytes (calls xs)) f) (k .1),
     )
 keeps-moves p s (their c ∷ xs) b f k =
-    let g = and-left (inRange c) (all inRange (calls xs)) f in (
+    let g = and-left (inBytes c) (all inBytes (calls xs)) f in (
       rw (board-state b, asked-made s c) (k .0),
-      keeps-moves p (call s c .next) xs (board-next s c g b) (and-right (inRange c) (all inRange (calls xs)) f) (k .1),
+      keeps-moves p (call s c .next) xs (board-next s c g b) (and-right (inBytes c) (all inBytes (calls xs)) f) (k .1),
     )
 
 made-full : (c : Call) → T (lends c) → 384 ≤ length (blank (c .room))

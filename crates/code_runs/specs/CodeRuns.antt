@@ -7,7 +7,8 @@
 -- A call
 --   Turn                 one call: operation, request, combinations and reply list as lent; outcome, table and list as they became
 --   asked t              its numbers, as the machine's call has them
---   Took st tb t         it took the board st and the table tb there, by the promise; its precedence is one byte, its key two
+--   Took st tb t         it took the board st and the table tb there, by the promise; its precedence is one byte, its key and a
+--                        WRITE's count of cycles two
 -- A run
 --   Move, ours t, others t   a call of the K party or an event on a channel of K's; any other call
 --   turn m               the call itself
@@ -22,22 +23,28 @@
 --   ownRecords p t       those that a call reported
 --   maskOf p c           a channel as the K party sees it: itself if it has K, else as a free one
 --   viewOf p st          all channels of the board so, each at its place
---   Sight, sights p st ms   answers, records and channels, in the order of the run
+--   entryOf tb i         the id i, and the bytes of its entry in the table
+--   entriesOf tb cs      those of the writes of channels, front first
+--   storedOf p st tb     those of the writes of its channels, and of the WAITCYCLEs with K, oldest first
+--   Sight, sights p st tb ms   answers, records, channels and what is stored of them, in the order of the run
 -- The claim
 --   Demand3·code         two runs with the same calls of the K party show it the same
 --   stateAfter st ms, tableAfter tb ms   the board and the table that a run leaves
 --   ownAnswers ms, allRecords p ms       the answers to the K party's calls; all records to its ids, in order
---   Alike p st ms ns     the claim in three parts: these two are the same, and its channels are in the end
+--   Alike p st tb ms ns  the claim in parts: these two are the same, and its channels and what is stored of them are in the end
 --   codeClaim            one name that unfolds these definitions
 use Prim.Native.Nat.{ℕ, zero, suc, _≤_}
 use mathlib.Core.Path.{_≡_}
 use mathlib.Core.List.{List, [], _∷_, _++_, map}
-use lib.Dec.{eqb}
+use lib.Dec.{T, eqb}
 use lib.ListN.{length, getD, take, drop}
 use Rattle.machine.specs.Lists.{if_then_else_, keep}
 use Rattle.machine.specs.State.{Call, free}
 use Rattle.channel.specs.declared.Channel.{Channel}
+use Rattle.memory.specs.Splice.{block}
+use Rattle.queue.specs.Queue.{listOf}
 use Rattle.channel.specs.Channel.{channelOf}
+use Rattle.table.specs.Entry.{keyIn}
 use Rattle.board.specs.declared.Board.{Board}
 use Rattle.board.specs.Board.{stateIn, Held}
 use Rattle.answers.specs.declared.Request.{Request}
@@ -46,7 +53,7 @@ use Rattle.board.specs.declared.Outcome.{Outcome}
 use Rattle.refusals.specs.declared.Op.{Op}
 use Rattle.refusals.specs.Refusals.{askedOf}
 use Rattle.arbiter.specs.Arbiter.{Called}
-use Rattle.two_runs.specs.TwoRuns.{Party, Start, ByK, ByOthers, said}
+use Rattle.two_runs.specs.TwoRuns.{Party, Start, ByK, ByOthers, counted, said}
 
 -- ---- a call of the code
 
@@ -66,6 +73,7 @@ pub record Took (st : Board) (tb : List ℕ) (t : Turn) : Type 0 where
   pub called : Called (t .op) (t .request) st (t .combos) tb (t .lent) (t .outcome) (t .table) (t .list)
   pub prec : t .request .prec ≤ 255
   pub key : t .request .key ≤ 65535
+  pub count : T (counted (asked t .op) (asked t))
 
 -- ---- a run of the code
 
@@ -124,19 +132,33 @@ maskOf p c = if eqb (c .key) (p .key) then c else channelOf free
 unfoldable pub viewOf : Party → Board → List Channel
 viewOf p st = map (maskOf p) (take (st .width) (st .state .channels))
 
+-- #101: a channel stores the numbers of its writes and what is remembered with them, and has who waits for its cycle. All of that
+-- stands in the table, under the ids
+unfoldable pub entryOf : List ℕ → ℕ → List ℕ
+entryOf tb i = i ∷ block 23 tb i
+
+unfoldable pub entriesOf : List ℕ → List Channel → List (List ℕ)
+entriesOf tb [] = []
+entriesOf tb (c ∷ cs) = map (entryOf tb) (listOf (c .writes)) ++ entriesOf tb cs
+
+unfoldable pub storedOf : Party → Board → List ℕ → List (List ℕ)
+storedOf p st tb =
+    entriesOf tb (viewOf p st) ++ map (entryOf tb) (keep (λ i. eqb (keyIn (block 23 tb i)) (p .key)) (listOf (st .state .waiters)))
+
 -- "the K party's answers, replies and channels"
 pub data Sight : Type 0 where
   told : Answer → Sight
   got : List ℕ → Sight
-  has : List Channel → Sight
+  has : List Channel → List (List ℕ) → Sight
 
 -- each call of its own and each event on its channels shows the records to its ids, then the answer, then its channels; a
 -- call of the others shows the records to its ids; the end shows its channels
-unfoldable pub sights : Party → Board → List Move → List Sight
-sights p st [] = has (viewOf p st) ∷ []
-sights p st (ours t ∷ ms) =
-    map got (ownRecords p t) ++ told (t .outcome .answer) ∷ has (viewOf p (t .outcome .state)) ∷ sights p (t .outcome .state) ms
-sights p st (others t ∷ ms) = map got (ownRecords p t) ++ sights p (t .outcome .state) ms
+unfoldable pub sights : Party → Board → List ℕ → List Move → List Sight
+sights p st tb [] = has (viewOf p st) (storedOf p st tb) ∷ []
+sights p st tb (ours t ∷ ms) =
+    map got (ownRecords p t)
+    ++ told (t .outcome .answer) ∷ has (viewOf p (t .outcome .state)) (storedOf p (t .outcome .state) (t .table)) ∷ sights p (t .outcome .state) (t .table) ms
+sights p st tb (others t ∷ ms) = map got (ownRecords p t) ++ sights p (t .outcome .state) (t .table) ms
 
 -- ---- the claim
 
@@ -144,9 +166,9 @@ sights p st (others t ∷ ms) = map got (ownRecords p t) ++ sights p (t .outcome
 abbrev pub Demand3·code : Type 0
 Demand3·code =
     (p : Party) (st : Board) (tb : List ℕ) (ms ns : List Move) → Held st tb → Start p (stateIn st tb) → Run p st tb ms → Run p st tb ns
-    → ownCalls ms ≡ ownCalls ns → sights p st ms ≡ sights p st ns
+    → ownCalls ms ≡ ownCalls ns → sights p st tb ms ≡ sights p st tb ns
 
--- ---- what a run leaves, and the claim in three parts
+-- ---- what a run leaves, and the claim in parts
 
 unfoldable pub stateAfter : Board → List Move → Board
 stateAfter st [] = st
@@ -165,11 +187,12 @@ unfoldable pub allRecords : Party → List Move → List (List ℕ)
 allRecords p [] = []
 allRecords p (m ∷ ms) = ownRecords p (turn m) ++ allRecords p ms
 
-pub record Alike (p : Party) (st : Board) (ms ns : List Move) : Type 0 where
+pub record Alike (p : Party) (st : Board) (tb : List ℕ) (ms ns : List Move) : Type 0 where
   pub answers : ownAnswers ms ≡ ownAnswers ns
   pub replies : allRecords p ms ≡ allRecords p ns
   pub channels : viewOf p (stateAfter st ms) ≡ viewOf p (stateAfter st ns)
+  pub stored : storedOf p (stateAfter st ms) (tableAfter tb ms) ≡ storedOf p (stateAfter st ns) (tableAfter tb ns)
 
 unfoldable pub codeClaim : Unit {0}
-unfolding ownCalls records recordsTo ownRecords maskOf viewOf sights stateAfter tableAfter ownAnswers allRecords
+unfolding ownCalls records recordsTo ownRecords maskOf viewOf entryOf entriesOf storedOf sights stateAfter tableAfter ownAnswers allRecords
 codeClaim = tt

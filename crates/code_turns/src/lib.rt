@@ -1,5 +1,5 @@
-// A call of a run, as demand 3 on the code (`code_runs`) speaks of it: it makes `arbiter::call`, and its types see to the two
-// ranges that a run asks. Assumes nothing.
+// A call of a run, as demand 3 on the code (`code_runs`) speaks of it: it makes `arbiter::call`, and its types see to the ranges
+// that a run asks. Assumes nothing.
 use answers::Request;
 use board::Board;
 use board::Outcome;

@@ -7,12 +7,13 @@ use mathlib.Core.List.{List, [], _∷_, _++_}
 use native.Mathlib.Omega.{arith}
 use native.Mathlib.Nat.{zero-add}
 use lib.Dec.{T, eqb, leb, ltb, nltb→le, le→leb, leb→le, nleb→lt}
-use lib.ListN.{length, length-append}
+use lib.ListN.{length, getD, length-append}
 use borrow.Author.Tests.{le-ltb, lt-ltb}
 use Rattle.machine.specs.Lists.{if_then_else_, all}
 use Rattle.machine.specs.State.{State as StateM, Outcome as OutcomeM, Call, Op as OpM, OPEN, CLOSE, ABORT, EVENT, COMMAND}
 use Rattle.machine.specs.Choosing.{look}
-use Rattle.machine.specs.Commands.{finished, silent, done}
+use Rattle.machine.specs.Numbers.{CYCLES}
+use Rattle.machine.specs.Commands.{finished, silent, done, cyclesIn}
 use Rattle.machine.specs.Allocating.{doOpen}
 use Rattle.machine.specs.Settling.{settle}
 use Rattle.machine.specs.Kinds.{kind}
@@ -142,17 +143,25 @@ zero-allowed h z = record { held = h .held; allows = h .allows z }
 zero-decided : (e : ℕ) → e ≡ 0 → decisionOf e ≡ accepted
 zero-decided e z = ap decisionOf z
 
-act-sound : (o : OpM) (c : Call) (s : StateM) → Parts s → T (inRange c) → refusal o c s ≡ accepted → Parts (act o c s .next)
+-- two bytes are a count of cycles
+pub bytes-cycles : (ms : List ℕ) → ((i : ℕ) → getD ms i 0 < 256) → cyclesIn ms ≤ CYCLES
+unfolding cyclesIn
+bytes-cycles [] h = omega arith
+bytes-cycles (b ∷ ms) h = omega (arith, h 0, h 1)
+
+act-sound : (o : OpM) (c : Call) (s : StateM) → Parts s → T (inRange c) → cyclesIn (c .combos) ≤ CYCLES → refusal o c s ≡ accepted
+    → Parts (act o c s .next)
 unfolding refusal doOpen
-act-sound OPEN c s p r e =
+act-sound OPEN c s p r y e =
     open-sound (look (c .prec) (c .combos) (s .channels)) c s p (look-unlocked (c .prec) (c .combos) (s .channels)) (range-prec c r) (range-key c r)
     (first-none _ e .1 .1 .1 .1 .0)
-act-sound CLOSE c s p r e = close-sound c s p
-act-sound ABORT c s p r e = abort-sound c s p
-act-sound EVENT c s p r e = event-sound c s p
-act-sound (COMMAND k) c s p r e =
+act-sound CLOSE c s p r y e = close-sound c s p
+act-sound ABORT c s p r y e = abort-sound c s p
+act-sound EVENT c s p r y e = event-sound c s p
+act-sound (COMMAND k) c s p r y e =
     let n = first-none _ e in
     perform-sound (kind k) c s p r (id-small (c .id) (n .1 .1 .0)) (n .1 .1 .1 .0) (n .1 .1 .1 .1 .1 .1 .0) (n .1 .1 .1 .1 .1 .1 .1 .0)
+    (n .1 .1 .1 .1 .1 .1 .1 .1 .0) (λ _. y)
 
 act-wide : (o : OpM) (c : Call) (s : StateM) → Wide s (act o c s .next)
 act-wide OPEN c s = open-wide c s
@@ -211,14 +220,14 @@ module _ {o : Op} {r : Request} {s : State} {ms tb l : List ℕ} (a : Allowed o 
         let y : length (o₁ .replies ++ settle (o₁ .next) .replies) ≤ 64 = rw (settles) at z in
         rw (length-append (o₁ .replies) (settle (o₁ .next) .replies)) at y
 
-    module _ (range : (r .prec ≤ 255) × (r .key ≤ 65535)) where
+    module _ (range : (r .prec ≤ 255) × (r .key ≤ 65535)) (bytes : (i : ℕ) → getD ms i 0 < 256) where
       in-range : T (inRange c₀)
       unfolding inRange
       in-range = and-both (leb (r .prec) 255) (leb (r .key) 65535) (le→leb (r .prec) 255 (range .0)) (le→leb (r .key) 65535 (range .1))
 
       next-held : Held (d .state) tb₁ × (stateIn (d .state) tb₁ ≡ o₁ .next)
       next-held =
-          held-next (o₁ .next) (d .state) tb₁ (act-sound (opIn o (r .command)) c₀ s₀ (held-parts (a .held)) in-range (a .allows))
+          held-next (o₁ .next) (d .state) tb₁ (act-sound (opIn o (r .command)) c₀ s₀ (held-parts (a .held)) in-range (bytes-cycles ms bytes) (a .allows))
           (act-wide (opIn o (r .command)) c₀ s₀ ∙ held-eight (a .held))
           (t .did .struct) (t .did .table)
 

@@ -1,7 +1,9 @@
-// The write-end event, on the lowest channel that the map names: the front write ends. Assumes nothing.
+// The write-end event, on the lowest channel that the map names: those who wait for a cycle are answered, then the front write ends.
+// Assumes nothing.
 use answers::Outcome;
 use answers::Request;
 use channel::Channel;
+use fates::End;
 use reply::Reply;
 use store::State;
 ghost use mathlib.Core.Path.{_≡_};
@@ -10,7 +12,7 @@ ghost use Prim.Native.Nat.{_<_};
 ghost use lib.ListN.{getD};
 ghost use Rattle.machine.specs.State.{free};
 ghost use Rattle.machine.specs.Commands.{done, doEvent};
-ghost use Rattle.channel.specs.Channel.{channelIn, channelOf};
+ghost use Rattle.channel.specs.Channel.{channelOf};
 ghost use Rattle.store.specs.Work.{Ready};
 ghost use Rattle.answers.specs.Answers.{callOf, Does};
 ghost use Rattle.play.specs.Play.{frontOf};
@@ -43,7 +45,7 @@ pub fn event(r: Request, s: State, table: &mut [u8], replies: &mut [u8]) -> Outc
     end_front(r, s, table, replies, i, c, id)
 }
 
-// The front write of channel i ends.
+// Those who wait for a cycle of channel i are answered, and its front write ends.
 fn end_front(
     r: Request,
     s: State,
@@ -53,13 +55,15 @@ fn end_front(
     c: Channel,
     id: u8,
 ) -> Outcome
-    requires { ⌜ Ready s (now table) (now replies) 0 1 × (i < 8) × (c ≡ getD (s .channels) i (channelOf free)) × (id ≡ frontOf (channelIn c)) × (id < 255) ⌝ }
+    requires { ⌜ Ready s (now table) (now replies) 0 1 × (i < 8) × (c ≡ getD (s .channels) i (channelOf free)) × (id ≡ frontOf c) × (id < 255) ⌝ }
     ensures { λ d. ⌜ EndsFront i id (c .key) r s (now (table .entry)) (now (replies .entry)) d (now (table .exit)) (now (replies .exit)) ⌝ }
 {
     let b = play::bit(i);
+    let w = s.waiters;
+    let f = locks::sift(w, table, replies, 0, b, End::Met);
     let n = reply::put(
         replies,
-        0,
+        f.n,
         Reply {
             id,
             command: 3,
@@ -72,7 +76,9 @@ fn end_front(
     let q = c.writes;
     let q2 = q.remove(0);
     let d = c.with_writes(q2);
-    let t = play::put_channel(s, i, d);
+    let mut t = play::put_channel(s, i, d);
+    let left = f.left;
+    t.waiters = left;
     let a = answers::done(0, b, r.key, 255);
     Outcome {
         answer: a,

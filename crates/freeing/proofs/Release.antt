@@ -1,20 +1,18 @@
--- Channels freed: their writes aborted, then the locks sifted on the table without those writes. Assumes nothing.
+-- Channels freed: their writes aborted with who waits for a cycle of theirs, then the locks sifted on the table without those. Assumes nothing.
 use Prim.Native.Nat.{ℕ, _+_, _*_, _≤_, _<_}
 use mathlib.Core.Path.{_≡_, refl, ap, sym, subst, _∙_}
-use mathlib.Core.Bool.{false, not}
-use mathlib.Core.List.{List, [], _∷_, _++_, map}
+use mathlib.Core.Bool.{not}
+use mathlib.Core.List.{List, [], _∷_, _++_, map, append-assoc}
 use native.Mathlib.Omega.{arith}
 use lib.ListN.{length, length-append}
 use Rattle.reply.specs.Replies.{sent}
 use Rattle.reply.proofs.Laws.{sent-append, length-sent}
 use Rattle.machine.specs.Numbers.{ENTRIES}
 use Rattle.machine.specs.Lists.{keep}
-use Rattle.machine.specs.State.{Channel as ChannelM, Lock, Reply}
+use Rattle.machine.specs.State.{Channel as ChannelM, Lock, Reply, withChannels, withLocks}
 use Rattle.machine.specs.Maps.{odd, half, change}
-use Rattle.machine.specs.Granting.{abortedIn}
+use Rattle.machine.specs.Granting.{cut, dropped}
 use Rattle.machine.specs.Commands.{matching, freed, cleared, isEmpty, freeing, freeingReplies, done, each, silent, closed, owned, doFree, doClose}
-use Rattle.machine.proofs.Tests.{if-elim}
-use Rattle.machine_laws.proofs.Lists.{Sub, end, sub-refl, sub-nil, sub-append}
 use Rattle.queue.specs.Queue.{queueOf}
 use Rattle.open_keys.specs.declared.Keys.{Keys}
 use Rattle.open_keys.specs.OpenKeys.{keysOf, keysIn, Tidy}
@@ -23,12 +21,13 @@ use Rattle.channel.specs.declared.Change.the-variants.{Free}
 use Rattle.channel.specs.declared.Channel.{Channel}
 use Rattle.channel.specs.Channel.{channelOf, changedOf, changeEach, matchingEach}
 use Rattle.store.specs.declared.State.{State}
-use Rattle.store.specs.Store.{writeItem, lockItem, waitItem, writeItems, items, tableOf, stateIn, Held}
+use Rattle.store.specs.Store.{Item, lockItem, waiterItem, waitItem, writeItems, items, entries, tableOf, stateIn, Held, Good}
 use Rattle.store.specs.Work.{Ready, Did}
-use Rattle.store.proofs.Table.{good-sub}
 use Rattle.store.proofs.Store.{held-parts, held-eight, good-of, held-opens, opens-count}
-use Rattle.granting.specs.Granting.{idled, writesIn}
-use Rattle.granting.proofs.Laws.{held-changed, held-cleared}
+use Rattle.granting.specs.declared.Dropped.{Dropped}
+use Rattle.granting.specs.Granting.{Dropping, Drops}
+use Rattle.granting.proofs.Laws.{held-changed, good-cut, Cuts, dropping-all, cuts-all}
+use Rattle.fates.specs.declared.End.the-variants.{Freed}
 use Rattle.locks.specs.declared.Sifted.{Sifted}
 use Rattle.locks.specs.Locks.{lefts, ending, Sifting, Sifts}
 use Rattle.locks.proofs.Laws.{lefts-freed, ending-freed, maps-small}
@@ -40,47 +39,62 @@ use Rattle.sweep.specs.Sweep.{errorAt}
 use Rattle.sweep.proofs.Matching.{match-is}
 use Rattle.sweep.proofs.Steps.{Ends, end-room, told-each}
 
-sub-items : (m : ℕ) (cs : List ChannelM) → Sub (writeItems (change freed m cs)) (writeItems cs)
-unfolding writeItems change
-sub-items m [] = end
-sub-items m (c ∷ cs) =
-    sub-append
-    (if-elim (λ (d : ChannelM). Sub (map (writeItem (d .key)) (d .writes)) (map (writeItem (c .key)) (c .writes))) (odd m)
-    (λ _. sub-nil (map (writeItem (c .key)) (c .writes))) (λ _. sub-refl (map (writeItem (c .key)) (c .writes))))
-    (sub-items (half m) cs)
-
 -- ---- of a state that is held
 
+no-writes : (c : ChannelM) → freed c .writes ≡ []
+no-writes c = refl
+
 module _ {st : State} {tb : List ℕ} (m : ℕ) (h : Held st tb) where
-  abbrev pub left : List Lock
-  left = lefts false m (stateIn st tb .locks)
+  abbrev left : List Lock
+  left = lefts Freed m (stateIn st tb .locks)
 
-  abbrev pub over : List Reply
-  over = ending false m (stateIn st tb .locks)
+  abbrev over : List Reply
+  over = ending Freed m (stateIn st tb .locks)
 
-  pub left-is : left ≡ keep (λ l. not (isEmpty l)) (cleared (length (stateIn st tb .channels)) m (stateIn st tb .locks))
+  left-is : left ≡ keep (λ l. not (isEmpty l)) (cleared (length (stateIn st tb .channels)) m (stateIn st tb .locks))
   left-is = rw (held-eight h) (lefts-freed m (stateIn st tb .locks))
 
-  pub replies-are : abortedIn m (stateIn st tb .channels) ++ over ≡ freeingReplies m (stateIn st tb)
+  replies-are : dropped m (stateIn st tb) ++ over ≡ freeingReplies m (stateIn st tb)
   unfolding freeingReplies
   replies-are = rw (held-eight h, ending-freed m (stateIn st tb .locks))
 
-  pub replies-count : length (abortedIn m (stateIn st tb .channels)) + length over ≡ length (freeingReplies m (stateIn st tb))
-  replies-count = sym (length-append (abortedIn m (stateIn st tb .channels)) over) ∙ ap length replies-are
+  replies-count : length (dropped m (stateIn st tb)) + length over ≡ length (freeingReplies m (stateIn st tb))
+  replies-count = sym (length-append (dropped m (stateIn st tb)) over) ∙ ap length replies-are
 
-module _ {st : State} {tb l : List ℕ} (m : ℕ) (p : Ready st tb l 0 (length (freeingReplies m (stateIn st tb)))) where
-  pub abort-fits : 0 * 6 + length (abortedIn m (stateIn st tb .channels)) * 6 ≤ length l
-  abort-fits =
-      let r = p .room in
+module _ {st : State} {tb l : List ℕ} (m : ℕ) (b : m < 256) (p : Ready st tb l 0 (length (freeingReplies m (stateIn st tb)))) where
+  drop-ready : Ready st tb l 0 (length (dropped m (stateIn st tb)))
+  drop-ready =
       let f = p .fits in
       let e = replies-count m (p .held) in
-      omega arith
+      record { held = p .held; room = p .room; fits = omega arith }
 
-  module _ (b : m < 256) {l₁ tb₁ : List ℕ} {at : ℕ}
-      (w : (at ≡ 0 + length (abortedIn m (stateIn st tb .channels))) × (l₁ ≡ sent l 0 (abortedIn m (stateIn st tb .channels)))
-      × (tb₁ ≡ idled (writesIn m (stateIn st tb .channels)) tb)) where
-    pub sifting : Sifting false m (st .locks) tb₁ l₁ at
-    unfolding tableOf items
+  pub drop-asks : Dropping m (st .channels) (st .waiters) tb l 0
+  drop-asks = dropping-all m b drop-ready freed no-writes
+
+  module _ {q : Dropped} {l₁ tb₁ : List ℕ} (w : Drops m (st .channels) (st .waiters) tb l 0 q tb₁ l₁) where
+    after : Cuts freed m (stateIn st tb) (dropped m (stateIn st tb)) l 0 q tb₁ l₁
+    after = cuts-all m b drop-ready freed no-writes w
+
+    fits : 0 * 6 + length (dropped m (stateIn st tb)) * 6 ≤ length l
+    fits =
+        let r = drop-ready .room in
+        let f = drop-ready .fits in
+        omega arith
+
+    abbrev behind : List Lock → List Item
+    behind ls =
+        writeItems (change freed m (stateIn st tb .channels)) ++ map lockItem ls
+        ++ (map waiterItem (cut m (stateIn st tb) .waiters) ++ map waitItem (stateIn st tb .waiting))
+
+    -- the locks stand between the writes that are left and the WAITCYCLEs that are
+    split : (ls : List Lock) → items (withLocks ls (withChannels (change freed m (stateIn st tb .channels)) (cut m (stateIn st tb)))) ≡ behind ls
+    unfolding items cut
+    split ls =
+        append-assoc (writeItems (change freed m (stateIn st tb .channels)) ++ map lockItem ls) (map waiterItem (cut m (stateIn st tb) .waiters))
+        (map waitItem (stateIn st tb .waiting))
+
+    pub sifting : Sifting Freed m (st .locks) tb₁ l₁ (q .n)
+    unfolding tableOf cut
     sifting =
         let s = stateIn st tb in
         let h = p .held in
@@ -89,43 +103,41 @@ module _ {st : State} {tb l : List ℕ} (m : ℕ) (p : Ready st tb l 0 (length (
         record {
           pre = writeItems (change freed m (s .channels));
           ls = s .locks;
-          post = map waitItem (s .waiting);
+          post = map waiterItem (cut m s .waiters) ++ map waitItem (s .waiting);
           locked = record {
             queue = ap (λ (x : State). x .locks) (h .struct);
-            table = w .2 ∙ held-cleared h freed (λ _. refl) m;
-            good = good-sub (sub-append (sub-append (sub-items m (s .channels)) (sub-refl (map lockItem (s .locks)))) (sub-refl (map waitItem (s .waiting))))
-                (good-of s (held-parts h));
+            table = after .table ∙ ap (entries 64 0) (split (s .locks));
+            good = subst Good (split (s .locks)) (good-cut freed no-writes m s (good-of s (held-parts h)));
             maps = maps-small s (held-parts h) (held-eight h);
           };
           wanted = b;
           room = let e = replies-count m h in
-              let q = length-sent l 0 (abortedIn m (s .channels)) (omega arith) in
-              let z = ap length (w .1) in
-              let c = w .0 in
+              let k = length-sent l 0 (dropped m s) fits in
+              let z = ap length (after .list) in
+              let c = after .count in
               omega arith;
         }
 
     pub freed-did : {l₂ tb₂ : List ℕ} {f : Sifted} {ds : List Channel} → ds ≡ changeEach (changedOf Free) m (st .channels)
-        → Sifts false m (st .locks) tb₁ l₁ at f tb₂ l₂
+        → Sifts Freed m (st .locks) tb₁ l₁ (q .n) f tb₂ l₂
         → Did (freeing m (stateIn st tb)) (freeingReplies m (stateIn st tb)) l 0
-        (record { channels = ds; locks = f .locks; waiting = st .waiting; opens = st .opens; last = st .last }) tb₂ l₂ (f .n)
-    unfolding freeing tableOf items sifting
+        (record { channels = ds; locks = f .left; waiters = q .waiters; waiting = st .waiting; opens = st .opens; last = st .last }) tb₂ l₂ (f .n)
+    unfolding freeing tableOf cut sifting
     freed-did {l₂} {tb₂} {f} {ds} u g =
         let s = stateIn st tb in
         let h = p .held in
         let v = g sifting in
         let n = replies-count m h in
-        let a = abort-fits in
+        let kept = keep (λ x. not (isEmpty x)) (cleared (length (s .channels)) m (s .locks)) in
         let c : ds ≡ map channelOf (change freed m (s .channels)) = u ∙ held-changed h Free m in
-        let q : f .locks ≡ queueOf (map (λ x. x .id) (keep (λ x. not (isEmpty x)) (cleared (length (s .channels)) m (s .locks)))) =
-        v .queue ∙ ap (λ (ls : List Lock). queueOf (map (λ x. x .id) ls)) (left-is m h) in
+        let o : f .left ≡ queueOf (map (λ x. x .id) kept) = v .queue ∙ ap (λ (ls : List Lock). queueOf (map (λ x. x .id) ls)) (left-is m h) in
         let x : st .waiting ≡ queueOf (map (λ y. y .id) (s .waiting)) = ap (λ (y : State). y .waiting) (h .struct) in
+        let a = after .count in
         record {
-          struct = λ i. record { channels = c i; locks = q i; waiting = x i; opens = held-opens h i; last = st .last };
-          table = v .table
-              ∙ ap (λ (ls : List Lock). Rattle.store.specs.Store.entries 64 0 (writeItems (change freed m (s .channels)) ++ map lockItem ls ++ map waitItem (s .waiting))) (left-is m h);
-          list = v .replies ∙ (rw (w .1, w .0, ← replies-are m h) (sent-append l 0 (abortedIn m (s .channels)) (over m h) (omega arith)));
-          count = v .count ∙ (let k = w .0 in omega arith);
+          struct = λ i. record { channels = c i; locks = o i; waiters = after .queue i; waiting = x i; opens = held-opens h i; last = st .last };
+          table = v .table ∙ ap (λ (ls : List Lock). entries 64 0 (behind ls)) (left-is m h) ∙ ap (entries 64 0) (sym (split kept));
+          list = v .replies ∙ (rw (after .list, a, ← replies-are m h) (sent-append l 0 (dropped m s) (over m h) fits));
+          count = v .count ∙ (omega arith);
         }
 
 -- ---- FREE
@@ -186,7 +198,7 @@ module _ {st : State} {tb : List ℕ} (r : Request) (h : Held st tb) {ok : ℕ} 
   module _ {l l₁ tb₁ : List ℕ} {t : State} {n : ℕ} (g : Did (freeing ok (stateIn st tb)) (freeingReplies ok (stateIn st tb)) l 0 t tb₁ l₁ n) where
     -- freeing leaves the open keys
     close-opens : t .opens ≡ keysOf (keysIn (st .opens))
-    unfolding freeing
+    unfolding freeing cut
     close-opens = ap (λ (y : State). y .opens) (g .struct)
 
     pub close-tidy : Tidy (t .opens) × (t .opens .n ≤ ENTRIES)
@@ -194,7 +206,7 @@ module _ {st : State} {tb : List ℕ} (r : Request) (h : Held st tb) {ok : ℕ} 
 
     pub told-close : {x : Answer} {q : Keys} → x ≡ answerOf (done 0 0 (r .key) 255) → q ≡ keysOf (closed (r .key) (keysIn (t .opens)))
         → Told (doClose (callOf r []) (stateIn st tb)) l
-        (record { answer = x; state = record { channels = t .channels; locks = t .locks; waiting = t .waiting; opens = q; last = t .last }; n = n }) tb₁ l₁
+        (record { answer = x; state = record { channels = t .channels; locks = t .locks; waiters = t .waiters; waiting = t .waiting; opens = q; last = t .last }; n = n }) tb₁ l₁
     unfolding doClose silent tableOf items
     told-close {q = k} v eq =
         let s = stateIn st tb in
@@ -207,6 +219,7 @@ module _ {st : State} {tb : List ℕ} (r : Request) (h : Held st tb) {ok : ℕ} 
             struct = λ i. record {
               channels = q .struct i .channels;
               locks = q .struct i .locks;
+              waiters = q .struct i .waiters;
               waiting = q .struct i .waiting;
               opens = o i;
               last = q .struct i .last;

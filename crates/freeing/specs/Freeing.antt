@@ -1,7 +1,8 @@
 -- The words in which FREE and CLOSE are promised.
 -- Assumes nothing.
 --
---   matchReplies r s    what is replied when the channels that match are freed: aborted writes, then emptied locks
+--   matchReplies r s    what is replied when the channels that match are freed: to aborted writes, to who waits for a cycle of
+--                       theirs, then to emptied locks
 --   ownedReplies r s    the same of every channel with the key
 --   Frees m st tb ..    the promise of `freeing`: the channels of m freed, those replies sent
 use Prim.Native.Nat.{ℕ}

@@ -1,8 +1,9 @@
-// FREE and CLOSE: channels freed, their writes aborted, their bits cleared in every lock.
+// FREE and CLOSE: channels freed, their writes aborted with those who wait for a cycle, their bits cleared in every lock.
 // A command is promised in the machine's words: its answer, the state it leaves and its replies. Assumes nothing.
 use answers::Outcome;
 use answers::Request;
 use channel::Change;
+use fates::End;
 use store::State;
 ghost use mathlib.Core.Path.{_≡_};
 ghost use mathlib.Core.Bool.{false};
@@ -20,20 +21,23 @@ pub struct Freed {
     pub n: usize,
 }
 
-// The channels of a map freed: their writes aborted, their bits cleared in every lock.
+// The channels of a map freed: their writes aborted, those who wait for a cycle told, their bits cleared in every lock.
 pub fn freeing(s: State, map: u8, table: &mut [u8], replies: &mut [u8]) -> Freed
     requires { ⌜ Ready s (now table) (now replies) 0 (length (freeingReplies map (stateIn s (now table)))) × (map < 256) ⌝ }
     ensures { λ r. ⌜ Frees map s (now (table .entry)) (now (replies .entry)) r (now (table .exit)) (now (replies .exit)) ⌝ }
 {
     let cs = s.channels;
-    let at = granting::abort_named(table, replies, 0, cs, map);
+    let w = s.waiters;
+    let d = granting::drop_named(table, replies, 0, cs, w, map);
     let q = s.locks;
-    let f = locks::sift(q, table, replies, at, map, false);
+    let f = locks::sift(q, table, replies, d.n, map, End::Freed);
     let ds = channel::change_named(cs, map, Change::Free);
-    let left = f.locks;
+    let left = f.left;
+    let waiters = d.waiters;
     let mut t = s;
     t.channels = ds;
     t.locks = left;
+    t.waiters = waiters;
     Freed { state: t, n: f.n }
 }
 

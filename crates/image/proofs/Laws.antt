@@ -32,17 +32,17 @@ bytes-all [] h = refl
 bytes-all (b ∷ bs) h = rw (lt-ltb b 256 (h 0)) (bytes-all bs (λ i. h (suc i)))
 
 module _ (bs : List ℕ) where
-  pub not-long : (length bs ≡ 758 → ⊥) → false ≡ isWhole bs
+  pub not-long : (length bs ≡ 823 → ⊥) → false ≡ isWhole bs
   unfolding isWhole
-  not-long n = rw (ne-eqb (length bs) 758 n)
+  not-long n = rw (ne-eqb (length bs) 823 n)
 
-  pub whole-long : Whole bs → length bs ≡ 758
+  pub whole-long : Whole bs → length bs ≡ 823
   unfolding isWhole
-  whole-long w = eqb→eq (length bs) 758 (and-left (eqb (length bs) 758) _ w)
+  whole-long w = eqb→eq (length bs) 823 (and-left (eqb (length bs) 823) _ w)
 
-  pub the-marks : length bs ≡ 758 → ((i : ℕ) → getD bs i 0 < 256) → allMarks 8 bs 0 ≡ isWhole bs
+  pub the-marks : length bs ≡ 823 → ((i : ℕ) → getD bs i 0 < 256) → allMarks 8 bs 0 ≡ isWhole bs
   unfolding isWhole
-  the-marks l h = rw (eq-eqb (length bs) 758 l, bytes-all bs h) (sym (and-on (allMarks 8 bs 0)))
+  the-marks l h = rw (eq-eqb (length bs) 823 l, bytes-all bs h) (sym (and-on (allMarks 8 bs 0)))
 
 -- the marks of the channels left are those of all, where the ones before are marks
 pub record Marked (bs : List ℕ) (i : ℕ) : Type 0 where
@@ -252,45 +252,49 @@ keys-more-at bs at ks i {k} h t e =
 
 -- ---- the whole
 
-regroup : (u v w x y z : List ℕ) → ((((u ++ v) ++ w) ++ x) ++ y) ++ z ≡ u ++ (v ++ (w ++ (x ++ (y ++ z))))
-regroup u v w x y z = simp append-assoc
+regroup : (t u v w x y z : List ℕ) → (((((t ++ u) ++ v) ++ w) ++ x) ++ y) ++ z ≡ t ++ (u ++ (v ++ (w ++ (x ++ (y ++ z)))))
+regroup t u v w x y z = simp append-assoc
 
-module _ (l : List ℕ) (b : Board) (h : length l ≡ 758) where
-  pub state-wrote : {l₁ l₂ l₃ l₄ l₅ : List ℕ} → Wrote l 0 (channelsBytes (b .state .channels)) 560 l₁ → Wrote l₁ 560 (queueBytes (b .state .locks)) 65 l₂
-      → Wrote l₂ 625 (queueBytes (b .state .waiting)) 65 l₃ → Wrote l₃ 690 (openBytes (b .state .opens)) 65 l₄ → l₅ ≡ splice l₄ 755 (keyBytes (b .state .last))
-      → set l₅ 757 (b .width) ≡ imageOf b
+module _ (l : List ℕ) (b : Board) (h : length l ≡ 823) where
+  pub state-wrote : {l₁ l₂ l₃ l₄ l₅ l₆ : List ℕ} → Wrote l 0 (channelsBytes (b .state .channels)) 560 l₁ → Wrote l₁ 560 (queueBytes (b .state .locks)) 65 l₂
+      → Wrote l₂ 625 (queueBytes (b .state .waiters)) 65 l₃ → Wrote l₃ 690 (queueBytes (b .state .waiting)) 65 l₄ → Wrote l₄ 755 (openBytes (b .state .opens)) 65 l₅
+      → l₆ ≡ splice l₅ 820 (keyBytes (b .state .last)) → set l₆ 822 (b .width) ≡ imageOf b
   unfolding imageOf
-  state-wrote {l₁} {l₂} {l₃} {l₄} {l₅} a b′ c d e =
-      let u = channelsBytes (b .state .channels) in
-      let v = queueBytes (b .state .locks) in
+  state-wrote {l₁} {l₂} {l₃} {l₄} {l₅} {l₆} a b′ g c d e =
+      let s = channelsBytes (b .state .channels) in
+      let u = queueBytes (b .state .locks) in
+      let v = queueBytes (b .state .waiters) in
       let w = queueBytes (b .state .waiting) in
       let x = openBytes (b .state .opens) in
       let y = keyBytes (b .state .last) in
       let p = a .size in
       let q = b′ .size in
+      let k = g .size in
       let r = c .size in
       let t = d .size in
-      let uv : length (u ++ v) ≡ 625 = rw length-append (omega arith) in
-      let uvw : length ((u ++ v) ++ w) ≡ 690 = rw length-append (omega arith) in
-      let uvwx : length (((u ++ v) ++ w) ++ x) ≡ 755 = rw length-append (omega arith) in
-      let uvwxy : length ((((u ++ v) ++ w) ++ x) ++ y) ≡ 757 = rw length-append (omega arith) in
-      let all : length (((((u ++ v) ++ w) ++ x) ++ y) ++ b .width ∷ []) ≡ 758 = rw length-append (omega arith) in
-      ap (λ (k : List ℕ). set k 757 (b .width)) e ∙ (rw (d .bytes, c .bytes, b′ .bytes, a .bytes)
+      let su : length (s ++ u) ≡ 625 = rw length-append (omega arith) in
+      let suv : length ((s ++ u) ++ v) ≡ 690 = rw length-append (omega arith) in
+      let suvw : length (((s ++ u) ++ v) ++ w) ≡ 755 = rw length-append (omega arith) in
+      let suvwx : length ((((s ++ u) ++ v) ++ w) ++ x) ≡ 820 = rw length-append (omega arith) in
+      let suvwxy : length (((((s ++ u) ++ v) ++ w) ++ x) ++ y) ≡ 822 = rw length-append (omega arith) in
+      let all : length ((((((s ++ u) ++ v) ++ w) ++ x) ++ y) ++ b .width ∷ []) ≡ 823 = rw length-append (omega arith) in
+      ap (λ (k : List ℕ). set k 822 (b .width)) e ∙ (rw (d .bytes, c .bytes, g .bytes, b′ .bytes, a .bytes)
       (rw (
-        splice-then l 0 u v 560 (omega arith) (omega arith),
-        splice-then l 0 (u ++ v) w 625 (omega arith) (omega arith),
-        splice-then l 0 ((u ++ v) ++ w) x 690 (omega arith) (omega arith),
-        splice-then l 0 (((u ++ v) ++ w) ++ x) y 755 (omega arith) (omega arith),
-        last-byte ((((u ++ v) ++ w) ++ x) ++ y) uvwxy,
-        splice-whole l (((((u ++ v) ++ w) ++ x) ++ y) ++ b .width ∷ []) (omega arith),
+        splice-then l 0 s u 560 (omega arith) (omega arith),
+        splice-then l 0 (s ++ u) v 625 (omega arith) (omega arith),
+        splice-then l 0 ((s ++ u) ++ v) w 690 (omega arith) (omega arith),
+        splice-then l 0 (((s ++ u) ++ v) ++ w) x 755 (omega arith) (omega arith),
+        splice-then l 0 ((((s ++ u) ++ v) ++ w) ++ x) y 820 (omega arith) (omega arith),
+        last-byte (((((s ++ u) ++ v) ++ w) ++ x) ++ y) suvwxy,
+        splice-whole l ((((((s ++ u) ++ v) ++ w) ++ x) ++ y) ++ b .width ∷ []) (omega arith),
       )
-      (regroup u v w x y (b .width ∷ []))))
+      (regroup s u v w x y (b .width ∷ []))))
     where
-      last-byte : (vs : List ℕ) → length vs ≡ 757 → set (splice l 0 vs) 757 (b .width) ≡ splice l 0 (vs ++ b .width ∷ [])
-      last-byte vs k = let z : 757 ≡ 0 + length vs = omega arith in ap (λ (n : ℕ). set (splice l 0 vs) n (b .width)) z ∙ splice-snoc l 0 vs (b .width) (omega arith)
+      last-byte : (vs : List ℕ) → length vs ≡ 822 → set (splice l 0 vs) 822 (b .width) ≡ splice l 0 (vs ++ b .width ∷ [])
+      last-byte vs k = let z : 822 ≡ 0 + length vs = omega arith in ap (λ (n : ℕ). set (splice l 0 vs) n (b .width)) z ∙ splice-snoc l 0 vs (b .width) (omega arith)
 
-pub state-parts : (bs : List ℕ) {cs : List Channel} {p q : Queue} {m : Keys} {n : ℕ} → cs ≡ channelsAt 8 bs 0
-    → p ≡ queueAt bs 560 → q ≡ queueAt bs 625 → m ≡ openAt bs 690 → n ≡ keyAt bs 755
-    → _≡_ {A = Board} (record { width = getD bs 757 0; state = record { channels = cs; locks = p; waiting = q; opens = m; last = n } }) (stateOf bs)
+pub state-parts : (bs : List ℕ) {cs : List Channel} {p r q : Queue} {m : Keys} {n : ℕ} → cs ≡ channelsAt 8 bs 0
+    → p ≡ queueAt bs 560 → r ≡ queueAt bs 625 → q ≡ queueAt bs 690 → m ≡ openAt bs 755 → n ≡ keyAt bs 820
+    → _≡_ {A = Board} (record { width = getD bs 822 0; state = record { channels = cs; locks = p; waiters = r; waiting = q; opens = m; last = n } }) (stateOf bs)
 unfolding stateOf
-state-parts bs e j k m n i = record { width = getD bs 757 0; state = record { channels = e i; locks = j i; waiting = k i; opens = m i; last = n i } }
+state-parts bs e j r k m n i = record { width = getD bs 822 0; state = record { channels = e i; locks = j i; waiters = r i; waiting = k i; opens = m i; last = n i } }

@@ -139,6 +139,9 @@ module _ (b : Board) (z : Sized b) where
   abbrev Q : List ℕ
   Q = queueBytes (b .state .locks)
 
+  abbrev C : List ℕ
+  C = queueBytes (b .state .waiters)
+
   abbrev W : List ℕ
   W = queueBytes (b .state .waiting)
 
@@ -151,7 +154,7 @@ module _ (b : Board) (z : Sized b) where
   abbrev E : List ℕ
   E = b .width ∷ []
 
-  -- what stands before the locks, the waiting requests, the open keys, the last key and the number of channels
+  -- what stands before the locks, the WAITCYCLEs, the waiting requests, the open keys, the last key and the number of channels
   abbrev P4 : List ℕ
   P4 = channelsBytes (b .state .channels)
 
@@ -159,29 +162,35 @@ module _ (b : Board) (z : Sized b) where
   P5 = P4 ++ Q
 
   abbrev P6 : List ℕ
-  P6 = P5 ++ W
+  P6 = P5 ++ C
 
   abbrev P7 : List ℕ
-  P7 = P6 ++ M
+  P7 = P6 ++ W
 
   abbrev P8 : List ℕ
-  P8 = P7 ++ N
+  P8 = P7 ++ M
 
-  at-locks : imageOf b ≡ P4 ++ (Q ++ (W ++ (M ++ (N ++ E))))
+  abbrev P9 : List ℕ
+  P9 = P8 ++ N
+
+  at-locks : imageOf b ≡ P4 ++ (Q ++ (C ++ (W ++ (M ++ (N ++ E)))))
   unfolding imageOf
   at-locks = refl
 
-  at-waiting : imageOf b ≡ P5 ++ (W ++ (M ++ (N ++ E)))
-  at-waiting = at-locks ∙ sym (append-assoc P4 Q _)
+  at-waiters : imageOf b ≡ P5 ++ (C ++ (W ++ (M ++ (N ++ E))))
+  at-waiters = at-locks ∙ sym (append-assoc P4 Q _)
 
-  at-opens : imageOf b ≡ P6 ++ (M ++ (N ++ E))
-  at-opens = at-waiting ∙ sym (append-assoc P5 W _)
+  at-waiting : imageOf b ≡ P6 ++ (W ++ (M ++ (N ++ E)))
+  at-waiting = at-waiters ∙ sym (append-assoc P5 C _)
 
-  at-last : imageOf b ≡ P7 ++ (N ++ E)
-  at-last = at-opens ∙ sym (append-assoc P6 M _)
+  at-opens : imageOf b ≡ P7 ++ (M ++ (N ++ E))
+  at-opens = at-waiting ∙ sym (append-assoc P6 W _)
 
-  at-width : imageOf b ≡ P8 ++ E
-  at-width = at-last ∙ sym (append-assoc P7 N E)
+  at-last : imageOf b ≡ P8 ++ (N ++ E)
+  at-last = at-opens ∙ sym (append-assoc P7 M _)
+
+  at-width : imageOf b ≡ P9 ++ E
+  at-width = at-last ∙ sym (append-assoc P8 N E)
 
   long-4 : length P4 ≡ 560
   long-4 = channels-long (b .state .channels) (z .channels) ∙ ap (λ (n : ℕ). n * 70) (z .eight)
@@ -190,37 +199,41 @@ module _ (b : Board) (z : Sized b) where
   long-5 = length-append P4 Q ∙ ap₂ _+_ long-4 (ap suc (z .locks))
 
   long-6 : length P6 ≡ 690
-  long-6 = length-append P5 W ∙ ap₂ _+_ long-5 (ap suc (z .waiting))
+  long-6 = length-append P5 C ∙ ap₂ _+_ long-5 (ap suc (z .waiters))
 
   long-7 : length P7 ≡ 755
-  long-7 = length-append P6 M ∙ ap₂ _+_ long-6 (ap suc (keys-long (b .state .opens .keys) ∙ ap (λ (n : ℕ). n * 2) (z .opens)))
+  long-7 = length-append P6 W ∙ ap₂ _+_ long-6 (ap suc (z .waiting))
 
-  long-8 : length P8 ≡ 757
-  long-8 = length-append P7 N ∙ ap (λ (x : ℕ). x + 2) long-7
+  long-8 : length P8 ≡ 820
+  long-8 = length-append P7 M ∙ ap₂ _+_ long-7 (ap suc (keys-long (b .state .opens .keys) ∙ ap (λ (n : ℕ). n * 2) (z .opens)))
 
-  image-long : length (imageOf b) ≡ 758
-  image-long = ap length at-width ∙ length-append P8 E ∙ ap (λ (x : ℕ). x + 1) long-8
+  long-9 : length P9 ≡ 822
+  long-9 = length-append P8 N ∙ ap (λ (x : ℕ). x + 2) long-8
+
+  image-long : length (imageOf b) ≡ 823
+  image-long = ap length at-width ∙ length-append P9 E ∙ ap (λ (x : ℕ). x + 1) long-9
 
   -- the bytes of a board hold it
   pub stateOf-imageOf : stateOf (imageOf b) ≡ b
   unfolding stateOf
   stateOf-imageOf =
       let c : channelsAt 8 (imageOf b) 0 ≡ b .state .channels =
-      ap₂ (λ (n : ℕ) (l : List ℕ). channelsAt n l 0) (sym (z .eight)) at-locks ∙ channels-back (Q ++ (W ++ (M ++ (N ++ E)))) (b .state .channels) (z .channels) [] 0 refl in
-      let q = ap (λ (x : List ℕ). queueAt x 560) at-locks ∙ queue-back P4 560 long-4 (W ++ (M ++ (N ++ E))) (b .state .locks) (z .locks) in
-      let w = ap (λ (x : List ℕ). queueAt x 625) at-waiting ∙ queue-back P5 625 long-5 (M ++ (N ++ E)) (b .state .waiting) (z .waiting) in
-      let m = ap (λ (x : List ℕ). openAt x 690) at-opens ∙ open-back P6 690 long-6 (N ++ E) (b .state .opens) (z .opens) in
-      let n = ap (λ (x : List ℕ). keyAt x 755) at-last ∙ key-back P7 755 long-7 E (b .state .last) in
-      let v : getD (imageOf b) 757 0 ≡ b .width = ap (λ (x : List ℕ). getD x 757 0) at-width ∙ first-behind P8 E 757 long-8 in
-      λ i. record { width = v i; state = record { channels = c i; locks = q i; waiting = w i; opens = m i; last = n i } }
+      ap₂ (λ (n : ℕ) (l : List ℕ). channelsAt n l 0) (sym (z .eight)) at-locks ∙ channels-back (Q ++ (C ++ (W ++ (M ++ (N ++ E))))) (b .state .channels) (z .channels) [] 0 refl in
+      let q = ap (λ (x : List ℕ). queueAt x 560) at-locks ∙ queue-back P4 560 long-4 (C ++ (W ++ (M ++ (N ++ E)))) (b .state .locks) (z .locks) in
+      let u = ap (λ (x : List ℕ). queueAt x 625) at-waiters ∙ queue-back P5 625 long-5 (W ++ (M ++ (N ++ E))) (b .state .waiters) (z .waiters) in
+      let w = ap (λ (x : List ℕ). queueAt x 690) at-waiting ∙ queue-back P6 690 long-6 (M ++ (N ++ E)) (b .state .waiting) (z .waiting) in
+      let m = ap (λ (x : List ℕ). openAt x 755) at-opens ∙ open-back P7 755 long-7 (N ++ E) (b .state .opens) (z .opens) in
+      let n = ap (λ (x : List ℕ). keyAt x 820) at-last ∙ key-back P8 820 long-8 E (b .state .last) in
+      let v : getD (imageOf b) 822 0 ≡ b .width = ap (λ (x : List ℕ). getD x 822 0) at-width ∙ first-behind P9 E 822 long-9 in
+      λ i. record { width = v i; state = record { channels = c i; locks = q i; waiters = u i; waiting = w i; opens = m i; last = n i } }
 
   -- the bytes of a board are whole
   pub imageOf-whole : all isByte (imageOf b) ≡ true → Whole (imageOf b)
   unfolding isWhole
   imageOf-whole y =
       let m : allMarks 8 (imageOf b) 0 ≡ true =
-      ap₂ (λ (n : ℕ) (l : List ℕ). allMarks n l 0) (sym (z .eight)) at-locks ∙ channels-marks (Q ++ (W ++ (M ++ (N ++ E)))) (b .state .channels) (z .channels) [] 0 refl in
-      rw (eq-eqb (length (imageOf b)) 758 image-long, m, y) tt
+      ap₂ (λ (n : ℕ) (l : List ℕ). allMarks n l 0) (sym (z .eight)) at-locks ∙ channels-marks (Q ++ (C ++ (W ++ (M ++ (N ++ E))))) (b .state .channels) (z .channels) [] 0 refl in
+      rw (eq-eqb (length (imageOf b)) 823 image-long, m, y) tt
 
 pub saved : (b : Board) {l : List ℕ} → Sized b → l ≡ imageOf b → ((i : ℕ) → getD l i 0 < 256) → Saved b l
 saved b {l} z e h =
@@ -315,14 +328,15 @@ open-part bs y at h = ap (λ (l : List ℕ). getD bs at 0 ∷ l) (keys-part bs y
 pub imageOf-stateOf : (bs : List ℕ) → Whole bs → imageOf (stateOf bs) ≡ bs
 unfolding imageOf stateOf isWhole
 imageOf-stateOf bs w =
-    let t = and-right (eqb (length bs) 758) (allMarks 8 bs 0 && all isByte bs) w in
+    let t = and-right (eqb (length bs) 823) (allMarks 8 bs 0 && all isByte bs) w in
     let y = bytes-each bs (and-right (allMarks 8 bs 0) (all isByte bs) t) in
     let l = whole-long bs w in
     let cs : channelsBytes (channelsAt 8 bs 0) ≡ take 560 (drop 0 bs) = channels-part bs y 8 0 (omega arith) (and-left (allMarks 8 bs 0) (all isByte bs) t) in
     let q = queue-part bs y 560 (omega arith) in
-    let r = queue-part bs y 625 (omega arith) in
-    let m = open-part bs y 690 (omega arith) in
-    let n = key-part bs y 755 (omega arith) in
-    let v : getD bs 757 0 ∷ [] ≡ take 1 (drop 757 bs) = sym (part-cons bs 757 0 (omega arith)) in
-    ap₂ _++_ cs (ap₂ _++_ q (ap₂ _++_ r (ap₂ _++_ m (ap₂ _++_ n v ∙ part-add bs 755 2 1) ∙ part-add bs 690 65 3) ∙ part-add bs 625 65 68) ∙ part-add bs 560 65 133)
-    ∙ part-add bs 0 560 198 ∙ take-all 758 bs (omega arith)
+    let u = queue-part bs y 625 (omega arith) in
+    let r = queue-part bs y 690 (omega arith) in
+    let m = open-part bs y 755 (omega arith) in
+    let n = key-part bs y 820 (omega arith) in
+    let v : getD bs 822 0 ∷ [] ≡ take 1 (drop 822 bs) = sym (part-cons bs 822 0 (omega arith)) in
+    ap₂ _++_ cs (ap₂ _++_ q (ap₂ _++_ u (ap₂ _++_ r (ap₂ _++_ m (ap₂ _++_ n v ∙ part-add bs 820 2 1) ∙ part-add bs 755 65 3) ∙ part-add bs 690 65 68) ∙ part-add bs 625 65 133) ∙ part-add bs 560 65 198)
+    ∙ part-add bs 0 560 263 ∙ take-all 823 bs (omega arith)

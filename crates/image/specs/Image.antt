@@ -1,22 +1,23 @@
--- The state as 758 bytes that a caller keeps: eight channels of 70 bytes from 0 on, the locks at 560, the waiting requests at 625,
--- the open keys at 690, the last key at 755, and at 757 how many channels the board has. One size for both boards: behind four
--- channels of its own a board keeps four that are free. Assumes nothing.
+-- The state as 823 bytes that a caller keeps: eight channels of 70 bytes from 0 on, the locks at 560, the WAITCYCLEs at 625, the
+-- waiting requests at 690, the open keys at 755, the last key at 820, and at 822 how many channels the board has. One size for both
+-- boards: behind four channels of its own a board keeps four that are free. Assumes nothing.
 --
---   CHANNEL, LOCKS, WAITING, OPENS, LAST, CHANNELS, STATE   the size of a channel, where the other parts begin, the size of all
+--   CHANNEL, LOCKS, WAITERS, WAITING, OPENS, LAST, CHANNELS, STATE   the size of a channel, where the other parts begin, the size
+--                         of all
 --   markOf b              a mark as a byte: 1 or 0
 --   keyBytes k            2 bytes, the high one first; keysBytes ks: the bytes of keys, one behind the other
 --   openBytes q           65 bytes: how many keys are open, then 32 keys
 --   queueBytes q          65 bytes: the count, then the 64 ids
 --   channelBytes c        70 bytes: its key, its precedence as it is stored (itself plus 128), its lock mark, its stop mark, its queue
 --   channelsBytes cs      the bytes of channels, one behind the other
---   imageOf b             the 758 bytes of a board
+--   imageOf b             the 823 bytes of a board
 --   keyAt, queueAt, openAt, channelAt bs at   the key, the queue, the open keys, the channel that stand at a place
 --   keysFrom n bs at      n keys from a place on
 --   channelsAt n bs at    n channels from a place on
---   stateOf bs            the board that 758 bytes hold
+--   stateOf bs            the board that 823 bytes hold
 --   isByte b, isMark b    a number that a byte can have; one that a mark can have
 --   marksAt bs at         the two marks of the channel at a place are marks; allMarks n bs at: those of n channels from there on
---   isWhole bs, Whole bs  758 bytes, each below 256, and every mark of theirs is 0 or 1; others hold no struct
+--   isWhole bs, Whole bs  823 bytes, each below 256, and every mark of theirs is 0 or 1; others hold no struct
 --   Wrote l at vs n l′    the n bytes vs were written at a place, and every other byte is as before
 --   Filled q, AllFilled cs, Sized b   a queue, the queues of channels, a struct, of the lengths that the code's types keep
 --   Entered l cs l′       the bytes of eight channels were written in front of a list
@@ -41,20 +42,23 @@ CHANNEL = 70
 abbrev pub LOCKS : ℕ
 LOCKS = 560
 
+abbrev pub WAITERS : ℕ
+WAITERS = 625
+
 abbrev pub WAITING : ℕ
-WAITING = 625
+WAITING = 690
 
 abbrev pub OPENS : ℕ
-OPENS = 690
+OPENS = 755
 
 abbrev pub LAST : ℕ
-LAST = 755
+LAST = 820
 
 abbrev pub CHANNELS : ℕ
-CHANNELS = 757
+CHANNELS = 822
 
 abbrev pub STATE : ℕ
-STATE = 758
+STATE = 823
 
 -- ---- to bytes
 
@@ -85,7 +89,7 @@ unfoldable pub imageOf : Board → List ℕ
 imageOf b =
     let s = b .state in
     channelsBytes (s .channels)
-    ++ (queueBytes (s .locks) ++ (queueBytes (s .waiting) ++ (openBytes (s .opens) ++ (keyBytes (s .last) ++ (b .width ∷ [])))))
+    ++ (queueBytes (s .locks) ++ (queueBytes (s .waiters) ++ (queueBytes (s .waiting) ++ (openBytes (s .opens) ++ (keyBytes (s .last) ++ (b .width ∷ []))))))
 
 -- ---- from bytes
 
@@ -124,6 +128,7 @@ stateOf bs =
           record {
             channels = channelsAt 8 bs 0;
             locks = queueAt bs LOCKS;
+            waiters = queueAt bs WAITERS;
             waiting = queueAt bs WAITING;
             opens = openAt bs OPENS;
             last = keyAt bs LAST;
@@ -163,6 +168,7 @@ pub record Sized (b : Board) : Type 0 where
   pub eight : length (b .state .channels) ≡ 8
   pub channels : AllFilled (b .state .channels)
   pub locks : Filled (b .state .locks)
+  pub waiters : Filled (b .state .waiters)
   pub waiting : Filled (b .state .waiting)
   pub opens : length (b .state .opens .keys) ≡ 32
 

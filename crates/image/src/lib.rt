@@ -1,4 +1,4 @@
-// The state as 758 bytes that a caller keeps: tested (specs/Image.antt has the layout; `loading` reads it, `saving` writes it).
+// The state as 823 bytes that a caller keeps: tested (specs/Image.antt has the layout; `loading` reads it, `saving` writes it).
 // Assumes nothing.
 ghost use mathlib.Core.Path.{_≡_};
 ghost use Prim.Native.Nat.{_+_, _≤_};
@@ -30,7 +30,7 @@ fn all_marked(bytes: &[u8]) -> bool
 pub fn whole(bytes: &[u8]) -> bool
     ensures { λ r. ⌜ r ≡ isWhole (now (bytes .entry)) ⌝ }
 {
-    if bytes.len() != 758 {
+    if bytes.len() != 823 {
         return false;
     }
     all_marked(bytes)

@@ -8,9 +8,9 @@ use native.Mathlib.Omega.{arith}
 use lib.Dec.{T, eqb, leb, ltb, eqb→eq, leb→le, ltb→lt, lt→ltb}
 use lib.ListN.{length, replicate, length-append, length-map}
 use Rattle.machine.specs.Lists.{all}
-use Rattle.machine.specs.State.{State as StateM, Channel as ChannelM, Lock, Request, isFree}
+use Rattle.machine.specs.State.{State as StateM, Write, Channel as ChannelM, Lock, Request, isFree}
 use Rattle.machine.specs.Numbers.{KEYS, ENTRIES}
-use Rattle.machine.specs.Sound.{soundChannel, writesOf, ids, soundOpens}
+use Rattle.machine.specs.Sound.{soundWrites, soundChannel, writesOf, ids, soundOpens}
 use Rattle.machine.proofs.Tests.{by-test, test-true, test-false, and-left, and-right, and-both}
 use Rattle.machine.proofs.Closing.{opens-most}
 use Rattle.machine_laws.proofs.Lists.{all-append}
@@ -104,26 +104,31 @@ channel-fits c t =
     let p = eqb→eq (c .prec) 128 (and-left (eqb (c .prec) 128) (not (c .locked)) (and-left (eqb (c .prec) 128 && not (c .locked)) (not (c .stopped)) (and-left (eqb (c .prec) 128 && not (c .locked) && not (c .stopped)) (eqb (length (c .writes)) 0) u))) in
     (omega arith, omega arith))
     (λ y. let u = rw (test-false (isFree c) y) at t in
-    (leb→le (c .key) 65535 (and-left (leb (c .key) 65535) (leb (c .prec) 255) u), leb→le (c .prec) 255 (and-right (leb (c .key) 65535) (leb (c .prec) 255) u)))
+    let v = and-left (leb (c .key) 65535 && leb (c .prec) 255) (soundWrites (c .writes)) u in
+    (leb→le (c .key) 65535 (and-left (leb (c .key) 65535) (leb (c .prec) 255) v), leb→le (c .prec) 255 (and-right (leb (c .key) 65535) (leb (c .prec) 255) v)))
 
-channel-bytes : (c : ChannelM) → T (soundChannel c) → length (c .writes) ≤ 64 → Ids (c .writes) → Bytes (channelBytes (channelOf c))
+-- the ids of a channel's writes: their numbers stand in the table
+abbrev playing : ChannelM → List ℕ
+playing c = map (λ (w : Write). w .id) (c .writes)
+
+channel-bytes : (c : ChannelM) → T (soundChannel c) → length (playing c) ≤ 64 → Ids (playing c) → Bytes (channelBytes (channelOf c))
 unfolding channelBytes
 channel-bytes c t h i =
     let f = channel-fits c t in
-    let q = queueBytes (queueOf (c .writes)) in
+    let q = queueBytes (queueOf (playing c)) in
     let m = markOf (c .locked) in
     let n = markOf (c .stopped) in
     all-append isByte (keyBytes (c .key)) (c .prec ∷ m ∷ n ∷ q) (key-bytes (c .key) (f .0))
-    (one-byte (c .prec) (m ∷ n ∷ q) (omega arith) (one-byte m (n ∷ q) (mark-byte (c .locked)) (one-byte n q (mark-byte (c .stopped)) (queue-bytes (c .writes) h i))))
+    (one-byte (c .prec) (m ∷ n ∷ q) (omega arith) (one-byte m (n ∷ q) (mark-byte (c .locked)) (one-byte n q (mark-byte (c .stopped)) (queue-bytes (playing c) h i))))
 
 channels-bytes : (cs : List ChannelM) → T (all soundChannel cs) → length (writesOf cs) ≤ 64 → Ids (writesOf cs) → Bytes (channelsBytes (map channelOf cs)) × AllFilled (map channelOf cs)
 unfolding channelsBytes all writesOf
 channels-bytes [] t h i = (tt, tt)
 channels-bytes (c ∷ cs) t h i =
-    let n = length-append (c .writes) (writesOf cs) in
-    let r = channels-bytes cs (and-right (soundChannel c) (all soundChannel cs) t) (omega arith) (ids-right (c .writes) (writesOf cs) i) in
-    let b = channel-bytes c (and-left (soundChannel c) (all soundChannel cs) t) (omega arith) (ids-left (c .writes) (writesOf cs) i) in
-    (all-append isByte (channelBytes (channelOf c)) (channelsBytes (map channelOf cs)) b (r .0), (length-pad (c .writes) (omega arith), r .1))
+    let n = length-append (playing c) (writesOf cs) in
+    let r = channels-bytes cs (and-right (soundChannel c) (all soundChannel cs) t) (omega arith) (ids-right (playing c) (writesOf cs) i) in
+    let b = channel-bytes c (and-left (soundChannel c) (all soundChannel cs) t) (omega arith) (ids-left (playing c) (writesOf cs) i) in
+    (all-append isByte (channelBytes (channelOf c)) (channelsBytes (map channelOf cs)) b (r .0), (length-pad (playing c) (omega arith), r .1))
 
 -- ---- the whole
 
@@ -134,21 +139,26 @@ module _ (s : StateM) (p : Parts s) where
   wide-parts : Parts wide
   wide-parts = own-wide s p
 
-  wide-ids : Ids (writesOf (wide .channels)) × Ids (map (λ (l : Lock). l .id) (s .locks)) × Ids (map (λ (r : Request). r .id) (s .waiting))
+  wide-ids : Ids (writesOf (wide .channels)) × Ids (map (λ (l : Lock). l .id) (s .locks)) × Ids (map (λ (v : Lock). v .id) (s .waiters)) × Ids (map (λ (r : Request). r .id) (s .waiting))
   unfolding ids
   wide-ids =
       let w = writesOf (wide .channels) in
       let l = map (λ (l : Lock). l .id) (s .locks) in
+      let v = map (λ (v : Lock). v .id) (s .waiters) in
       let r = map (λ (r : Request). r .id) (s .waiting) in
       let t = wide-parts .small in
-      let u = ids-left (w ++ l) r t in
-      (ids-left w l u, ids-right w l u, ids-right (w ++ l) r t)
+      let u = ids-left (w ++ l ++ v) r t in
+      let k = ids-left (w ++ l) v u in
+      (ids-left w l k, ids-right w l k, ids-right (w ++ l) v u, ids-right (w ++ l ++ v) r t)
 
-  few : length (writesOf (wide .channels)) + length (s .locks) + length (s .waiting) ≤ 64
+  few : length (writesOf (wide .channels)) + length (s .locks) + length (s .waiters) + length (s .waiting) ≤ 64
   few = ids-few wide wide-parts
 
   few-locks : length (map (λ (l : Lock). l .id) (s .locks)) ≤ 64
   few-locks = let f = few in let e = length-map (s .locks) (λ (l : Lock). l .id) in omega arith
+
+  few-waiters : length (map (λ (v : Lock). v .id) (s .waiters)) ≤ 64
+  few-waiters = let f = few in let e = length-map (s .waiters) (λ (v : Lock). v .id) in omega arith
 
   few-waiting : length (map (λ (r : Request). r .id) (s .waiting)) ≤ 64
   few-waiting = let f = few in let e = length-map (s .waiting) (λ (r : Request). r .id) in omega arith
@@ -162,6 +172,7 @@ module _ (s : StateM) (p : Parts s) where
         eight = length-map (wide .channels) channelOf ∙ own-eight s p;
         channels = parts-channels .1;
         locks = length-pad (map (λ (l : Lock). l .id) (s .locks)) few-locks;
+        waiters = length-pad (map (λ (v : Lock). v .id) (s .waiters)) few-waiters;
         waiting = length-pad (map (λ (r : Request). r .id) (s .waiting)) few-waiting;
         opens = length-keys (s .opens) (opens-most (s .opens) (p .opensOK));
       }
@@ -171,16 +182,18 @@ module _ (s : StateM) (p : Parts s) where
   bytes-of =
       let c = channelsBytes (map channelOf (wide .channels)) in
       let l = queueBytes (queueOf (map (λ (l : Lock). l .id) (s .locks))) in
+      let v = queueBytes (queueOf (map (λ (v : Lock). v .id) (s .waiters))) in
       let w = queueBytes (queueOf (map (λ (r : Request). r .id) (s .waiting))) in
       let o = openBytes (keysOf (s .opens)) in
       let k = keyBytes (s .last) in
       let n = length (s .channels) ∷ [] in
       let m = leb→le (length (s .channels)) 8 (p .most) in
-      all-append isByte c (l ++ (w ++ (o ++ (k ++ n)))) (parts-channels .0)
-      (all-append isByte l (w ++ (o ++ (k ++ n))) (queue-bytes _ few-locks (wide-ids .1))
-      (all-append isByte w (o ++ (k ++ n)) (queue-bytes _ few-waiting (wide-ids .2))
+      all-append isByte c (l ++ (v ++ (w ++ (o ++ (k ++ n))))) (parts-channels .0)
+      (all-append isByte l (v ++ (w ++ (o ++ (k ++ n)))) (queue-bytes _ few-locks (wide-ids .1))
+      (all-append isByte v (w ++ (o ++ (k ++ n))) (queue-bytes _ few-waiters (wide-ids .2))
+      (all-append isByte w (o ++ (k ++ n)) (queue-bytes _ few-waiting (wide-ids .3))
       (all-append isByte o (k ++ n) (open-bytes (s .opens) (p .opensOK))
-      (all-append isByte k n (key-bytes (s .last) (leb→le (s .last) 65535 (p .lastOK))) (one-byte (length (s .channels)) [] (omega arith) no-bytes)))))
+      (all-append isByte k n (key-bytes (s .last) (leb→le (s .last) 65535 (p .lastOK))) (one-byte (length (s .channels)) [] (omega arith) no-bytes))))))
 
   pub saved-of : Saved (structOf s) (imageOf (structOf s))
   saved-of = record { bytes = refl; sized = sized-of; whole = imageOf-whole (structOf s) sized-of (test-true (all isByte (imageOf (structOf s))) bytes-of) }

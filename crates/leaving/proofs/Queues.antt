@@ -13,17 +13,17 @@ use Rattle.queue.proofs.Laws.{listOf-queueOf, removed-of}
 use Rattle.channel.specs.declared.Channel.{Channel}
 use Rattle.channel.specs.Channel.{channelOf}
 use Rattle.machine.specs.Lists.{if_then_else_, any, among, keep, distinct}
-use Rattle.machine.specs.State.{Channel as ChannelM, Request as RequestM, State as StateM}
+use Rattle.machine.specs.State.{Write, Channel as ChannelM, Lock, Request as RequestM, State as StateM}
 use Rattle.machine.specs.Sound.{writesOf, ids}
-use Rattle.machine.specs.Commands.{without}
+use Rattle.machine.specs.Commands.{without, leaving as leavingM}
 use Rattle.machine.proofs.Tests.{by-test, test-true, test-false, eqb-flip, nor-left, nor-right, and-left, and-right}
 use Rattle.machine_laws.proofs.Lists.{Sub, sub-refl, sub-nil, sub-append, sub-distinct}
-use Rattle.machine_laws.proofs.Sound.{Parts}
+use Rattle.machine_laws.proofs.Sound.{Parts, ids-few}
 use Rattle.store.specs.declared.State.{State}
-use Rattle.store.specs.Store.{structOf, stateIn, requestIn, Held, Each}
-use Rattle.store.proofs.Store.{held-parts, held-waiting, waiting-count, ids-few, held-opens}
+use Rattle.store.specs.Store.{structOf, stateIn, lockIn, requestIn, Held, Each}
+use Rattle.store.proofs.Store.{held-parts, held-waiters, held-waiting, waiters-count, waiting-count, held-opens}
 use Rattle.granting.proofs.Laws.{held-channels}
-use Rattle.leaving.specs.Leaving.{others, Tidy, struck, cleaned, leaving, left}
+use Rattle.leaving.specs.Leaving.{others, Tidy, struck, cleaned, leaving}
 
 pub eqb-sym : (m n : ℕ) → eqb m n ≡ eqb n m
 eqb-sym m n =
@@ -119,25 +119,38 @@ tidy-each : (cs : List ChannelM) → length (writesOf cs) ≤ 64 → T (distinct
 unfolding writesOf
 tidy-each [] h d = tt
 tidy-each (c ∷ cs) h d =
-    let e = length-append (c .writes) (writesOf cs) in (
-      tidy-of (c .writes) (omega arith) (sub-distinct (sub-left (c .writes) (writesOf cs)) d),
-      tidy-each cs (omega arith) (sub-distinct (sub-right (c .writes) (writesOf cs)) d),
+    let is = map (λ (w : Write). w .id) (c .writes) in
+    let e = length-append is (writesOf cs) in (
+      tidy-of is (omega arith) (sub-distinct (sub-left is (writesOf cs)) d),
+      tidy-each cs (omega arith) (sub-distinct (sub-right is (writesOf cs)) d),
     )
 
-same-ids : (tb is : List ℕ) → map (λ (r : RequestM). r .id) (map (requestIn tb) is) ≡ is
-same-ids tb [] = refl
-same-ids tb (j ∷ is) = ap (λ (l : List ℕ). j ∷ l) (same-ids tb is)
+same-ids {ℓ} : {A : Type ℓ} (f : ℕ → A) (g : A → ℕ) → ((j : ℕ) → g (f j) ≡ j) → (is : List ℕ) → map g (map f is) ≡ is
+same-ids f g e [] = refl
+same-ids f g e (j ∷ is) = ap₂ _∷_ (e j) (same-ids f g e is)
 
 module _ (s : StateM) (p : Parts s) where
-  pub writes-apart : T (distinct (writesOf (s .channels)))
+  abbrev held : List ℕ
+  held = writesOf (s .channels) ++ map (λ l. l .id) (s .locks)
+
+  abbrev played : List ℕ
+  played = held ++ map (λ w. w .id) (s .waiters)
+
+  played-apart : T (distinct played)
   unfolding ids
+  played-apart = sub-distinct (sub-left played (map (λ r. r .id) (s .waiting))) (p .apart)
+
+  pub writes-apart : T (distinct (writesOf (s .channels)))
   writes-apart =
       sub-distinct (sub-left (writesOf (s .channels)) (map (λ l. l .id) (s .locks)))
-      (sub-distinct (sub-left (writesOf (s .channels) ++ map (λ l. l .id) (s .locks)) (map (λ r. r .id) (s .waiting))) (p .apart))
+      (sub-distinct (sub-left held (map (λ w. w .id) (s .waiters))) played-apart)
+
+  pub waiters-apart : T (distinct (map (λ (w : Lock). w .id) (s .waiters)))
+  waiters-apart = sub-distinct (sub-right held (map (λ w. w .id) (s .waiters))) played-apart
 
   pub waits-apart : T (distinct (map (λ (r : RequestM). r .id) (s .waiting)))
   unfolding ids
-  waits-apart = sub-distinct (sub-right (writesOf (s .channels) ++ map (λ l. l .id) (s .locks)) (map (λ r. r .id) (s .waiting))) (p .apart)
+  waits-apart = sub-distinct (sub-right played (map (λ r. r .id) (s .waiting))) (p .apart)
 
 module _ {st : State} {tb : List ℕ} (h : Held st tb) where
   pub tidy-channels : Each (λ (c : Channel). Tidy (c .writes)) (st .channels)
@@ -146,40 +159,53 @@ module _ {st : State} {tb : List ℕ} (h : Held st tb) where
       let f = ids-few s (held-parts h) in
       subst (Each (λ (c : Channel). Tidy (c .writes))) (sym (held-channels h)) (tidy-each (s .channels) (omega arith) (writes-apart s (held-parts h)))
 
+  pub tidy-waiters : Tidy (st .waiters)
+  tidy-waiters =
+      record {
+        few = waiters-count h .1;
+        lies = held-waiters h;
+        apart = rw (same-ids (lockIn tb) (λ w. w .id) (λ j. refl) (listOf (st .waiters))) at (waiters-apart (stateIn st tb) (held-parts h));
+      }
+
   pub tidy-waiting : Tidy (st .waiting)
   tidy-waiting =
       record {
         few = waiting-count h .1;
         lies = held-waiting h;
-        apart = rw (same-ids tb (listOf (st .waiting))) at (waits-apart (stateIn st tb) (held-parts h));
+        apart = rw (same-ids (requestIn tb) (λ r. r .id) (λ j. refl) (listOf (st .waiting))) at (waits-apart (stateIn st tb) (held-parts h));
       }
 
 -- ---- the struct
 
+-- the other ids are those of the others
+kept-ids {ℓ} : {A : Type ℓ} (f : A → ℕ) (i : ℕ) (xs : List A) → others i (map f xs) ≡ map f (keep (λ x. not (eqb i (f x))) xs)
+unfolding keep
+kept-ids f i [] = refl
+kept-ids {A = A} f i (x ∷ xs) = go (not (eqb i (f x))) (kept-ids f i xs)
+  where
+    go : (b : Bool) → others i (map f xs) ≡ map f (keep (λ y. not (eqb i (f y))) xs)
+        → (if b then f x ∷ others i (map f xs) else others i (map f xs)) ≡ map f (if b then x ∷ keep (λ y. not (eqb i (f y))) xs else keep (λ y. not (eqb i (f y))) xs)
+    go true e = ap (λ (l : List ℕ). f x ∷ l) e
+    go false e = e
+
 cleaned-of : (i : ℕ) (c : ChannelM) → cleaned i (channelOf c) ≡ channelOf (without i c)
 unfolding without
 cleaned-of i c =
-    ap (λ (l : List ℕ). record { key = c .key; prec = c .prec; locked = c .locked; stopped = c .stopped; writes = queueOf (others i l) }) (listOf-queueOf (c .writes))
+    ap (λ (l : List ℕ). record { key = c .key; prec = c .prec; locked = c .locked; stopped = c .stopped; writes = queueOf l })
+    (ap (others i) (listOf-queueOf (map (λ w. w .id) (c .writes))) ∙ kept-ids (λ w. w .id) i (c .writes))
 
 cleaned-all : (i : ℕ) (cs : List ChannelM) → map (cleaned i) (map channelOf cs) ≡ map channelOf (map (without i) cs)
 cleaned-all i [] = refl
 cleaned-all i (c ∷ cs) = ap₂ _∷_ (cleaned-of i c) (cleaned-all i cs)
 
-kept-ids : (i : ℕ) (tb is : List ℕ) → others i is ≡ map (λ (r : RequestM). r .id) (keep (λ (r : RequestM). not (eqb i (r .id))) (map (requestIn tb) is))
-unfolding keep
-kept-ids i tb [] = refl
-kept-ids i tb (j ∷ is) = go (not (eqb i j)) (kept-ids i tb is)
-  where
-    go : (b : Bool) → others i is ≡ map (λ (r : RequestM). r .id) (keep (λ (r : RequestM). not (eqb i (r .id))) (map (requestIn tb) is))
-        → (if b then j ∷ others i is else others i is)
-        ≡ map (λ (r : RequestM). r .id) (if b then requestIn tb j ∷ keep (λ (r : RequestM). not (eqb i (r .id))) (map (requestIn tb) is) else keep (λ (r : RequestM). not (eqb i (r .id))) (map (requestIn tb) is))
-    go true e = ap (λ (l : List ℕ). j ∷ l) e
-    go false e = e
-
-pub leave-struct : {st : State} {tb : List ℕ} (h : Held st tb) (i : ℕ) → leaving i st ≡ structOf (left i (stateIn st tb))
+pub leave-struct : {st : State} {tb : List ℕ} (h : Held st tb) (i : ℕ) → leaving i st ≡ structOf (leavingM i (stateIn st tb))
+unfolding leavingM
 leave-struct {st} {tb} h i =
     let s = stateIn st tb in
     let cs : map (cleaned i) (st .channels) ≡ map channelOf (map (without i) (s .channels)) = ap (map (cleaned i)) (held-channels h) ∙ cleaned-all i (s .channels) in
     let ls = ap (λ (x : State). x .locks) (h .struct) in
-    let ws : struck i (st .waiting) ≡ queueOf (map (λ r. r .id) (left i s .waiting)) = ap queueOf (kept-ids i tb (listOf (st .waiting))) in
-    λ k. record { channels = cs k; locks = ls k; waiting = ws k; opens = held-opens h k; last = st .last }
+    let vs : struck i (st .waiters) ≡ queueOf (map (λ w. w .id) (leavingM i s .waiters)) =
+    ap (λ (l : List ℕ). queueOf (others i l)) (sym (same-ids (lockIn tb) (λ w. w .id) (λ j. refl) (listOf (st .waiters)))) ∙ ap queueOf (kept-ids (λ w. w .id) i (s .waiters)) in
+    let ws : struck i (st .waiting) ≡ queueOf (map (λ r. r .id) (leavingM i s .waiting)) =
+    ap (λ (l : List ℕ). queueOf (others i l)) (sym (same-ids (requestIn tb) (λ r. r .id) (λ j. refl) (listOf (st .waiting)))) ∙ ap queueOf (kept-ids (λ r. r .id) i (s .waiting)) in
+    λ k. record { channels = cs k; locks = ls k; waiters = vs k; waiting = ws k; opens = held-opens h k; last = st .last }

@@ -5,16 +5,13 @@
 --   Tidy q          a queue that lies as its list says, with no id twice
 --   struck i q      the queue without an id
 --   cleaned i c     the channel without the write of an id
---   leaving i s     the struct without a write or a waiting request of an id
---   left i s        the state without a write or a waiting request of an id: what doAbort leaves
+--   leaving i s     the struct without a write, a WAITCYCLE or a waiting request of an id: of the machine's state of that name
 use Prim.Native.Nat.{ℕ, _≤_}
 use mathlib.Core.Path.{_≡_}
 use mathlib.Core.Bool.{not}
 use mathlib.Core.List.{List, map}
 use lib.Dec.{T, eqb}
 use Rattle.machine.specs.Lists.{keep, distinct}
-use Rattle.machine.specs.State.{State as StateM, withChannels, withWaiting}
-use Rattle.machine.specs.Commands.{without}
 use Rattle.queue.specs.declared.Queue.{Queue}
 use Rattle.queue.specs.Queue.{queueOf, listOf}
 use Rattle.channel.specs.declared.Channel.{Channel}
@@ -40,10 +37,8 @@ leaving i s =
     record {
       channels = map (cleaned i) (s .channels);
       locks = s .locks;
+      waiters = struck i (s .waiters);
       waiting = struck i (s .waiting);
       opens = s .opens;
       last = s .last;
     }
-
-abbrev pub left : ℕ → StateM → StateM
-left i s = withWaiting (keep (λ r. not (eqb i (r .id))) (s .waiting)) (withChannels (map (without i) (s .channels)) s)

@@ -1,4 +1,4 @@
-// A state without a write or a waiting request of an id. Assumes nothing.
+// A state without a write, a WAITCYCLE or a waiting request of an id. Assumes nothing.
 use channel::Channel;
 use queue::Queue;
 use store::State;
@@ -45,17 +45,20 @@ fn clean_all(cs: [Channel; 8], id: u8) -> [Channel; 8]
     ds
 }
 
-// The id is in no queue of writes, and does not wait.
+// The id is in no queue of writes, and waits neither for a cycle nor for channels.
 pub fn leave(s: State, id: u8) -> State
-    requires { ⌜ Each (λ c. Tidy (c .writes)) (s .channels) × Tidy (s .waiting) ⌝ }
+    requires { ⌜ Each (λ c. Tidy (c .writes)) (s .channels) × Tidy (s .waiters) × Tidy (s .waiting) ⌝ }
     ensures { λ t. ⌜ t ≡ leaving id s ⌝ }
 {
     let cs = s.channels;
     let ds = clean_all(cs, id);
+    let v = s.waiters;
+    let u = strike(v, id);
     let q = s.waiting;
     let p = strike(q, id);
     let mut t = s;
     t.channels = ds;
+    t.waiters = u;
     t.waiting = p;
     t
 }

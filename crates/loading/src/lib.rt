@@ -1,4 +1,4 @@
-// The state read from the 758 bytes that a caller keeps, which `image` has tested. Assumes nothing.
+// The state read from the 823 bytes that a caller keeps, which `image` has tested. Assumes nothing.
 use board::Board;
 use channel::Channel;
 use open_keys::Keys;
@@ -77,17 +77,19 @@ pub fn load(bytes: &[u8]) -> Board
 {
     let cs = channels_at(bytes);
     let locks = queue_at(bytes, 560);
-    let waiting = queue_at(bytes, 625);
-    let opens = open_at(bytes, 690);
+    let waiters = queue_at(bytes, 625);
+    let waiting = queue_at(bytes, 690);
+    let opens = open_at(bytes, 755);
     let s = State {
         channels: cs,
         locks,
+        waiters,
         waiting,
         opens,
-        last: memory::key_at(bytes, 755),
+        last: memory::key_at(bytes, 820),
     };
     Board {
-        width: bytes[757],
+        width: bytes[822],
         state: s,
     }
 }

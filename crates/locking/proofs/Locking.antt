@@ -25,7 +25,7 @@ use Rattle.channel.specs.declared.Change.the-variants.{Lock}
 use Rattle.channel.specs.declared.Channel.{Channel}
 use Rattle.channel.specs.Channel.{channelOf, changedOf, changeEach, matchingEach}
 use Rattle.store.specs.declared.State.{State}
-use Rattle.store.specs.Store.{Item, lockItem, waitItem, writeItems, items, structOf, tableOf, stateIn, Held}
+use Rattle.store.specs.Store.{Item, lockItem, waiterItem, waitItem, writeItems, items, structOf, tableOf, stateIn, Held}
 use Rattle.store.specs.Work.{Ready, Did}
 use Rattle.store.proofs.Table.{Ins, ins-left, ins-right, ins-at, table-add}
 use Rattle.store.proofs.Store.{held-parts, keys-items, long-items, short-waits, held-opens}
@@ -46,7 +46,7 @@ unfolding ids
 few i s p b n =
     let h : length (i ∷ ids s) ≤ 64 = pigeon 64 (i ∷ ids s) (unfold distinct in and-both (not (among i (ids s))) (distinct (ids s)) n (p .apart))
     (unfold all in and-both (ltb i 64) (all (λ j. ltb j 64) (ids s)) (lt→ltb i 64 b) (p .small)) in
-    let g : length (ids s) ≡ length (writesOf (s .channels)) + length (s .locks) + length (s .waiting) = unfold ids in simp (length-append, length-map) in
+    let g : length (ids s) ≡ length (writesOf (s .channels)) + length (s .locks) + length (s .waiters) + length (s .waiting) = unfold ids in simp (length-append, length-map) in
     omega arith
 
 split-map : (xs ys : List LockM) → map lockItem (xs ++ ys) ≡ map lockItem xs ++ map lockItem ys
@@ -62,13 +62,14 @@ unfolding items
 lock-ins r s =
     let W = writeItems (s .channels) in
     let L = map lockItem (s .locks) in
+    let C = map waiterItem (s .waiters) in
     let Q = map waitItem (s .waiting) in
     let x = lockItem (lockOf r) in
     let e : writeItems (change setLock (r .map) (s .channels)) ≡ W = marked-items setLock (λ c. (refl, refl)) (r .map) (s .channels) in
     let f : map lockItem (s .locks ++ lockOf r ∷ []) ≡ L ++ x ∷ [] = split-map (s .locks) (lockOf r ∷ []) in
     let g : L ++ [] ≡ L = mathlib.Core.List.append-nil L in
     let a : Ins x (L ++ []) (L ++ x ∷ []) = ins-at x L [] in
-    rw (e, f) (ins-right Q (ins-left W (rw g at a)))
+    rw (e, f) (ins-right Q (ins-right C (ins-left W (rw g at a))))
 
 module _ {st : State} {tb : List ℕ} (r : Request) (h : Held st tb) (b : r .id < 64) (n : T (not (among (r .id) (ids (stateIn st tb))))) where
   pub lock-room : st .locks .n < 64
@@ -86,7 +87,7 @@ module _ {st : State} {tb : List ℕ} (r : Request) (h : Held st tb) (b : r .id 
       ∙ table-add (lock-ins r s) b (rw (keys-items s) n) (long-items (lockedBy r s) (short-waits (s .channels) (s .waiting) (held-parts h .waitingOK)))
 
   pub lock-struct : {q : Queue} {ds : List Channel} → ds ≡ changeEach (changedOf Lock) (r .map) (st .channels) → q ≡ pushed (st .locks) (r .id)
-      → record { channels = ds; locks = q; waiting = st .waiting; opens = st .opens; last = st .last } ≡ structOf (lockedBy r (stateIn st tb))
+      → record { channels = ds; locks = q; waiters = st .waiters; waiting = st .waiting; opens = st .opens; last = st .last } ≡ structOf (lockedBy r (stateIn st tb))
   lock-struct {q} {ds} u p =
       let s = stateIn st tb in
       let is = map (λ (y : LockM). y .id) (s .locks) in
@@ -95,8 +96,9 @@ module _ {st : State} {tb : List ℕ} (r : Request) (h : Held st tb) (b : r .id 
       let k : length is < 64 = rw (length-map (s .locks) (λ (y : LockM). y .id)) (few (r .id) s (held-parts h) b n) in
       let g : q ≡ queueOf (map (λ (y : LockM). y .id) (s .locks ++ lockOf r ∷ [])) =
       p ∙ ap (λ (y : Queue). pushed y (r .id)) o ∙ pushed-of is (r .id) k ∙ ap queueOf (sym (ids-more (s .locks) (lockOf r))) in
+      let v : st .waiters ≡ queueOf (map (λ y. y .id) (s .waiters)) = ap (λ (y : State). y .waiters) (h .struct) in
       let z : st .waiting ≡ queueOf (map (λ y. y .id) (s .waiting)) = ap (λ (y : State). y .waiting) (h .struct) in
-      λ i. record { channels = c i; locks = g i; waiting = z i; opens = held-opens h i; last = st .last }
+      λ i. record { channels = c i; locks = g i; waiters = v i; waiting = z i; opens = held-opens h i; last = st .last }
 
 -- ---- LOCK
 

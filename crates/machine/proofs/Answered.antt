@@ -7,15 +7,15 @@ use mathlib.Core.Bool.{Bool, true, false, not, true≢false}
 use mathlib.Core.List.{List, _++_}
 use lib.Dec.{T, eqb, leb}
 use lib.ListN.{length}
-use Rattle.machine.specs.Numbers.{nowait, NOALLOCATION, NONE, NOROOM, CMD·READ}
+use Rattle.machine.specs.Numbers.{nowait, synced, NOALLOCATION, NONE, NOROOM, CMD·READ}
 use Rattle.machine.specs.Lists.{if_then_else_}
 use Rattle.machine.specs.State.{State, Reply, Answer, Outcome, Call, Op, OPEN, CLOSE, ABORT, EVENT, COMMAND}
 use Rattle.machine.specs.Maps.{lowest, at}
 use Rattle.machine.specs.Choosing.{Look, fails, held, grants, look}
 use Rattle.machine.specs.Granting.{newKey, keyFor}
-use Rattle.machine.specs.Commands.{matches, mismatch, playing, done, pending, silent, finished, each, eachChange, doFree, doLock, doRead, doWrite, doEvent, doClose, doAbort, abortedWrites, abortedWaits}
+use Rattle.machine.specs.Commands.{matches, mismatch, playing, done, pending, silent, finished, each, eachChange, doFree, doFinish, doPervol, doLock, doRead, doWrite, doWaitcycle, doEvent, doClose, doAbort, abortedBy}
 use Rattle.machine.specs.Allocating.{waits, allocating, doAllocate, opening, doOpen}
-use Rattle.machine.specs.Kinds.{Kind, RESET, READ, WRITE, UPDATE, CLEAR, STOP, START, FLUSH, FREE, SETPREC, LOCK, ALLOCATE, UNKNOWN, kind, unknown}
+use Rattle.machine.specs.Kinds.{Kind, RESET, READ, WRITE, UPDATE, CLEAR, STOP, START, FLUSH, FREE, SETPREC, FINISH, PERVOL, LOCK, WAITCYCLE, ALLOCATE, UNKNOWN, kind, unknown}
 use Rattle.machine.specs.Bytes.{number}
 use Rattle.machine.specs.Refusals.{Refusal, accepted, refused, refusal, refuse}
 use Rattle.machine.specs.Call.{perform, settling, openSettling, accept, answering, call}
@@ -62,7 +62,7 @@ module _ (n : ℕ) (c : Call) (s : State) where
   allocating-answered (grants m) = plain 0 m (keyFor (c .key) s) (granted-key (c .key) s)
 
   perform-answered : (k : Kind) → (k ≡ READ → n ≡ CMD·READ) → Answered (COMMAND n) c s (perform k c s .answer)
-  unfolding perform eachChange doFree doLock doRead doWrite doAllocate finished silent
+  unfolding perform eachChange doFree doFinish doPervol doLock doRead doWrite doWaitcycle doAllocate finished silent
   perform-answered RESET h = each-answered _ _ _
   perform-answered READ h =
       let m = lowest (length (s .channels)) (c .map) in
@@ -79,10 +79,18 @@ module _ (n : ℕ) (c : Call) (s : State) where
   perform-answered FLUSH h = each-answered _ _ _
   perform-answered FREE h = each-answered _ _ _
   perform-answered SETPREC h = each-answered _ _ _
+  perform-answered FINISH h =
+      if-elim (λ (o : Outcome). Answered (COMMAND n) c s (o .answer)) (synced (c .flags)) (λ _. each-answered _ _ _) (λ _. each-answered _ _ _)
+  perform-answered PERVOL h = each-answered _ _ _
   perform-answered LOCK h =
       if-elim (λ (o : Outcome). Answered (COMMAND n) c s (o .answer)) (mismatch (c .key) (c .map) (s .channels))
       (λ _. given _ _)
       (λ _. if-elim (λ (o : Outcome). Answered (COMMAND n) c s (o .answer)) (eqb (c .map) 0) (λ _. given _ _) (λ _. waiting))
+  perform-answered WAITCYCLE h =
+      let m = lowest (length (s .channels)) (c .map) in
+      if-elim (λ (o : Outcome). Answered (COMMAND n) c s (o .answer)) (not (matches (c .key) (at m (s .channels))))
+      (λ _. given _ _)
+      (λ _. if-elim (λ (o : Outcome). Answered (COMMAND n) c s (o .answer)) (playing (at m (s .channels))) (λ _. waiting) (λ _. given _ _))
   perform-answered ALLOCATE h = allocating-answered (look (c .prec) (c .combos) (s .channels))
   perform-answered UNKNOWN h = given _ _
 
@@ -120,7 +128,7 @@ accept-answered ABORT c s =
     record {
       outstanding = λ q. absurd (true≢false (sym q));
       key = inl refl;
-      last = inr (refl, mark (eqb (length (abortedWrites (c .id) (s .channels) ++ abortedWaits (c .id) (s .waiting))) 0));
+      last = inr (refl, mark (eqb (length (abortedBy (c .id) s)) 0));
       map = refl;
     }
 accept-answered EVENT c s = event-answered (playing (at (lowest (length (s .channels)) (c .map)) (s .channels))) c s _ _ _ _ _

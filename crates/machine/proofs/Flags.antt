@@ -1,18 +1,18 @@
--- Why a flag bit without a meaning changes nothing: a call reads its flags by `quick` and `nowait` alone.
+-- Why a flag bit without a meaning changes nothing: a call reads its flags by `quick`, `nowait` and `synced` alone.
 -- Assumes nothing.
 use Prim.Native.Nat.{ℕ, _/_, _%_}
 use mathlib.Core.Path.{_≡_, refl, ap, _∙_}
 use mathlib.Core.Bool.{Bool, true, false}
 use mathlib.Core.List.{List}
 use lib.Dec.{eqb}
-use Rattle.machine.specs.Numbers.{quick, nowait}
+use Rattle.machine.specs.Numbers.{quick, nowait, synced}
 use Rattle.machine.specs.Lists.{if_then_else_}
 use Rattle.machine.specs.State.{State, Reply, Answer, Outcome, Call, Op, OPEN, CLOSE, ABORT, EVENT, COMMAND}
 use Rattle.machine.specs.Choosing.{Look, fails, held, grants, look}
-use Rattle.machine.specs.Commands.{finished, silent, each, eachChange, doFree, doLock, doRead, doWrite, doEvent, doClose, doAbort}
+use Rattle.machine.specs.Commands.{finished, silent, each, eachChange, doFree, doFinish, doPervol, doLock, doRead, doWrite, doWaitcycle, doEvent, doClose, doAbort}
 use Rattle.machine.specs.Allocating.{waits, allocating, doAllocate, opening, doOpen}
-use Rattle.machine.specs.Kinds.{Kind, RESET, READ, WRITE, UPDATE, CLEAR, STOP, START, FLUSH, FREE, SETPREC, LOCK, ALLOCATE, UNKNOWN, kind}
-use Rattle.machine.specs.Refusals.{Refusal, accepted, refused, badList, badMaps, badMap, refusal, refuse}
+use Rattle.machine.specs.Kinds.{Kind, RESET, READ, WRITE, UPDATE, CLEAR, STOP, START, FLUSH, FREE, SETPREC, FINISH, PERVOL, LOCK, WAITCYCLE, ALLOCATE, UNKNOWN, kind}
+use Rattle.machine.specs.Refusals.{Refusal, accepted, refused, badList, badMaps, badMap, badNumbers, refusal, refuse}
 use Rattle.machine.specs.Call.{perform, accept, answering, call}
 
 abbrev pub withFlags : ℕ → Call → Call
@@ -21,14 +21,14 @@ withFlags f c =
 
 -- no refusal reads a flag
 refusal-flagged : (o : Op) (f : ℕ) (c : Call) (s : State) → refusal o (withFlags f c) s ≡ refusal o c s
-unfolding refusal badList badMaps badMap
+unfolding refusal badList badMaps badMap badNumbers
 refusal-flagged OPEN f c s = refl
 refusal-flagged CLOSE f c s = refl
 refusal-flagged ABORT f c s = refl
 refusal-flagged EVENT f c s = refl
 refusal-flagged (COMMAND n) f c s = refl
 
-module _ (f : ℕ) (c : Call) (q : quick f ≡ quick (c .flags)) (w : nowait f ≡ nowait (c .flags)) where
+module _ (f : ℕ) (c : Call) (q : quick f ≡ quick (c .flags)) (w : nowait f ≡ nowait (c .flags)) (y : synced f ≡ synced (c .flags)) where
   finished-flagged : (n : ℕ) (a : Answer) (rs : List Reply) (s : State) → finished n (withFlags f c) a rs s ≡ finished n c a rs s
   unfolding finished
   finished-flagged n a rs s = rw q refl
@@ -54,7 +54,7 @@ module _ (f : ℕ) (c : Call) (q : quick f ≡ quick (c .flags)) (w : nowait f �
   opening-flagged (grants m) s = refl
 
   perform-flagged : (k : Kind) (s : State) → perform k (withFlags f c) s ≡ perform k c s
-  unfolding perform eachChange each doFree doLock doRead doWrite doAllocate finished
+  unfolding perform eachChange each doFree doFinish doPervol doLock doRead doWrite doWaitcycle doAllocate finished
   perform-flagged RESET s = rw q refl
   perform-flagged READ s = rw q refl
   perform-flagged WRITE s = rw q refl
@@ -65,7 +65,10 @@ module _ (f : ℕ) (c : Call) (q : quick f ≡ quick (c .flags)) (w : nowait f �
   perform-flagged FLUSH s = rw q refl
   perform-flagged FREE s = rw q refl
   perform-flagged SETPREC s = rw q refl
+  perform-flagged FINISH s = rw (q, y) refl
+  perform-flagged PERVOL s = rw (q, y) refl
   perform-flagged LOCK s = rw q refl
+  perform-flagged WAITCYCLE s = rw q refl
   perform-flagged ALLOCATE s = allocating-flagged (look (c .prec) (c .combos) (s .channels)) s
   perform-flagged UNKNOWN s = refl
 
@@ -82,10 +85,11 @@ module _ (f : ℕ) (c : Call) (q : quick f ≡ quick (c .flags)) (w : nowait f �
   answering-flagged accepted s = accept-flagged (c .op) s
   answering-flagged (refused e) s = refuse-flagged (c .op) e s
 
--- "Flag bits without a meaning here are ignored": where QUICK (1) and NOWAIT (64) stand alike, so does all that a call comes to
+-- "Flag bits without a meaning here are ignored": where QUICK (1), NOWAIT (64) and SYNCCYCLE (32) stand alike, so does all that a
+-- call comes to
 pub other-flags-ignored : (s : State) (c : Call) (f : ℕ) → f % 2 ≡ c .flags % 2 → f / 64 % 2 ≡ c .flags / 64 % 2
-    → call s (withFlags f c) ≡ call s c
-unfolding call quick nowait
-other-flags-ignored s c f p q =
+    → f / 32 % 2 ≡ c .flags / 32 % 2 → call s (withFlags f c) ≡ call s c
+unfolding call quick nowait synced
+other-flags-ignored s c f p q y =
     ap (λ (r : Refusal). answering r (withFlags f c) s) (refusal-flagged (c .op) f c s)
-    ∙ answering-flagged f c (ap (λ (n : ℕ). eqb n 1) p) (ap (λ (n : ℕ). eqb n 1) q) (refusal (c .op) c s) s
+    ∙ answering-flagged f c (ap (λ (n : ℕ). eqb n 1) p) (ap (λ (n : ℕ). eqb n 1) q) (ap (λ (n : ℕ). eqb n 1) y) (refusal (c .op) c s) s

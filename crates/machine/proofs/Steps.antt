@@ -3,22 +3,24 @@
 -- Assumes nothing.
 use Prim.Native.Nat.{ℕ, zero, suc, _^_, _≤_, _<_}
 use mathlib.Core.Path.{_≡_, refl, ap, subst, sym, _∙_}
-use mathlib.Core.Logic.{_↔_}
+use mathlib.Core.Logic.{_⊎_, inl, inr, _↔_}
 use mathlib.Core.Bool.{Bool, true, false, not, _&&_, _||_}
 use mathlib.Core.List.{List, [], _∷_, map}
-use borrow.Author.Tests.{lt-ltb, le-ltb, lt-leb}
+use borrow.Author.Tests.{lt-ltb, le-ltb, le-leb, lt-leb}
 use native.Mathlib.Omega.{arith}
-use lib.Dec.{T, T-not, not-T, eqb, leb, ltb, eqb→eq, eqb-refl, eqb·suc-zero, nltb→le, nleb→lt, ltb→lt}
+use lib.Dec.{T, T-not, not-T, eqb, leb, ltb, eqb→eq, eqb-refl, eqb·suc-zero, nltb→le, nleb→lt, ltb→lt, leb→le}
 use lib.ListN.{length}
-use Rattle.machine.specs.Numbers.{OPENFAIL, NOCMD, BADLENGTH, BADADDRESS, UNSOUND, NOTOPEN, INUSE, BADID, NOROOM, REQUESTS, ENTRIES, COMBOS, ADCMD·ALLOCATE}
+use Rattle.machine.specs.Numbers.{OPENFAIL, NOCMD, BADLENGTH, BADADDRESS, UNSOUND, NOTOPEN, INUSE, BADID, NOROOM, REQUESTS, ENTRIES, COMBOS, CMD·WRITE, ADCMD·PERVOL, ADCMD·ALLOCATE}
 use Rattle.machine.specs.Lists.{if_then_else_, any, all, among}
 use Rattle.machine.specs.State.{State, Call, Op, OPEN, CLOSE, ABORT, EVENT, COMMAND}
+use Rattle.machine.specs.Commands.{periodIn, volumeIn}
 use Rattle.machine.specs.Sound.{sound, ids}
-use Rattle.machine.specs.Kinds.{Kind, kind, unknown, allocates}
-use Rattle.machine.specs.Refusals.{Refusal, accepted, refused, first, badList, badMaps, badMap, refusal}
-use Rattle.machine.specs.Steps.{Listed, Mapped, Reads, Passes, steps}
+use Rattle.machine.specs.Kinds.{Kind, kind, unknown, allocates, carries}
+use Rattle.machine.specs.Refusals.{Refusal, accepted, refused, first, badList, badMaps, badMap, badNumbers, refusal}
+use Rattle.machine.specs.Steps.{Listed, Mapped, Reads, Carried, Carries, Passes, steps}
 use Rattle.machine.specs.Bytes.{listed}
-use Rattle.machine.proofs.Known.{unknown-unless-listed, allocates-alone}
+use Rattle.machine.proofs.Known.{unknown-unless-listed, allocates-alone, carries-two}
+use Rattle.machine.proofs.Tests.{and-left, and-right, and-both}
 
 -- ---- first
 
@@ -142,6 +144,86 @@ reads false n c s e =
       λ r. (tt, mapped c s .1 (r .1 other)),
     )
 
+-- a number that a test finds
+is : (m n : ℕ) → T (eqb m n) ↔ (m ≡ n)
+is m n = (eqb→eq m n, λ e. rw e (eqb-refl n))
+
+either : (a b : Bool) → T (a || b) ↔ (T a ⊎ T b)
+either true b = (λ t. inl tt, λ t. tt)
+either false b = (λ t. inr t, λ t. or-of t)
+  where
+    or-of : ⊥ ⊎ T b → T b
+    or-of (inl u) = absurd u
+    or-of (inr u) = u
+
+upTo : (m n : ℕ) → T (leb m n) ↔ (m ≤ n)
+upTo m n = (leb→le m n, λ h. rw (le-leb m n h) tt)
+
+-- neither test is met: the length and the range are as they should be
+sized : (c : Call) → T (not (badNumbers c)) ↔ Carried c
+unfolding badNumbers
+sized c = (
+  λ t. let n = neither (not l) (not r) t in
+      let ranges = not-not r .0 (n .1) in
+      let p = and-left (leb 124 p0 && leb p0 65536) (leb v0 64) ranges in (
+        lengths .0 (not-not l .0 (n .0)),
+        upTo 124 p0 .0 (and-left (leb 124 p0) (leb p0 65536) p),
+        upTo p0 65536 .0 (and-right (leb 124 p0) (leb p0 65536) p),
+        upTo v0 64 .0 (and-right (leb 124 p0 && leb p0 65536) (leb v0 64) ranges),
+      ),
+  λ h. both (not l) (not r) (not-not l .1 (lengths .1 (h .0)))
+      (not-not r .1
+      (and-both (leb 124 p0 && leb p0 65536) (leb v0 64) (and-both (leb 124 p0) (leb p0 65536) (upTo 124 p0 .1 (h .1)) (upTo p0 65536 .1 (h .2)))
+      (upTo v0 64 .1 (h .3)))),
+)
+  where
+    p0 : ℕ
+    p0 = periodIn (c .combos)
+
+    v0 : ℕ
+    v0 = volumeIn (c .combos)
+
+    l : Bool
+    l = eqb (length (c .combos)) 0 || eqb (length (c .combos)) 6
+
+    r : Bool
+    r = leb 124 p0 && leb p0 65536 && leb v0 64
+
+    neither : (a b : Bool) → T (not (a || b)) → T (not a) × T (not b)
+    neither true b t = absurd t
+    neither false b t = (tt, t)
+
+    both : (a b : Bool) → T (not a) → T (not b) → T (not (a || b))
+    both true b t u = t
+    both false b t u = u
+
+    lengths : T l ↔ ((length (c .combos) ≡ 0) ⊎ (length (c .combos) ≡ 6))
+    lengths = (
+      λ t. to (either (eqb (length (c .combos)) 0) (eqb (length (c .combos)) 6) .0 t),
+      λ h. either (eqb (length (c .combos)) 0) (eqb (length (c .combos)) 6) .1 (fro h),
+    )
+      where
+        to : T (eqb (length (c .combos)) 0) ⊎ T (eqb (length (c .combos)) 6) → (length (c .combos) ≡ 0) ⊎ (length (c .combos) ≡ 6)
+        to (inl t) = inl (is _ 0 .0 t)
+        to (inr t) = inr (is _ 6 .0 t)
+
+        fro : (length (c .combos) ≡ 0) ⊎ (length (c .combos) ≡ 6) → T (eqb (length (c .combos)) 0) ⊎ T (eqb (length (c .combos)) 6)
+        fro (inl e) = inl (is _ 0 .1 e)
+        fro (inr e) = inr (is _ 6 .1 e)
+
+-- WRITE and PERVOL read their numbers, no other command does
+carried : (b : Bool) (n : ℕ) (c : Call) → b ≡ (eqb n CMD·WRITE || eqb n ADCMD·PERVOL) → T (not (b && badNumbers c)) ↔ Carries n c
+carried true n c e = (λ t. λ _. sized c .0 t, λ h. sized c .1 (h (one (either (eqb n 3) (eqb n 12) .0 (subst (λ (b : Bool). T b) e tt)))))
+  where
+    one : T (eqb n 3) ⊎ T (eqb n 12) → (n ≡ CMD·WRITE) ⊎ (n ≡ ADCMD·PERVOL)
+    one (inl t) = inl (eqb→eq n 3 t)
+    one (inr t) = inr (eqb→eq n 12 t)
+carried false n c e = (λ t. λ h. absurd (other h), λ h. tt)
+  where
+    other : (n ≡ CMD·WRITE) ⊎ (n ≡ ADCMD·PERVOL) → ⊥
+    other (inl q) = subst (λ (b : Bool). T b) (sym (e ∙ ap (λ (m : ℕ). eqb m 3 || eqb m 12) q)) tt
+    other (inr q) = subst (λ (b : Bool). T b) (sym (e ∙ ap (λ (m : ℕ). eqb m 3 || eqb m 12) q)) tt
+
 -- ---- accepted
 
 -- a call is accepted exactly if it passes the steps that concern it
@@ -181,8 +263,9 @@ accepted-exactly (COMMAND n) c s = (
     some (length (s .opens)) .0 (f .1 .1 .1 .1 .0),
     known n .0 (f .1 .1 .1 .1 .1 .0),
     reads (allocates (kind n)) n c s (allocates-alone n) .0 (f .1 .1 .1 .1 .1 .1 .0, f .1 .1 .1 .1 .1 .1 .1 .0),
+    carried (carries (kind n)) n c (carries-two n) .0 (f .1 .1 .1 .1 .1 .1 .1 .1 .0),
   ),
   λ p. let r = reads (allocates (kind n)) n c s (allocates-alone n) .1 (p .6) in
       none-first _
-      (not-not (sound s) .1 (p .0), (enough (c .room) REQUESTS .1 (p .1), (enough 63 (c .id) .1 (p .2), (p .3, (some (length (s .opens)) .1 (p .4), (known n .1 (p .5), (r .0, (r .1, tt)))))))),
+      (not-not (sound s) .1 (p .0), (enough (c .room) REQUESTS .1 (p .1), (enough 63 (c .id) .1 (p .2), (p .3, (some (length (s .opens)) .1 (p .4), (known n .1 (p .5), (r .0, (r .1, (carried (carries (kind n)) n c (carries-two n) .1 (p .7), tt))))))))),
 )

@@ -1,21 +1,25 @@
 -- Document 01, "Numbers a caller can get back": which steps of the order concern each operation, and what a call must meet to be
 -- accepted. "Order: 1, 5, 4, 3, 2, -3, -4, -5, then -1 for OPEN, .. Steps that don't concern a call are skipped: OPEN, CLOSE and
 -- the event carry no id; OPEN, ABORT and the event don't need an open device; ABORT isn't refused for an outstanding id."
--- Document 02, #105: "OPEN at 32 entries gets -1"; "CLOSE .. gets 2 if there is none".
+-- Document 02, #105: "OPEN at 32 entries gets -1"; "CLOSE .. gets 2 if there is none". #101: for WRITE and PERVOL -4, "checked after
+-- -5".
 -- Assumes nothing.
 --
 --   steps o         the numbers with which the operation may be refused, in their order
 --   Passes o c s    what an accepted call meets, without a walk over tests
 --   Reads n c s     what a command reads besides: ALLOCATE its combinations, any other its map
+--   Carried c       a cycle count, period and volume of length 0 or 6, in range; Carries n c: where the command carries them
 use Prim.Native.Nat.{ℕ, _^_, _≤_, _<_}
 use mathlib.Core.Path.{_≡_}
 use mathlib.Core.Bool.{not}
+use mathlib.Core.Logic.{_⊎_}
 use mathlib.Core.List.{List, [], _∷_}
 use lib.Dec.{T, ltb}
 use lib.ListN.{length}
-use Rattle.machine.specs.Numbers.{OPENFAIL, NOCMD, BADLENGTH, BADADDRESS, UNSOUND, NOTOPEN, INUSE, BADID, NOROOM, REQUESTS, COMBOS, ENTRIES, ADCMD·ALLOCATE}
+use Rattle.machine.specs.Numbers.{OPENFAIL, NOCMD, BADLENGTH, BADADDRESS, UNSOUND, NOTOPEN, INUSE, BADID, NOROOM, REQUESTS, COMBOS, ENTRIES, CMD·WRITE, ADCMD·PERVOL, ADCMD·ALLOCATE}
 use Rattle.machine.specs.Lists.{among, all}
 use Rattle.machine.specs.State.{State, Call, Op, OPEN, CLOSE, ABORT, EVENT, COMMAND}
+use Rattle.machine.specs.Commands.{periodIn, volumeIn}
 use Rattle.machine.specs.Sound.{sound, ids}
 use Rattle.machine.specs.Bytes.{listed}
 
@@ -24,7 +28,7 @@ steps OPEN = UNSOUND ∷ NOROOM ∷ BADLENGTH ∷ BADADDRESS ∷ OPENFAIL ∷ []
 steps CLOSE = UNSOUND ∷ NOROOM ∷ NOTOPEN ∷ []
 steps ABORT = UNSOUND ∷ NOROOM ∷ BADID ∷ []
 steps EVENT = UNSOUND ∷ NOROOM ∷ BADADDRESS ∷ []
-steps (COMMAND n) = UNSOUND ∷ NOROOM ∷ BADID ∷ INUSE ∷ NOTOPEN ∷ NOCMD ∷ BADLENGTH ∷ BADADDRESS ∷ []
+steps (COMMAND n) = UNSOUND ∷ NOROOM ∷ BADID ∷ INUSE ∷ NOTOPEN ∷ NOCMD ∷ BADLENGTH ∷ BADADDRESS ∷ BADLENGTH ∷ []
 
 -- "at most 16 combinations", each on the board
 abbrev pub Listed : Call → State → Type 0
@@ -37,6 +41,15 @@ Mapped c s = c .map < 2 ^ length (s .channels)
 abbrev pub Reads : ℕ → Call → State → Type 0
 Reads n c s = (n ≡ ADCMD·ALLOCATE → Listed c s) × ((n ≡ ADCMD·ALLOCATE → ⊥) → Mapped c s)
 
+-- #101: "For WRITE and PERVOL any other n, a period outside 124 to 65,536 or a volume above 64 gets -4"
+abbrev pub Carried : Call → Type 0
+Carried c =
+    ((length (c .combos) ≡ 0) ⊎ (length (c .combos) ≡ 6))
+    × (124 ≤ periodIn (c .combos)) × (periodIn (c .combos) ≤ 65536) × (volumeIn (c .combos) ≤ 64)
+
+abbrev pub Carries : ℕ → Call → Type 0
+Carries n c = (n ≡ CMD·WRITE) ⊎ (n ≡ ADCMD·PERVOL) → Carried c
+
 unfoldable pub Passes : Op → Call → State → Type 0
 Passes OPEN c s = T (sound s) × (REQUESTS ≤ c .room) × Listed c s × (length (s .opens) < ENTRIES)
 Passes CLOSE c s = T (sound s) × (REQUESTS ≤ c .room) × T (among (c .key) (s .opens))
@@ -44,4 +57,4 @@ Passes ABORT c s = T (sound s) × (REQUESTS ≤ c .room) × (c .id ≤ 63)
 Passes EVENT c s = T (sound s) × (REQUESTS ≤ c .room) × Mapped c s
 Passes (COMMAND n) c s =
     T (sound s) × (REQUESTS ≤ c .room) × (c .id ≤ 63) × T (not (among (c .id) (ids s))) × (0 < length (s .opens)) × T (among n listed)
-    × Reads n c s
+    × Reads n c s × Carries n c

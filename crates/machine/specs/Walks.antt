@@ -4,9 +4,11 @@
 --
 --   Vector, vector      a state, a call and the outcome
 --   Computes vs         each call, on its state, gives the outcome beside it
---   chan, lock, wait    a channel (key, precedence + 128, locked, stopped, writes), a lock (id, key, map), a waiting
+--   plays, cuts, tunes, both   a write (id, cycles, period, volume), with nothing remembered, with FINISH, with PERVOL's period and
+--                       volume, with both
+--   chan, lock, wait    a channel (key, precedence + 128, locked, stopped, writes), a lock or a WAITCYCLE (id, key, map), a waiting
 --                       request (id, key, precedence + 128, NOWAIT, combinations)
---   stands              a state: channels, locks, waiting requests, open keys, last key
+--   stands              a state: channels, locks, WAITCYCLEs, waiting requests, open keys, last key
 --   asks                a call: operation, id, flags, map, precedence + 128, key, combinations, reply records lent
 --   says, reply         an answer (outstanding, error, map, key, last byte); a reply (id, command, error, map, key)
 --   gets                an outcome: answer, replies, next state
@@ -16,7 +18,8 @@ use Prim.Native.Nat.{ℕ}
 use mathlib.Core.Path.{_≡_, refl}
 use mathlib.Core.Bool.{Bool, true, false}
 use mathlib.Core.List.{List, [], _∷_, map}
-use Rattle.machine.specs.State.{Channel, Lock, Request, State, Call, Reply, Answer, Outcome, Op, OPEN, ABORT, COMMAND, free}
+use mathlib.Core.Option.{Option, none, some}
+use Rattle.machine.specs.State.{Write, Channel, Lock, Request, State, Call, Reply, Answer, Outcome, Op, OPEN, ABORT, COMMAND, free}
 use Rattle.machine.specs.Call.{call}
 use Rattle.machine.specs.Machine.{machine}
 
@@ -31,7 +34,19 @@ vector s c o = record { before = s; ask = c; outcome = o }
 abbrev pub Computes : List Vector → Type 0
 Computes vs = map (λ v. call (v .before) (v .ask)) vs ≡ map (λ v. v .outcome) vs
 
-abbrev pub chan : ℕ → ℕ → Bool → Bool → List ℕ → Channel
+abbrev pub plays : ℕ → ℕ → ℕ → ℕ → Write
+plays i n p v = record { id = i; cycles = n; period = p; volume = v; finish = false; pervol = none }
+
+abbrev pub cuts : ℕ → ℕ → ℕ → ℕ → Write
+cuts i n p v = record { id = i; cycles = n; period = p; volume = v; finish = true; pervol = none }
+
+abbrev pub tunes : ℕ → ℕ → ℕ → ℕ → ℕ → ℕ → Write
+tunes i n p v q u = record { id = i; cycles = n; period = p; volume = v; finish = false; pervol = some (q, u) }
+
+abbrev pub both : ℕ → ℕ → ℕ → ℕ → ℕ → ℕ → Write
+both i n p v q u = record { id = i; cycles = n; period = p; volume = v; finish = true; pervol = some (q, u) }
+
+abbrev pub chan : ℕ → ℕ → Bool → Bool → List Write → Channel
 chan k p l s ws = record { key = k; prec = p; locked = l; stopped = s; writes = ws }
 
 abbrev pub lock : ℕ → ℕ → ℕ → Lock
@@ -40,8 +55,8 @@ lock i k m = record { id = i; key = k; map = m }
 abbrev pub wait : ℕ → ℕ → ℕ → Bool → List ℕ → Request
 wait i k p n ms = record { id = i; key = k; prec = p; impatient = n; combos = ms }
 
-abbrev pub stands : List Channel → List Lock → List Request → List ℕ → ℕ → State
-stands cs ls ws os k = record { channels = cs; locks = ls; waiting = ws; opens = os; last = k }
+abbrev pub stands : List Channel → List Lock → List Lock → List Request → List ℕ → ℕ → State
+stands cs ls vs ws os k = record { channels = cs; locks = ls; waiters = vs; waiting = ws; opens = os; last = k }
 
 abbrev pub asks : Op → ℕ → ℕ → ℕ → ℕ → ℕ → List ℕ → ℕ → Call
 asks o i f m p k ms n = record { op = o; id = i; flags = f; map = m; prec = p; key = k; combos = ms; room = n }
@@ -57,10 +72,10 @@ gets a rs s = record { answer = a; replies = rs; next = s }
 
 -- channel 0 is taken at precedence 127; request 60 waits for channels 2 and 3, which are free
 abbrev pub unrested : State
-unrested = stands (chan 1 255 false false [] ∷ free ∷ free ∷ free ∷ []) [] (wait 60 0 128 false (12 ∷ []) ∷ []) (1 ∷ []) 1
+unrested = stands (chan 1 255 false false [] ∷ free ∷ free ∷ free ∷ []) [] [] (wait 60 0 128 false (12 ∷ []) ∷ []) (1 ∷ []) 1
 
 abbrev pub rested : State
-rested = stands (chan 1 255 false false [] ∷ free ∷ chan 2 128 false false [] ∷ chan 2 128 false false [] ∷ []) [] [] (1 ∷ []) 2
+rested = stands (chan 1 255 false false [] ∷ free ∷ chan 2 128 false false [] ∷ chan 2 128 false false [] ∷ []) [] [] [] (1 ∷ []) 2
 
 -- "After every call, except one answered 1 to 5, -1, -3, -4 or -5 and an OPEN answered -11, walk from the head."
 abbrev pub walks : List Vector

@@ -16,4 +16,6 @@ pub mod Keeping
 pub mod KeepingSettle
 pub mod KeepingCalls
 pub mod Replies
+pub mod Cutting
 pub mod Board
+pub mod Fronts

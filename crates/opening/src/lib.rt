@@ -7,7 +7,7 @@ ghost use mathlib.Core.List.{List};
 ghost use Prim.Native.Nat.{ℕ, _+_, _<_};
 ghost use lib.ListN.{length};
 ghost use Rattle.machine.specs.Choosing.{grants};
-ghost use Rattle.machine.specs.Granting.{abortedIn};
+ghost use Rattle.machine.specs.Granting.{dropped};
 ghost use Rattle.machine.specs.Allocating.{opening, doOpen};
 ghost use Rattle.store.specs.Store.{stateIn};
 ghost use Rattle.store.specs.Work.{Ready};
@@ -15,7 +15,7 @@ ghost use Rattle.answers.specs.Answers.{callOf, Does};
 
 // It is granted a map, and the key that it is answered has an entry behind the others.
 fn enter(r: Request, s: State, table: &mut [u8], replies: &mut [u8], map: u8) -> Outcome
-    requires { ⌜ Ready s (now table) (now replies) 0 (length (abortedIn map (stateIn s (now table) .channels))) × (s .opens .n < 32) ⌝ }
+    requires { ⌜ Ready s (now table) (now replies) 0 (length (dropped map (stateIn s (now table)))) × (s .opens .n < 32) ⌝ }
     ensures { λ d. ⌜ ((ms : List ℕ) → Does (opening (grants map) (callOf r ms)) s (now (table .entry)) (now (replies .entry)) d (now (table .exit)) (now (replies .exit))) ⌝ }
 {
     let g = granting::grant(s, table, replies, 0, map, r.key, r.prec);

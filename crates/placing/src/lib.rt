@@ -19,11 +19,12 @@ pub struct Marks {
     pub seen: [u8; Queue::ROOM],
 }
 
-// The place where an id is outstanding: among a channel's writes, with the channel's key, among the locks, or waiting, on a board
-// with that highest map.
+// The place where an id is outstanding: among a channel's writes, with the channel's key and its front write, among the locks, among
+// the WAITCYCLEs, or waiting, on a board with that highest map.
 enum Kind {
-    Write(u16),
+    Write(u16, u8),
     Lock,
+    Cycle,
     Wait(u8),
 }
 
@@ -33,8 +34,9 @@ fn kept(cs: [Channel; 8], table: &[u8], id: u8, kind: Kind) -> bool
     ensures { λ r. ⌜ r ≡ kindTest kind cs (now (table .entry)) id ⌝ }
 {
     match kind {
-        Kind::Write(key) => entries::is_write(table, id, key),
+        Kind::Write(key, lead) => entries::is_write(table, id, key, id == lead),
         Kind::Lock => entries::is_sound_lock(cs, table, id),
+        Kind::Cycle => entries::is_sound_waiter(cs, table, id),
         Kind::Wait(top) => entries::is_sound_wait(table, id, top),
     }
 }
@@ -94,7 +96,7 @@ fn place_writes(cs: [Channel; 8], table: &[u8]) -> Marks
     while i < 8 {
         let c = cs[i];
         let q = c.writes;
-        let m = place(cs, table, Kind::Write(c.key), marks, q);
+        let m = place(cs, table, Kind::Write(c.key, q.at(0)), marks, q);
         if !m.ok {
             return m;
         }
@@ -124,6 +126,12 @@ pub fn place_all(s: State, table: &[u8], top: u8) -> Marks
         return b;
     }
     let marks = b.seen;
+    let v = s.waiters;
+    let d = place(cs, table, Kind::Cycle, marks, v);
+    if !d.ok {
+        return d;
+    }
+    let all = d.seen;
     let w = s.waiting;
-    place(cs, table, Kind::Wait(top), marks, w)
+    place(cs, table, Kind::Wait(top), all, w)
 }

@@ -1,7 +1,7 @@
 // The arbiter for programs in C: every exported function, and nothing else. Each forwards to a library function with the same promise.
 // None asks anything of its caller but memory that is its own. Assumes nothing.
 ghost use mathlib.Core.Path.{_≡_};
-ghost use Rattle.image.specs.Image.{STATE, CHANNEL, LOCKS, WAITING, OPENS, LAST, CHANNELS};
+ghost use Rattle.image.specs.Image.{STATE, CHANNEL, LOCKS, WAITERS, WAITING, OPENS, LAST, CHANNELS};
 ghost use Rattle.sizes.specs.Sizes.{TABLE, REPLIES, ANSWER, PORT, ROOM};
 ghost use Rattle.handed.specs.Handed.{requestOf};
 ghost use Rattle.starting.specs.Starting.{Started};
@@ -67,6 +67,13 @@ pub extern "C" fn qamhudeer_offset_of_locks() -> usize
     ensures { λ r. ⌜ r ≡ LOCKS ⌝ }
 {
     sizes::offset_of_locks()
+}
+
+#[no_mangle]
+pub extern "C" fn qamhudeer_offset_of_waiters() -> usize
+    ensures { λ r. ⌜ r ≡ WAITERS ⌝ }
+{
+    sizes::offset_of_waiters()
 }
 
 #[no_mangle]

@@ -10,9 +10,9 @@ use lib.ListN.{length}
 use Rattle.machine.specs.Numbers.{NOROOM}
 use Rattle.machine.specs.Lists.{if_then_else_, any, among}
 use Rattle.machine.specs.State.{State as StateM, Call, Op as OpM, OPEN, CLOSE, ABORT, EVENT, COMMAND}
-use Rattle.machine.specs.Sound.{sound, ids}
-use Rattle.machine.specs.Kinds.{kind, unknown, allocates}
-use Rattle.machine.specs.Refusals.{refused, first, badList, badMaps, badMap, refusal}
+use Rattle.machine.specs.Sound.{sound, soundTone, ids}
+use Rattle.machine.specs.Kinds.{kind, unknown, allocates, carries}
+use Rattle.machine.specs.Refusals.{refused, first, badList, badMaps, badMap, badNumbers, refusal}
 use Rattle.machine.proofs.Tests.{by-test, test-true, test-false}
 use Rattle.open_keys.specs.OpenKeys.{keysIn}
 use Rattle.board.specs.declared.Board.{Board}
@@ -22,7 +22,7 @@ use Rattle.answers.specs.declared.Request.{Request}
 use Rattle.refusals.specs.declared.Op.{Op}
 use Rattle.refusals.specs.declared.Op.the-variants.{Open, Close, Abort, Event, Command}
 use Rattle.refusals.specs.Refusals.{opIn, askedOf, openTests, closeTests, abortTests, commandTests, Refuses}
-use Rattle.steps.specs.Steps.{numberOf, high, used, eventTests}
+use Rattle.steps.specs.Steps.{numberOf, high, used, wrongNumbers, eventTests}
 use Rattle.steps.proofs.Laws.{used-among}
 
 -- ---- the machine's tests of a sound state, on a board whose maps are those below a bound
@@ -71,8 +71,9 @@ module _ (c : Call) (s : StateM) (ok : T (sound s)) where
           ∷ (unknown (kind n), 253)
           ∷ (allocates (kind n) && ltb 16 (length (c .combos)), 252)
           ∷ (if allocates (kind n) then any (high bound) (c .combos) else high bound (c .map), 251)
+          ∷ (carries (kind n) && wrongNumbers (c .combos), 252)
           ∷ [])
-      unfolding refusal first badList
+      unfolding refusal first badList badNumbers soundTone
       command-left n u e =
           by-test (ltb 63 (c .id)) (λ t. rw (test-true (sound s) ok, le-ltb _ _ h, test-true (ltb 63 (c .id)) t))
           (λ t.

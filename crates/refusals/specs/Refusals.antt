@@ -15,12 +15,12 @@ use lib.ListN.{length}
 use Rattle.machine.specs.Numbers.{OPENFAIL, NOCMD, BADLENGTH, BADADDRESS, NOTOPEN, INUSE, BADID, COMBOS, ENTRIES}
 use Rattle.machine.specs.Lists.{if_then_else_, any, among}
 use Rattle.machine.specs.State.{Call, Op as OpM, OPEN, CLOSE, ABORT, EVENT, COMMAND}
-use Rattle.machine.specs.Kinds.{kind, unknown, allocates}
+use Rattle.machine.specs.Kinds.{kind, unknown, allocates, carries}
 use Rattle.machine.specs.Refusals.{refusal}
 use Rattle.board.specs.declared.Board.{Board}
 use Rattle.board.specs.Board.{stateIn}
 use Rattle.answers.specs.declared.Request.{Request}
-use Rattle.steps.specs.Steps.{numberOf, high, used}
+use Rattle.steps.specs.Steps.{numberOf, high, used, wrongNumbers}
 use Rattle.refusals.specs.declared.Op.{Op}
 use Rattle.refusals.specs.declared.Op.the-variants.{Open, Close, Abort, Event, Command}
 
@@ -61,6 +61,7 @@ commandTests bound r ms tb opens =
     ∷ (unknown (kind (r .command)), NOCMD)
     ∷ (allocates (kind (r .command)) && ltb COMBOS (length ms), BADLENGTH)
     ∷ (if allocates (kind (r .command)) then any (high bound) ms else high bound (r .map), BADADDRESS)
+    ∷ (carries (kind (r .command)) && wrongNumbers ms, BADLENGTH)
     ∷ []
 
 pub record Refuses (o : Op) (r : Request) (b : Board) (ms tb : List ℕ) (len e : ℕ) : Type 0 where

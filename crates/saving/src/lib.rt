@@ -1,4 +1,4 @@
-// The state written as the 758 bytes that a caller keeps (image's specs/Image.antt has the layout, and what is promised).
+// The state written as the 823 bytes that a caller keeps (image's specs/Image.antt has the layout, and what is promised).
 // Assumes nothing.
 use board::Board;
 use channel::Channel;
@@ -71,25 +71,27 @@ fn put_open(bytes: &mut [u8], at: usize, opens: Keys)
 
 // How many channels the board has, in the last byte.
 fn put_width(bytes: &mut [u8], width: u8)
-    requires { ⌜ 757 < length (now bytes) ⌝ }
-    ensures { λ _. ⌜ now (bytes .exit) ≡ set (now (bytes .entry)) 757 width ⌝ }
+    requires { ⌜ 822 < length (now bytes) ⌝ }
+    ensures { λ _. ⌜ now (bytes .exit) ≡ set (now (bytes .entry)) 822 width ⌝ }
 {
-    bytes[757] = width;
+    bytes[822] = width;
 }
 
 pub fn save(b: Board, bytes: &mut [u8])
-    requires { ⌜ length (now bytes) ≡ 758 ⌝ }
+    requires { ⌜ length (now bytes) ≡ 823 ⌝ }
     ensures { λ _. ⌜ Saved b (now (bytes .exit)) ⌝ }
 {
     let s = b.state;
     let cs = s.channels;
     let locks = s.locks;
+    let waiters = s.waiters;
     let waiting = s.waiting;
     let opens = s.opens;
     put_channels(bytes, cs);
     put_queue(bytes, 560, locks);
-    put_queue(bytes, 625, waiting);
-    put_open(bytes, 690, opens);
-    memory::put_key(bytes, 755, s.last);
+    put_queue(bytes, 625, waiters);
+    put_queue(bytes, 690, waiting);
+    put_open(bytes, 755, opens);
+    memory::put_key(bytes, 820, s.last);
     put_width(bytes, b.width);
 }

@@ -1,13 +1,13 @@
 // Sizes of what a program in C lends, and the places in the state's bytes, for the header to be held against.
 // Assumes nothing.
 ghost use mathlib.Core.Path.{_≡_};
-ghost use Rattle.image.specs.Image.{STATE, CHANNEL, LOCKS, WAITING, OPENS, LAST, CHANNELS};
+ghost use Rattle.image.specs.Image.{STATE, CHANNEL, LOCKS, WAITERS, WAITING, OPENS, LAST, CHANNELS};
 ghost use Rattle.sizes.specs.Sizes.{TABLE, REPLIES, ANSWER, PORT, ROOM};
 
 pub fn state_size() -> usize
     ensures { λ r. ⌜ r ≡ STATE ⌝ }
 {
-    758
+    823
 }
 
 pub fn table_size() -> usize
@@ -52,26 +52,32 @@ pub fn offset_of_locks() -> usize
     560
 }
 
+pub fn offset_of_waiters() -> usize
+    ensures { λ r. ⌜ r ≡ WAITERS ⌝ }
+{
+    625
+}
+
 pub fn offset_of_waiting() -> usize
     ensures { λ r. ⌜ r ≡ WAITING ⌝ }
 {
-    625
+    690
 }
 
 pub fn offset_of_opens() -> usize
     ensures { λ r. ⌜ r ≡ OPENS ⌝ }
 {
-    690
+    755
 }
 
 pub fn offset_of_last() -> usize
     ensures { λ r. ⌜ r ≡ LAST ⌝ }
 {
-    755
+    820
 }
 
 pub fn offset_of_channels() -> usize
     ensures { λ r. ⌜ r ≡ CHANNELS ⌝ }
 {
-    757
+    822
 }

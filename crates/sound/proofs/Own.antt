@@ -8,12 +8,12 @@ use native.Mathlib.Omega.{arith}
 use lib.Dec.{T, eqb, eqb→eq}
 use lib.ListN.{length, drop, take, length-drop}
 use Rattle.machine.specs.Lists.{if_then_else_, all}
-use Rattle.machine.specs.State.{Channel as ChannelM, Request, free, isFree, frees}
+use Rattle.machine.specs.State.{Write, Channel as ChannelM, Request, free, isFree, frees}
 use Rattle.machine.specs.Sound.{soundChannel, soundRequest}
 use Rattle.machine.proofs.Tests.{and-left, and-right, and-both, test-true, test-false}
 use Rattle.channel.specs.declared.Channel.{Channel}
 use Rattle.channel.specs.Channel.{channelIn}
-use Rattle.store.specs.Store.{stateIn as wideIn, Held as WideHeld}
+use Rattle.store.specs.Store.{writeIn, stateIn as wideIn, Held as WideHeld}
 use Rattle.store.proofs.Store.{held-parts as wide-parts}
 use Rattle.shapes.specs.Shapes.{vacant}
 use Rattle.entries.specs.Entries.{requestTest}
@@ -25,33 +25,33 @@ use Rattle.sound.proofs.Laws.{yes-T, requests-reach, decides as wide-de
 
 -- ---- a channel of good shape without a key is a free one
 
-no-ids : (l : List ℕ) → length l ≡ 0 → l ≡ []
+no-ids : (l : List Write) → length l ≡ 0 → l ≡ []
 no-ids [] h = refl
 no-ids (x ∷ l) h = absurd (omega arith)
 
-vacant-free : (c : Channel) → T (vacant c) → T (soundChannel (channelIn c)) → channelIn c ≡ free
+vacant-free : (f : ℕ → Write) (c : Channel) → T (vacant c) → T (soundChannel (channelIn f c)) → channelIn f c ≡ free
 unfolding vacant soundChannel
-vacant-free c t u =
+vacant-free f c t u =
     let k : c .key ≡ 0 = eqb→eq (c .key) 0 t in
     let a = eqb (c .prec) 128 in
     let b = not (c .locked) in
     let d = not (c .stopped) in
-    let e = eqb (length (channelIn c .writes)) 0 in
+    let e = eqb (length (channelIn f c .writes)) 0 in
     let v : T (a && b && d && e) = rw (test-true (eqb (c .key) 0) t) at u in
     let v1 = and-left (a && b && d) e v in
     let v2 = and-left (a && b) d v1 in
     let p = eqb→eq (c .prec) 128 (and-left a b v2) in
     let l = test-false (c .locked) (and-right a b v2) in
     let s = test-false (c .stopped) (and-right (a && b) d v1) in
-    let w = no-ids (channelIn c .writes) (eqb→eq (length (channelIn c .writes)) 0 (and-right (a && b && d) e v)) in
+    let w = no-ids (channelIn f c .writes) (eqb→eq (length (channelIn f c .writes)) 0 (and-right (a && b && d) e v)) in
     λ i. record { key = k i; prec = p i; locked = l i; stopped = s i; writes = w i }
 
-spare-frees : (cs : List Channel) → T (all vacant cs) → T (all soundChannel (map channelIn cs)) → map channelIn cs ≡ frees (length cs)
+spare-frees : (f : ℕ → Write) (cs : List Channel) → T (all vacant cs) → T (all soundChannel (map (channelIn f) cs)) → map (channelIn f) cs ≡ frees (length cs)
 unfolding all frees
-spare-frees [] t u = refl
-spare-frees (c ∷ cs) t u =
-    let a = vacant-free c (and-left (vacant c) (all vacant cs) t) (and-left (soundChannel (channelIn c)) (all soundChannel (map channelIn cs)) u) in
-    let b = spare-frees cs (and-right (vacant c) (all vacant cs) t) (and-right (soundChannel (channelIn c)) (all soundChannel (map channelIn cs)) u) in
+spare-frees f [] t u = refl
+spare-frees f (c ∷ cs) t u =
+    let a = vacant-free f c (and-left (vacant c) (all vacant cs) t) (and-left (soundChannel (channelIn f c)) (all soundChannel (map (channelIn f) cs)) u) in
+    let b = spare-frees f cs (and-right (vacant c) (all vacant cs) t) (and-right (soundChannel (channelIn f c)) (all soundChannel (map (channelIn f) cs)) u) in
     λ i. a i ∷ b i
 
 all-free : (n : ℕ) → T (all isFree (frees n))
@@ -59,17 +59,17 @@ unfolding all frees
 all-free zero = tt
 all-free (suc n) = all-free n
 
-all-vacant : (cs : List Channel) → T (all isFree (map channelIn cs)) → T (all vacant cs)
+all-vacant : (f : ℕ → Write) (cs : List Channel) → T (all isFree (map (channelIn f) cs)) → T (all vacant cs)
 unfolding all vacant
-all-vacant [] t = tt
-all-vacant (c ∷ cs) t = and-both (eqb (c .key) 0) (all vacant cs) (and-left (eqb (c .key) 0) (all isFree (map channelIn cs)) t) (all-vacant cs (and-right (eqb (c .key) 0) (all isFree (map channelIn cs)) t))
+all-vacant f [] t = tt
+all-vacant f (c ∷ cs) t = and-both (eqb (c .key) 0) (all vacant cs) (and-left (eqb (c .key) 0) (all isFree (map (channelIn f) cs)) t) (all-vacant f cs (and-right (eqb (c .key) 0) (all isFree (map (channelIn f) cs)) t))
 
 -- ---- lists
 
-drop-map : (n : ℕ) (cs : List Channel) → drop n (map channelIn cs) ≡ map channelIn (drop n cs)
-drop-map zero cs = refl
-drop-map (suc n) [] = refl
-drop-map (suc n) (c ∷ cs) = drop-map n cs
+drop-map : (f : ℕ → Write) (n : ℕ) (cs : List Channel) → drop n (map (channelIn f) cs) ≡ map (channelIn f) (drop n cs)
+drop-map f zero cs = refl
+drop-map f (suc n) [] = refl
+drop-map f (suc n) (c ∷ cs) = drop-map f n cs
 
 all-drop {ℓ} : {A : Type ℓ} (p : A → Bool) (n : ℕ) (xs : List A) → T (all p xs) → T (all p (drop n xs))
 unfolding all
@@ -97,23 +97,23 @@ module _ (b : Board) (tb : List ℕ) where
   not-spare e =
       record {
         only = λ q. absurd (let z : _≡_ {A = ℕ} 0 1 = cc in omega arith);
-        always = λ h. absurd (off e (all-vacant (drop (b .width) (b .state .channels)) (subst (λ (l : List ChannelM). T (all isFree l)) (sym (held-spare h) ∙ drop-map (b .width) (b .state .channels)) (all-free (8 - b .width)))));
+        always = λ h. absurd (off e (all-vacant (writeIn tb) (drop (b .width) (b .state .channels)) (subst (λ (l : List ChannelM). T (all isFree l)) (sym (held-spare h) ∙ drop-map (writeIn tb) (b .width) (b .state .channels)) (all-free (8 - b .width)))));
       }
 
   module _ (t : T (sized (b .width))) (v : T (all vacant (drop (b .width) (b .state .channels)))) where
-    own-free : WideHeld (b .state) tb → drop (b .width) (map channelIn (b .state .channels)) ≡ frees (8 - b .width)
+    own-free : WideHeld (b .state) tb → drop (b .width) (map (channelIn (writeIn tb)) (b .state .channels)) ≡ frees (8 - b .width)
     own-free h =
         let w = b .width in
         let cs = b .state .channels in
-        let k : T (all soundChannel (map channelIn (drop w cs))) = subst (λ (l : List ChannelM). T (all soundChannel l)) (drop-map w cs) (all-drop soundChannel w (map channelIn cs) (wide-parts h .channelsOK)) in
+        let k : T (all soundChannel (map (channelIn (writeIn tb)) (drop w cs))) = subst (λ (l : List ChannelM). T (all soundChannel l)) (drop-map (writeIn tb) w cs) (all-drop soundChannel w (map (channelIn (writeIn tb)) cs) (wide-parts h .channelsOK)) in
         let n : length (drop w cs) ≡ 8 - w = let e = h .eight in simp length-drop (omega arith) in
-        drop-map w cs ∙ (spare-frees (drop w cs) v k ∙ ap frees n)
+        drop-map (writeIn tb) w cs ∙ (spare-frees (writeIn tb) (drop w cs) v k ∙ ap frees n)
 
     pub tells : {r : Bool} {top : ℕ} → top ≡ topOf (b .width) → Decides r (Within top (b .state) tb) → Decides r (Held b tb)
     tells {r} {top} q f =
         let d : Decides r (Within (topOf (b .width)) (b .state) tb) = subst (λ (n : ℕ). Decides r (Within n (b .state) tb)) q f in
         let w = b .width in
-        let cs = take w (map channelIn (b .state .channels)) in
+        let cs = take w (map (channelIn (writeIn tb)) (b .state .channels)) in
         let rs = wideIn (b .state) tb .waiting in
         record {
           only =

@@ -9,7 +9,7 @@ pub fn fresh(channels: u8, state: &mut [u8], table: &mut [u8]) -> u8
     if !Board::sized(channels) {
         return 1;
     }
-    if state.len() != 758 {
+    if state.len() != 823 {
         return 1;
     }
     if table.len() != 1472 {

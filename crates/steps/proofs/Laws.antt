@@ -1,27 +1,28 @@
--- What the code's steps say of the machine's tests: the twelve commands by their numbers, an outstanding id by its entry, a list of
+-- What the code's steps say of the machine's tests: the fifteen commands by their numbers, an outstanding id by its entry, a list of
 -- tests by its first that is met. Assumes nothing.
-use Prim.Native.Nat.{ℕ, zero, suc, _+_, _≤_, _<_}
+use Prim.Native.Nat.{ℕ, zero, suc, _+_, _*_, _≤_, _<_}
 use mathlib.Core.Path.{_≡_, refl, ap, sym, _∙_}
 use mathlib.Core.Bool.{Bool, true, false, not, _&&_, _||_}
 use mathlib.Core.List.{List, [], _∷_, _++_, map}
 use native.Mathlib.Numerals.{add-one}
 use native.Mathlib.Omega.{arith}
-use borrow.Author.Tests.{eqb-true, eqb-false, lt-ltb, le-ltb, le-leb, lt-leb, ne-eqb, not-true, not-false}
+use borrow.Author.Tests.{eqb-true, eqb-false, lt-ltb, le-ltb, le-leb, lt-leb, eq-eqb, ne-eqb, not-true, not-false}
 use lib.Dec.{T, eqb, leb, ltb}
 use lib.ListN.{length, getD, drop, drop-of-length-le}
 use lib.Seq.{drop-cons}
 use Rattle.memory.specs.Splice.{block}
-use Rattle.table.specs.Entry.{writeEntry, lockEntry, waitEntry}
+use Rattle.table.specs.Entry.{writeEntry, spanEntry, waitEntry}
 use Rattle.machine.specs.Lists.{if_then_else_, any, all, among}
 use Rattle.machine.specs.State.{Channel as ChannelM, State as StateM}
-use Rattle.machine.specs.Sound.{ids}
+use Rattle.machine.specs.Commands.{periodIn, volumeIn}
+use Rattle.machine.specs.Sound.{soundTone, ids}
 use Rattle.machine.specs.Kinds.{kind, unknown, allocates}
 use Rattle.machine.specs.Refusals.{first}
 use Rattle.machine.proofs.Tests.{by-test, test-true, test-false, and-left, and-right}
 use Rattle.machine_laws.proofs.Sound.{Parts}
-use Rattle.store.specs.Store.{Item, writeItem, lockItem, waitItem, writeItems, items, lookup, keys, Each, tableOf}
+use Rattle.store.specs.Store.{Item, writeItem, lockItem, waiterItem, waitItem, writeItems, items, lookup, keys, Each, tableOf}
 use Rattle.store.proofs.Store.{keys-items, parts-long, block-tableOf}
-use Rattle.steps.specs.Steps.{numberOf, high, used}
+use Rattle.steps.specs.Steps.{numberOf, high, used, wrongNumbers, numberTests}
 
 -- ---- a list of tests: its first is met, or is passed
 
@@ -70,14 +71,64 @@ module _ (a b : Bool) (ts : List (Bool × ℕ)) where
       go false true q = absurd (let z : n ≡ 251 = unfold first in q in omega arith)
       go false false q = unfold first in k
 
--- a command's last two tests: the combinations where it allocates, else the map
-module _ (k a b d : Bool) where
-  pub reads-list : k ≡ true → first ((k && a, 252) ∷ (if k then b else d, 251) ∷ []) ≡ first ((a, 252) ∷ (b, 251) ∷ [])
-  reads-list e = rw e
-
-  pub reads-map : k ≡ false → first ((k && a, 252) ∷ (if k then b else d, 251) ∷ []) ≡ first ((d, 251) ∷ [])
+-- a command's last three tests: the combinations where it allocates, else the map, and then the numbers of one that carries them
+module _ (k a b d g : Bool) where
+  pub reads-list : k ≡ true → g ≡ false → first ((k && a, 252) ∷ (if k then b else d, 251) ∷ (g, 252) ∷ []) ≡ first ((a, 252) ∷ (b, 251) ∷ [])
   unfolding first
-  reads-map e = rw e
+  reads-list e f = rw (e, f)
+
+  pub reads-map : k ≡ false → d ≡ true → 251 ≡ numberOf (first ((k && a, 252) ∷ (if k then b else d, 251) ∷ (g, 252) ∷ []))
+  unfolding first
+  reads-map e f = rw (e, f)
+
+  pub reads-numbers : k ≡ false → d ≡ false → numberOf (first ((k && a, 252) ∷ (if k then b else d, 251) ∷ (g, 252) ∷ [])) ≡ numberOf (first ((g, 252) ∷ []))
+  unfolding first
+  reads-numbers e f = rw (e, f)
+
+-- the test of a map: it is met, or passed
+pub map-met : (d : Bool) {n : ℕ} → n ≡ numberOf (first ((d, 251) ∷ [])) → (n ≡ 0 → ⊥) → (d ≡ true) × (n ≡ 251)
+unfolding first
+map-met true e h = (refl, e)
+map-met false e h = absurd (h e)
+
+pub map-past : (d : Bool) {n : ℕ} → n ≡ numberOf (first ((d, 251) ∷ [])) → n ≡ 0 → d ≡ false
+unfolding first
+map-past true e h = absurd (let z : 251 ≡ 0 = sym e ∙ h in omega arith)
+map-past false e h = refl
+
+-- ---- the numbers that WRITE and PERVOL carry
+
+none-right : (ms : List ℕ) → length ms ≡ 0 → wrongNumbers ms ≡ false
+unfolding soundTone periodIn volumeIn
+none-right [] h = refl
+none-right (m ∷ ms) h = absurd (omega arith)
+
+pub numbers-none : (ms : List ℕ) → length ms ≡ 0 → 0 ≡ numberOf (first (numberTests ms))
+unfolding first
+numbers-none ms h = rw (none-right ms h) refl
+
+pub numbers-other : (ms : List ℕ) → (length ms ≡ 0 → ⊥) → (length ms ≡ 6 → ⊥) → 252 ≡ numberOf (first (numberTests ms))
+unfolding first
+numbers-other ms h g = rw (ne-eqb (length ms) 0 h, ne-eqb (length ms) 6 g) refl
+
+-- six bytes are in range where their period and volume are
+six-tone : (ms : List ℕ) → length ms ≡ 6
+    → soundTone (65536 * getD ms 2 0 + (256 * getD ms 3 0 + getD ms 4 0)) (getD ms 5 0) ≡ soundTone (periodIn ms) (volumeIn ms)
+unfolding periodIn volumeIn
+six-tone [] h = absurd (omega arith)
+six-tone (m ∷ ms) h = refl
+
+module _ (ms : List ℕ) (h : length ms ≡ 6) where
+  abbrev pub tested : Bool
+  tested = soundTone (65536 * getD ms 2 0 + (256 * getD ms 3 0 + getD ms 4 0)) (getD ms 5 0)
+
+  pub numbers-good : tested ≡ true → 0 ≡ numberOf (first (numberTests ms))
+  unfolding first
+  numbers-good e = let n : length ms ≡ 0 → ⊥ = λ z. omega arith in rw (ne-eqb (length ms) 0 n, eq-eqb (length ms) 6 h, sym (six-tone ms h) ∙ e) refl
+
+  pub numbers-bad : tested ≡ false → 252 ≡ numberOf (first (numberTests ms))
+  unfolding first
+  numbers-bad e = let n : length ms ≡ 0 → ⊥ = λ z. omega arith in rw (ne-eqb (length ms) 0 n, eq-eqb (length ms) 6 h, sym (six-tone ms h) ∙ e) refl
 
 -- ---- combinations, one after another
 
@@ -103,8 +154,8 @@ module _ {b : ℕ} {ms : List ℕ} {i : ℕ} (t : Low b ms i) where
 
 -- ---- the commands: one computed test of the numbers of a byte
 
-abbrev twelve : ℕ → Bool
-twelve n = leb n 10 && leb 1 n || eqb n 13 || eqb n 32
+abbrev fifteen : ℕ → Bool
+fifteen n = leb n 14 && leb 1 n || eqb n 32
 
 abbrev alike : Bool → Bool → Bool
 alike true b = b
@@ -126,32 +177,28 @@ all-below p (suc n) i h t =
     (λ u. let g = eqb-false i n (test-false (eqb i n) u) in all-below p n i (omega arith) (and-right (p n) (all p (below n)) t))
 
 abbrev sorted : ℕ → Bool
-sorted n = alike (twelve n) (not (unknown (kind n))) && alike (eqb n 32) (allocates (kind n))
+sorted n = alike (fifteen n) (not (unknown (kind n))) && alike (eqb n 32) (allocates (kind n))
 
 all-sorted : T (all sorted (below 256))
 unfolding all below kind unknown allocates
 all-sorted = tt
 
 module _ (n : ℕ) (h : n < 256) where
-  known-twelve : twelve n ≡ not (unknown (kind n))
-  known-twelve = alike-same (twelve n) (not (unknown (kind n))) (and-left (alike (twelve n) (not (unknown (kind n)))) (alike (eqb n 32) (allocates (kind n))) (all-below sorted 256 n h all-sorted))
+  known-fifteen : fifteen n ≡ not (unknown (kind n))
+  known-fifteen = alike-same (fifteen n) (not (unknown (kind n))) (and-left (alike (fifteen n) (not (unknown (kind n)))) (alike (eqb n 32) (allocates (kind n))) (all-below sorted 256 n h all-sorted))
 
-  pub known-low : 1 ≤ n → n ≤ 10 → true ≡ not (unknown (kind n))
-  known-low a b = let e : twelve n ≡ true = rw (le-leb n 10 b, le-leb 1 n a) in sym e ∙ known-twelve
+  pub known-low : 1 ≤ n → n ≤ 14 → true ≡ not (unknown (kind n))
+  known-low a b = let e : fifteen n ≡ true = rw (le-leb n 14 b, le-leb 1 n a) in sym e ∙ known-fifteen
 
-  pub known-late : 10 < n → (n ≡ 13 → ⊥) → eqb n 32 ≡ not (unknown (kind n))
-  known-late a b = let e : twelve n ≡ eqb n 32 = rw (lt-leb n 10 a, ne-eqb n 13 b) in sym e ∙ known-twelve
+  pub known-late : 14 < n → eqb n 32 ≡ not (unknown (kind n))
+  known-late a = let e : fifteen n ≡ eqb n 32 = rw (lt-leb n 14 a) in sym e ∙ known-fifteen
 
   pub allocates-32 : eqb n 32 ≡ allocates (kind n)
-  allocates-32 = alike-same (eqb n 32) (allocates (kind n)) (and-right (alike (twelve n) (not (unknown (kind n)))) (alike (eqb n 32) (allocates (kind n))) (all-below sorted 256 n h all-sorted))
+  allocates-32 = alike-same (eqb n 32) (allocates (kind n)) (and-right (alike (fifteen n) (not (unknown (kind n)))) (alike (eqb n 32) (allocates (kind n))) (all-below sorted 256 n h all-sorted))
 
 pub known-none : (n : ℕ) → n ≡ 0 → false ≡ not (unknown (kind n))
 unfolding kind unknown
 known-none n e = rw e
-
-pub known-lock : (n : ℕ) → n ≡ 13 → true ≡ not (unknown (kind n))
-unfolding kind unknown
-known-lock n e = rw e
 
 -- ---- an outstanding id's entry begins with a command
 
@@ -172,10 +219,12 @@ begun-writes [] = tt
 begun-writes (c ∷ cs) = begun-append (map (writeItem (c .key)) (c .writes)) (writeItems cs) (begun-map (writeItem (c .key)) (λ i. refl) (c .writes)) (begun-writes cs)
 
 begun-items : (s : StateM) → Begun (items s)
-unfolding items lockEntry waitEntry
+unfolding items spanEntry waitEntry
 begun-items s =
-    begun-append (writeItems (s .channels) ++ map lockItem (s .locks)) (map waitItem (s .waiting))
+    begun-append (writeItems (s .channels) ++ map lockItem (s .locks) ++ map waiterItem (s .waiters)) (map waitItem (s .waiting))
+    (begun-append (writeItems (s .channels) ++ map lockItem (s .locks)) (map waiterItem (s .waiters))
     (begun-append (writeItems (s .channels)) (map lockItem (s .locks)) (begun-writes (s .channels)) (begun-map lockItem (λ l. refl) (s .locks)))
+    (begun-map waiterItem (λ w. refl) (s .waiters)))
     (begun-map waitItem (λ r. refl) (s .waiting))
 
 begun-lookup : (i : ℕ) (xs : List Item) → Begun xs → not (eqb (getD (lookup i xs) 0 0) 0) ≡ among i (keys xs)

@@ -6,14 +6,17 @@
 --   used tb i              the entry of id i begins with a command
 --   listTests bound ms     a list of combinations: more than 16, one too high, each with its number
 --   eventTests bound m     a map that is too high, with its number
+--   wrongNumbers ms        cycles, period and volume of another length than 0 or 6, or out of range; numberTests ms: with its number
 use Prim.Native.Nat.{ℕ}
-use mathlib.Core.Bool.{Bool, not}
+use mathlib.Core.Bool.{Bool, not, _&&_, _||_}
 use mathlib.Core.List.{List, [], _∷_}
-use lib.Dec.{eqb, ltb}
+use lib.Dec.{eqb, leb, ltb}
 use lib.ListN.{length, getD}
 use Rattle.memory.specs.Splice.{block}
 use Rattle.machine.specs.Numbers.{BADLENGTH, BADADDRESS, COMBOS}
 use Rattle.machine.specs.Lists.{any}
+use Rattle.machine.specs.Commands.{periodIn, volumeIn}
+use Rattle.machine.specs.Sound.{soundTone}
 use Rattle.machine.specs.Refusals.{Refusal, accepted, refused}
 
 abbrev pub numberOf : Refusal → ℕ
@@ -31,3 +34,9 @@ listTests bound ms = (ltb COMBOS (length ms), BADLENGTH) ∷ (any (high bound) m
 
 abbrev pub eventTests : ℕ → ℕ → List (Bool × ℕ)
 eventTests bound m = (high bound m, BADADDRESS) ∷ []
+
+abbrev pub wrongNumbers : List ℕ → Bool
+wrongNumbers ms = not (eqb (length ms) 0 || eqb (length ms) 6) || not (soundTone (periodIn ms) (volumeIn ms))
+
+abbrev pub numberTests : List ℕ → List (Bool × ℕ)
+numberTests ms = (wrongNumbers ms, BADLENGTH) ∷ []

@@ -5,9 +5,9 @@ ghost use mathlib.Core.Bool.{not};
 ghost use Prim.Native.Nat.{_+_, _<_};
 ghost use lib.ListN.{length};
 ghost use Rattle.machine.specs.Lists.{any};
-ghost use Rattle.machine.specs.Kinds.{kind, unknown};
+ghost use Rattle.machine.specs.Kinds.{kind, unknown, carries as carriesM};
 ghost use Rattle.machine.specs.Refusals.{first};
-ghost use Rattle.steps.specs.Steps.{numberOf, high, used, listTests, eventTests};
+ghost use Rattle.steps.specs.Steps.{numberOf, high, used, listTests, eventTests, numberTests};
 
 // Whether a combination is above the board's highest map.
 fn any_high(combos: &[u8], top: u8) -> bool
@@ -46,20 +46,40 @@ pub fn bad_map(map: u8, top: u8) -> u8
     0
 }
 
-// Whether the number is one of the twelve commands'.
+// Cycles, period and volume: six bytes in range, or none. Else -4.
+pub fn bad_numbers(combos: &[u8]) -> u8
+    ensures { λ r. ⌜ r ≡ numberOf (first (numberTests (now (combos .entry)))) ⌝ }
+{
+    if combos.len() == 0 {
+        return 0;
+    }
+    if combos.len() != 6 {
+        return 252;
+    }
+    if numbers::in_range(combos[2], combos[3], combos[4], combos[5]) {
+        return 0;
+    }
+    252
+}
+
+// Whether the number is one of the fifteen commands'.
 pub fn known(command: u8) -> bool
     ensures { λ r. ⌜ r ≡ not (unknown (kind command)) ⌝ }
 {
     if command == 0 {
         return false;
     }
-    if command <= 10 {
-        return true;
-    }
-    if command == 13 {
+    if command <= 14 {
         return true;
     }
     command == 32
+}
+
+// Whether the number is WRITE's or PERVOL's, which carry cycles, period and volume.
+pub fn carries(command: u8) -> bool
+    ensures { λ r. ⌜ r ≡ carriesM (kind command) ⌝ }
+{
+    command == 3 || command == 12
 }
 
 // Whether the id is outstanding: an idle id's entry is all 0, and an outstanding one's begins with a command.

@@ -1,13 +1,14 @@
 -- The representation: which struct and which table stand for a state of the machine, and which state they hold.
 -- Assumes nothing.
 --
---   structOf s        the struct of a state: its channels, the ids of its locks and waiting requests, its open keys, its last key
---   Item, items s     the outstanding ids, each with the bytes of its entry: writes by channel, locks, waiting requests
+--   structOf s        the struct of a state: its channels, the ids of its locks, WAITCYCLEs and waiting requests, its open keys,
+--                     its last key
+--   Item, items s     the outstanding ids, each with the bytes of its entry: writes by channel, locks, WAITCYCLEs, waiting requests
 --   keys xs, Long xs, Good xs   the ids of items; each entry is 23 bytes; no id stands twice, and all fit the table
 --   lookup i xs       the entry of id i: that of its item, and all 0 where it has none
 --   entries n i xs    the entries of the n ids from i on
 --   tableOf s         the table of a state: 64 entries
---   lockIn, requestIn the lock and the waiting request that an entry of a table holds
+--   writeIn, lockIn, requestIn   the write, the lock or WAITCYCLE, and the waiting request that an entry of a table holds
 --   stateIn st tb     the state that a struct and a table hold
 --   Each P xs, Small is   each element has the property; each id is one of the table's
 --   Held st tb        they hold a sound state with eight channels, and are the ones that stand for it
@@ -21,9 +22,9 @@ use Rattle.queue.specs.Queue.{queueOf, listOf}
 use Rattle.open_keys.specs.OpenKeys.{keysOf, keysIn}
 use Rattle.channel.specs.Channel.{channelOf, channelIn}
 use Rattle.memory.specs.Splice.{block}
-use Rattle.table.specs.Entry.{idle, writeEntry, lockEntry, waitEntry, keyIn, listIn}
+use Rattle.table.specs.Entry.{idle, writeEntry, lockEntry, waiterEntry, waitEntry, keyIn, listIn, numbersIn}
 use Rattle.machine.specs.Lists.{if_then_else_, distinct}
-use Rattle.machine.specs.State.{Channel as ChannelM, Lock, Request, State as StateM}
+use Rattle.machine.specs.State.{Write, Channel as ChannelM, Lock, Request, State as StateM}
 use Rattle.machine.specs.Sound.{sound}
 use Rattle.store.specs.declared.State.{State}
 
@@ -32,6 +33,7 @@ structOf s =
     record {
       channels = map channelOf (s .channels);
       locks = queueOf (map (λ l. l .id) (s .locks));
+      waiters = queueOf (map (λ w. w .id) (s .waiters));
       waiting = queueOf (map (λ r. r .id) (s .waiting));
       opens = keysOf (s .opens);
       last = s .last;
@@ -41,11 +43,14 @@ pub record Item : Type 0 where
   pub id : ℕ
   pub entry : List ℕ
 
-abbrev pub writeItem : ℕ → ℕ → Item
-writeItem key i = record { id = i; entry = writeEntry key }
+abbrev pub writeItem : ℕ → Write → Item
+writeItem key w = record { id = w .id; entry = writeEntry key w }
 
 abbrev pub lockItem : Lock → Item
 lockItem l = record { id = l .id; entry = lockEntry l }
+
+abbrev pub waiterItem : Lock → Item
+waiterItem w = record { id = w .id; entry = waiterEntry w }
 
 abbrev pub waitItem : Request → Item
 waitItem r = record { id = r .id; entry = waitEntry r }
@@ -55,7 +60,7 @@ writeItems [] = []
 writeItems (c ∷ cs) = map (writeItem (c .key)) (c .writes) ++ writeItems cs
 
 unfoldable pub items : StateM → List Item
-items s = writeItems (s .channels) ++ map lockItem (s .locks) ++ map waitItem (s .waiting)
+items s = writeItems (s .channels) ++ map lockItem (s .locks) ++ map waiterItem (s .waiters) ++ map waitItem (s .waiting)
 
 abbrev pub Each {ℓ} : {A : Type ℓ} → (A → Type 0) → List A → Type 0
 Each P [] = Unit {0}
@@ -86,6 +91,9 @@ entries (suc n) i xs = lookup i xs ++ entries n (suc i) xs
 unfoldable pub tableOf : StateM → List ℕ
 tableOf s = entries 64 0 (items s)
 
+abbrev pub writeIn : List ℕ → ℕ → Write
+writeIn tb i = numbersIn i (listIn (block 23 tb i))
+
 abbrev pub lockIn : List ℕ → ℕ → Lock
 lockIn tb i = record { id = i; key = keyIn (block 23 tb i); map = getD (block 23 tb i) 3 0 }
 
@@ -102,8 +110,9 @@ requestIn tb i =
 abbrev pub stateIn : State → List ℕ → StateM
 stateIn st tb =
     record {
-      channels = map channelIn (st .channels);
+      channels = map (channelIn (writeIn tb)) (st .channels);
       locks = map (lockIn tb) (listOf (st .locks));
+      waiters = map (lockIn tb) (listOf (st .waiters));
       waiting = map (requestIn tb) (listOf (st .waiting));
       opens = keysIn (st .opens);
       last = st .last;

@@ -14,6 +14,7 @@ ghost use Rattle.store.specs.Store.{structOf};
 pub struct State {
     pub channels: [Channel; 8],
     pub locks: Queue,
+    pub waiters: Queue,
     pub waiting: Queue,
     pub opens: Keys,
     pub last: u16,
@@ -39,6 +40,7 @@ impl State {
         State {
             channels: cs,
             locks: q,
+            waiters: q,
             waiting: q,
             opens: Keys::none(),
             last: 0,

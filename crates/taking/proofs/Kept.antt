@@ -17,7 +17,7 @@ use Rattle.machine.specs.Call.{call, inRange}
 use Rattle.machine.specs.Log.{digit, joined, unhex, callOf, frame, outcomeOf, feed}
 use Rattle.machine.proofs.Tests.{if-elim, and-both, and-left, and-right}
 use Rattle.machine_laws.proofs.Sound.{parts}
-use Rattle.machine_laws.proofs.KeepingCalls.{call-sound}
+use Rattle.machine_laws.proofs.KeepingCalls.{Counted, bytes-count, call-sound}
 use Rattle.machine_laws.proofs.Board.{call-wide}
 use Rattle.board.specs.declared.Board.{Board}
 use Rattle.store.specs.Store.{tableOf}
@@ -36,7 +36,7 @@ Bytes (some bs) = T (all (λ b. ltb b 256) bs)
 
 abbrev Fits : Option Call → Type 0
 Fits none = Unit {0}
-Fits (some c) = T (inRange c)
+Fits (some c) = T (inRange c) × Counted (c .op) c
 
 joined-bytes : (h l : Option ℕ) (r : Option (List ℕ)) → Small h → Small l → Bytes r → Bytes (joined h l r)
 unfolding joined all
@@ -58,14 +58,22 @@ getD-byte [] i t = omega arith
 getD-byte (b ∷ bs) zero t = ltb→lt b 256 (and-left (ltb b 256) (all (λ x. ltb x 256) bs) t)
 getD-byte (b ∷ bs) (suc i) t = getD-byte bs i (and-right (ltb b 256) (all (λ x. ltb x 256) bs) t)
 
-callOf-fits : (bs : List ℕ) → T (all (λ b. ltb b 256) bs) → T (inRange (callOf bs))
+drop-bytes : (n : ℕ) (bs : List ℕ) → T (all (λ b. ltb b 256) bs) → T (all (λ b. ltb b 256) (drop n bs))
+unfolding all
+drop-bytes zero bs t = t
+drop-bytes (suc n) [] t = tt
+drop-bytes (suc n) (b ∷ bs) t = drop-bytes n bs (and-right (ltb b 256) (all (λ x. ltb x 256) bs) t)
+
+callOf-fits : (bs : List ℕ) → T (all (λ b. ltb b 256) bs) → Fits (some (callOf bs))
 unfolding callOf inRange
 callOf-fits bs t =
     let prec : (getD bs 4 0 + 128) % 256 < 256 = mod-lt (getD bs 4 0 + 128) (omega arith) in
     let high = getD-byte bs 5 t in
-    let low = getD-byte bs 6 t in
-    and-both (leb ((getD bs 4 0 + 128) % 256) 255) (leb (256 * getD bs 5 0 + getD bs 6 0) 65535)
-    (le→leb ((getD bs 4 0 + 128) % 256) 255 (omega arith)) (le→leb (256 * getD bs 5 0 + getD bs 6 0) 65535 (omega arith))
+    let low = getD-byte bs 6 t in (
+      and-both (leb ((getD bs 4 0 + 128) % 256) 255) (leb (256 * getD bs 5 0 + getD bs 6 0) 65535)
+          (le→leb ((getD bs 4 0 + 128) % 256) 255 (omega arith)) (le→leb (256 * getD bs 5 0 + getD bs 6 0) 65535 (omega arith)),
+      λ _. bytes-count (drop 8 bs) (drop-bytes 8 bs t),
+    )
 
 frame-fits : (r : Option (List ℕ)) → Bytes r → Fits (frame r)
 unfolding frame
@@ -87,7 +95,7 @@ feed-fine s l h = go (frame (unhex l)) (frame-fits (unhex l) (unhex-bytes l))
   where
     go : (o : Option Call) → Fits o → Fine (outcomeOf s o .next)
     go none t = unfold outcomeOf silent in h
-    go (some c) t = record { sane = call-sound s c t (h .sane); size = subst (λ (n : ℕ). T (sized n)) (sym (call-wide s c)) (h .size) }
+    go (some c) t = record { sane = call-sound s c (t .0) (t .1) (h .sane); size = subst (λ (n : ℕ). T (sized n)) (sym (call-wide s c)) (h .size) }
 
 pub fed-next : (show : Bool) (s : StateM) (l : List ℕ) → fed show s l .next ≡ feed s l .next
 unfolding fed

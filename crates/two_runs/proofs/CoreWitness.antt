@@ -1,16 +1,17 @@
--- The stronger form of demand 3 is about something: K frees its only channel, so that it is on none, and in one of the runs another
--- takes it. K sees the same, K's part is the same in the end, and the states are not. And a command with a key on no channel moves
+-- The stronger form of demand 3 is about something: K frees its only channel, with its write and who waits for that, so that it is on
+-- none, and in one of the runs another takes it. K sees the same, K's part is the same in the end, and the states are not. And a command with a key on no channel moves
 -- nothing, where the same with a key on one does.
 -- Assumes nothing.
 use Prim.Native.Nat.{ℕ}
 use mathlib.Core.Path.{_≡_, refl}
-use mathlib.Core.Bool.{_||_, false, true}
+use mathlib.Core.Bool.{false, true}
 use mathlib.Core.List.{List, [], _∷_, map}
-use lib.Dec.{eqb}
 use lib.ListN.{length}
 use Rattle.machine.specs.State.{COMMAND, State}
 use Rattle.machine.specs.Call.{call}
+use Rattle.machine.specs.Lists.{among}
 use Rattle.machine.specs.Machine.{machine}
+use Rattle.machine.specs.Walks.{plays}
 use Rattle.two_runs.specs.TwoRuns.{Party, Step, claim, our, own, reached, seen, their}
 use Rattle.two_runs.specs.Core.{Begins, Goes, mayAlso, ofParty}
 use Rattle.two_runs.proofs.Part.{project}
@@ -20,13 +21,14 @@ use Rattle.two_runs.proofs.OnNoChannel.{moves-nothing}
 
 -- K is 1 and P is 10, which stands as 138
 abbrev party : Party
-party = record { key = 1; floor = 138; mine = λ i. eqb i 5 || eqb i 9 }
+party = record { key = 1; floor = 138; mine = λ i. among i (5 ∷ 6 ∷ 7 ∷ 9 ∷ []) }
 
 abbrev start : State
 start =
     record {
-      channels = record { key = 1; prec = 138; locked = false; stopped = false; writes = [] } ∷ [];
+      channels = record { key = 1; prec = 138; locked = false; stopped = false; writes = plays 6 4 300 10 ∷ [] } ∷ [];
       locks = [];
+      waiters = record { id = 7; key = 1; map = 1 } ∷ [];
       waiting = [];
       opens = 1 ∷ [];
       last = 0;
@@ -61,8 +63,8 @@ same-calls = refl
 pub alike : seen party start quiet ≡ seen party start busy
 alike = core party start quiet busy begins quiet-goes busy-goes same-calls
 
--- two replies, two answers, and the channels three times
-pub how-many : length (seen party start quiet) ≡ 7
+-- four replies, two answers, and the channels three times
+pub how-many : length (seen party start quiet) ≡ 9
 unfolding machine claim
 how-many = refl
 

@@ -5,26 +5,27 @@
 --   Absent k cs        the key is on no channel; key 0 never is
 --   Harmless o         a command, and not ALLOCATE
 --   moves-nothing      the law
-use Prim.Native.Nat.{_+_, _*_, _^_, _<_, _/_, _%_, suc, zero, ℕ}
+use Prim.Native.Nat.{_+_, _*_, _^_, _<_, _/_, _%_, suc, ℕ}
 use mathlib.Core.Path.{_∙_, _≡_, ap, refl, sym, subst}
 use mathlib.Core.Bool.{Bool, _&&_, _||_, false, not, true}
 use mathlib.Core.List.{List, [], _++_, _∷_, map}
 use native.Mathlib.Omega.{arith}
 use lib.Dec.{T, T-not, eqb, eqb→eq, ltb, ltb→lt, not-T}
 use lib.ListN.{length}
-use Rattle.machine.specs.Numbers.{nowait, ADCMD·ALLOCATE}
+use Rattle.machine.specs.Numbers.{synced}
 use Rattle.machine.specs.Lists.{all, if_then_else_, keep}
 use Rattle.machine.specs.State.{ABORT, CLOSE, COMMAND, Call, Channel, EVENT, Lock, OPEN, Op, Outcome, Reply, State, free}
-use Rattle.machine.specs.Maps.{at, bit, change, half, lowest, meets, minus, named, odd}
-use Rattle.machine.specs.Commands.{cleared, doFree, doLock, doRead, doWrite, each, eachChange, finished, flushed, freed, freeing, isEmpty, matches, matching, mismatch, reset, same, setPrec, setStop, silent}
+use Rattle.machine.specs.Maps.{at, bit, change, half, lowest, minus, named, odd}
+use Rattle.machine.specs.Granting.{cut, onChannels}
+use Rattle.machine.specs.Commands.{cleared, doFinish, doFree, doLock, doPervol, doRead, doWaitcycle, doWrite, each, eachChange, finished, flushed, freed, freeing, frontGone, inProgress, isEmpty, matches, matching, mismatch, onFront, rememberFinish, reset, same, setPrec, setStop, silent}
 use Rattle.machine.specs.Call.{accept, answering, call, perform, settling}
-use Rattle.machine.specs.Kinds.{ALLOCATE, CLEAR, FLUSH, FREE, Kind, LOCK, READ, RESET, SETPREC, START, STOP, UNKNOWN, UPDATE, WRITE, allocates, kind}
+use Rattle.machine.specs.Kinds.{ALLOCATE, CLEAR, FLUSH, FREE, Kind, LOCK, READ, RESET, SETPREC, START, STOP, FINISH, PERVOL, WAITCYCLE, UNKNOWN, UPDATE, WRITE, allocates, kind}
 use Rattle.machine.specs.Refusals.{Refusal, accepted, badMap, badMaps, refusal, refused}
 use Rattle.machine.specs.Settling.{settle}
 use Rattle.machine.specs.Sound.{sound, soundLock}
 use Rattle.machine.proofs.Tests.{and-left, and-right, by-test, if-elim, or-named, test-false, test-true}
-use Rattle.machine_laws.proofs.Lists.{keep-each}
-use Rattle.machine_laws.proofs.Maps.{bit-of, minus-apart}
+use Rattle.machine_laws.proofs.Lists.{all-any, keep-each}
+use Rattle.machine_laws.proofs.Maps.{bit-of, meets-zero, minus-apart}
 use Rattle.machine.proofs.Steps.{first-none}
 use Rattle.machine_laws.proofs.Refusals.{refuse-same}
 use Rattle.machine_laws.proofs.Sound.{parts}
@@ -56,10 +57,17 @@ at-none k m (c ∷ cs) t =
     if-elim (λ (d : Channel). T (not (matches k d))) (odd m) (λ _. and-left (not (matches k c)) (all (λ d. not (matches k d)) cs) t)
     (λ _. at-none k (half m) cs (and-right (not (matches k c)) (all (λ d. not (matches k d)) cs) t))
 
-meets-zero : (n m : ℕ) → T (not (meets n 0 m))
-unfolding meets odd half
-meets-zero zero m = tt
-meets-zero (suc n) m = meets-zero n (m / 2)
+-- map 0 cuts nobody
+cut-zero : (s : State) → cut 0 s ≡ s
+unfolding cut onChannels
+cut-zero s =
+    rw (keep-each (λ w. not (onChannels (length (s .channels)) 0 w)) (s .waiters)
+    (all-any (λ w. not (onChannels (length (s .channels)) 0 w)) (λ w. rw (meets-zero (length (s .channels)) (w .map)) tt) (s .waiters))) refl
+
+progress-zero : (cs : List Channel) → inProgress 0 cs ≡ 0
+unfolding inProgress odd half bit
+progress-zero [] = refl
+progress-zero (c ∷ cs) = rw (progress-zero cs)
 
 -- of a board's map that names only channels which pass a test that none passes, no bit is set
 named-none : (q : Channel → Bool) (m : ℕ) (cs : List Channel) → T (all (λ c. not (q c)) cs) → T (named q m cs) → m < 2 ^ length cs → m ≡ 0
@@ -78,7 +86,8 @@ named-none q m (c ∷ cs) t u h =
 module _ (c : Call) (s : State) (a : Absent (c .key) (s .channels)) where
   each-same : (n : ℕ) (f : Channel → Channel) (drops : Bool) → eachChange n f drops c s .next ≡ s
   unfolding eachChange each finished
-  each-same n f drops = rw (matching-none (c .key) (c .map) (s .channels) a, change-zero f (s .channels))
+  each-same n f true = rw (matching-none (c .key) (c .map) (s .channels) a, change-zero f (s .channels), cut-zero s)
+  each-same n f false = rw (matching-none (c .key) (c .map) (s .channels) a, change-zero f (s .channels))
 
   lock-kept : (l : Lock) → T (soundLock (s .channels) l) → minus (length (s .channels)) (l .map) 0 ≡ l .map
   unfolding soundLock
@@ -86,7 +95,7 @@ module _ (c : Call) (s : State) (a : Absent (c .key) (s .channels)) where
       let x = not (eqb (l .map) 0) in
       let y = ltb (l .map) (2 ^ length (s .channels)) in
       let z = not (eqb (l .key) 0) in
-      minus-apart (length (s .channels)) (l .map) 0 (ltb→lt (l .map) (2 ^ length (s .channels)) (and-right x y (and-left (x && y) z (and-left (x && y && z) _ t)))) (meets-zero (length (s .channels)) (l .map))
+      minus-apart (length (s .channels)) (l .map) 0 (ltb→lt (l .map) (2 ^ length (s .channels)) (and-right x y (and-left (x && y) z (and-left (x && y && z) _ t)))) (rw (meets-zero (length (s .channels)) (l .map)) tt)
 
   locks-kept : (ls : List Lock) → T (all (soundLock (s .channels)) ls) → cleared (length (s .channels)) 0 ls ≡ ls
   unfolding cleared all
@@ -106,7 +115,7 @@ module _ (c : Call) (s : State) (a : Absent (c .key) (s .channels)) where
   free-same : T (all (soundLock (s .channels)) (s .locks)) → doFree c s .next ≡ s
   unfolding doFree each finished freeing
   free-same t =
-      rw (matching-none (c .key) (c .map) (s .channels) a, change-zero freed (s .channels), locks-kept (s .locks) t, keep-each (λ (l : Lock). not (isEmpty l)) (s .locks) (locks-full (s .locks) t))
+      rw (matching-none (c .key) (c .map) (s .channels) a, change-zero freed (s .channels), cut-zero s, locks-kept (s .locks) t, keep-each (λ (l : Lock). not (isEmpty l)) (s .locks) (locks-full (s .locks) t))
 
   lock-same : c .map < 2 ^ length (s .channels) → doLock c s .next ≡ s
   unfolding doLock finished silent mismatch
@@ -128,6 +137,16 @@ module _ (c : Call) (s : State) (a : Absent (c .key) (s .channels)) where
   unfolding doWrite finished silent
   write-same = rw (test-false (matches (c .key) (at (lowest (length (s .channels)) (c .map)) (s .channels))) (at-none (c .key) (lowest (length (s .channels)) (c .map)) (s .channels) a))
 
+  finish-same : doFinish c s .next ≡ s
+  unfolding doFinish each finished
+  finish-same =
+      if-elim (λ (o : Outcome). o .next ≡ s) (synced (c .flags)) (λ _. each-same 11 (onFront rememberFinish) false)
+      (λ _. rw (matching-none (c .key) (c .map) (s .channels) a, progress-zero (s .channels), change-zero frontGone (s .channels), cut-zero s) refl)
+
+  waitcycle-same : doWaitcycle c s .next ≡ s
+  unfolding doWaitcycle finished silent
+  waitcycle-same = rw (test-false (matches (c .key) (at (lowest (length (s .channels)) (c .map)) (s .channels))) (at-none (c .key) (lowest (length (s .channels)) (c .map)) (s .channels) a))
+
   perform-same : (k : Kind) → T (not (allocates k)) → T (all (soundLock (s .channels)) (s .locks)) → c .map < 2 ^ length (s .channels) → perform k c s .next ≡ s
   unfolding perform allocates
   perform-same RESET n t h = each-same 1 reset true
@@ -140,7 +159,10 @@ module _ (c : Call) (s : State) (a : Absent (c .key) (s .channels)) where
   perform-same FLUSH n t h = each-same 8 flushed true
   perform-same FREE n t h = free-same t
   perform-same SETPREC n t h = each-same 10 (setPrec (c .prec)) false
+  perform-same FINISH n t h = finish-same
+  perform-same PERVOL n t h = unfold doPervol in each-same 12 _ false
   perform-same LOCK n t h = lock-same h
+  perform-same WAITCYCLE n t h = waitcycle-same
   perform-same ALLOCATE n t h = absurd n
   perform-same UNKNOWN n t h = unfold silent in refl
 

@@ -14,7 +14,7 @@ use Rattle.machine.specs.State.{ABORT, CLOSE, COMMAND, Call, EVENT, OPEN, Op, S
 use Rattle.machine.specs.Maps.{at, lowest}
 use Rattle.machine.specs.Commands.{doAbort, doEvent, done, finished, flushed, reset, same, setStop, silent}
 use Rattle.machine.specs.Call.{accept, answering, call, perform, settling}
-use Rattle.machine.specs.Kinds.{ALLOCATE, CLEAR, FLUSH, FREE, Kind, LOCK, READ, RESET, SETPREC, START, STOP, UNKNOWN, UPDATE, WRITE, allocates, kind, unknown}
+use Rattle.machine.specs.Kinds.{ALLOCATE, CLEAR, FLUSH, FREE, Kind, LOCK, READ, RESET, SETPREC, START, STOP, FINISH, PERVOL, WAITCYCLE, UNKNOWN, UPDATE, WRITE, allocates, kind, unknown}
 use Rattle.machine.specs.Refusals.{Refusal, accepted, badMap, badMaps, refusal, refuse, refused}
 use Rattle.machine.specs.Sound.{sound}
 use Rattle.machine.proofs.Tests.{and-left, and-right, by-test, test-false, test-true}
@@ -26,9 +26,10 @@ use Rattle.two_runs.proofs.Part.{Ours, Ready, allowed, allowed-kind, pr
 use Rattle.two_runs.proofs.Settle.{Loop, ready-loop, settle-calm}
 use Rattle.two_runs.proofs.OursPart.{Tame, finished-own, fit-own, none-own, own-floor, own-writes, settling-own, silent-own}
 use Rattle.two_runs.proofs.OursEach.{each-tame, setprec-tame}
-use Rattle.two_runs.proofs.OursQueue.{lock-loop, lock-own, read-loop, read-own, write-loop, write-own}
+use Rattle.two_runs.proofs.OursQueue.{lock-loop, lock-own, read-loop, read-own, waitcycle-loop, waitcycle-own, write-loop, write-own}
 use Rattle.two_runs.proofs.OursFree.{free-loop, free-own}
 use Rattle.two_runs.proofs.OursEvent.{event-loop, event-own}
+use Rattle.two_runs.proofs.OursFinish.{finish-tame, pervol-tame}
 use Rattle.two_runs.proofs.OursAbort.{abort-loop, abort-own}
 use Rattle.two_runs.proofs.OursSound.{among-ids, project-sound}
 
@@ -48,7 +49,10 @@ module _ (p : Party) (real : T (not (eqb (p .key) 0))) where
   perform-tame FLUSH c s k m a u b lp = each-tame p real 8 flushed (λ d. refl) true c s k m lp (λ d h f. fit-own p real (flushed d) h (own-floor p real d h f) tt)
   perform-tame FREE c s k m a u b lp = record { alike = free-own p real c s k m lp; loop = free-loop p real c s lp }
   perform-tame SETPREC c s k m a u b lp = setprec-tame p real c s k m a lp
+  perform-tame FINISH c s k m a u b lp = finish-tame p real c s k m lp
+  perform-tame PERVOL c s k m a u b lp = pervol-tame p real c s k m lp
   perform-tame LOCK c s k m a u b lp = record { alike = lock-own p real c s k m; loop = lock-loop p real c s k m b lp }
+  perform-tame WAITCYCLE c s k m a u b lp = record { alike = waitcycle-own p real c s k m; loop = waitcycle-loop p real c s k m lp }
   perform-tame ALLOCATE c s k m a u b lp = absurd a
   perform-tame UNKNOWN c s k m a u b lp = absurd u
 
@@ -71,7 +75,10 @@ not-both p START c s a z = z
 not-both p FLUSH c s a z = z
 not-both p FREE c s a z = z
 not-both p SETPREC c s a z = z
+not-both p FINISH c s a z = z
+not-both p PERVOL c s a z = z
 not-both p LOCK c s a z = z
+not-both p WAITCYCLE c s a z = z
 not-both p ALLOCATE c s a z = a
 not-both p UNKNOWN c s a z = z
 
@@ -100,7 +107,7 @@ module _ (p : Party) (s : State) (r : Ready p s) where
   refusal-same (COMMAND k) c t =
       rw (
         sound-same,
-        among-ids p (r .real) (c .id) (and-right (eqb (c .key) (p .key)) (p .mine (c .id)) (t .party)) s (r .fit) (r .fitLocks) (r .low),
+        among-ids p (r .real) (c .id) (and-right (eqb (c .key) (p .key)) (p .mine (c .id)) (t .party)) s (r .fit) (r .fitLocks) (r .fitWaiters) (r .low),
         opens-same,
         badMap-same c,
         badMaps-same c,
@@ -143,9 +150,9 @@ module _ (p : Party) (s : State) (r : Ready p s) where
   accept-own CLOSE c t e = absurd (t .sends)
   accept-own ABORT c t e =
       settling-own p (r .real) (doAbort c s) (doAbort c (project p s)) (abort-loop p (r .real) c s (ready-loop p s r))
-      (abort-own p (r .real) c s (t .party) (r .fit) (r .low))
+      (abort-own p (r .real) c s (t .party) (ready-loop p s r))
   accept-own EVENT c t e =
-      settling-own p (r .real) (doEvent c s) (doEvent c (project p s)) (event-loop p (r .real) c s (ready-loop p s r) (event-on c t)) (event-own p (r .real) c s (r .fit) (event-on c t))
+      settling-own p (r .real) (doEvent c s) (doEvent c (project p s)) (event-loop p (r .real) c s (ready-loop p s r) (event-on c t)) (event-own p (r .real) c s (ready-loop p s r) (event-on c t))
   accept-own (COMMAND k) c t e =
       let tame = command-tame k c t e in
       settling-own p (r .real) (perform (kind k) c s) (perform (kind k) c (project p s)) (tame .loop) (tame .alike)

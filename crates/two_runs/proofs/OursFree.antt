@@ -1,4 +1,6 @@
--- FREE of the K party does to its part what it does to the state, and leaves what settling needs.
+-- FREE of the K party does to its part what it does to the state, and leaves what settling needs: a WAITCYCLE that stays waits for a
+-- channel that is as it was.
+-- Assumes nothing.
 use Prim.Native.Nat.{_^_, _<_, ℕ}
 use mathlib.Core.Path.{_∙_, _≡_, ap, ap₂, refl, subst, sym}
 use mathlib.Core.Bool.{Bool, _&&_, _||_, false, not, true}
@@ -7,16 +9,18 @@ use lib.Dec.{T, T-not, eqb, lt→ltb, ltb}
 use lib.ListN.{length, length-map}
 use Rattle.machine.specs.Lists.{all, any, if_then_else_, keep}
 use Rattle.machine.specs.State.{Call, Channel, Lock, Reply, State, free}
-use Rattle.machine.specs.Maps.{bit, change, half, minus, named, odd}
-use Rattle.machine.specs.Granting.{abortedIn}
+use Rattle.machine.specs.Maps.{bit, change, half, meets, minus, named, odd}
+use Rattle.machine.specs.Granting.{cut, dropped, onChannels}
 use Rattle.machine.specs.Commands.{cleared, doFree, each, ended, finished, freed, freeing, freeingReplies, isEmpty, matching}
 use Rattle.machine.proofs.Tests.{and-both, and-left, and-right, by-test, if-elim, or-named, or-from, test-false, test-true}
+use Rattle.machine_laws.proofs.Keeping.{named-away}
+use Rattle.machine_laws.proofs.Lists.{all-kept, keep-swap}
 use Rattle.machine_laws.proofs.Maps.{half-bit, length-change, minus-lt, odd-bit}
 use Rattle.two_runs.specs.TwoRuns.{Party, holds, mask, ownReplies}
 use Rattle.two_runs.proofs.Part.{fitting, ownLocks, project, projectOut}
 use Rattle.two_runs.proofs.Away.{free-away}
 use Rattle.two_runs.proofs.Settle.{Loop, lockFits, ownLock}
-use Rattle.two_runs.proofs.OursPart.{Tame, abortedIn-own, finished-own, mask-other, mask-own, matching-mask, matching-own, mismatch-mask, own-append-both, state-path}
+use Rattle.two_runs.proofs.OursPart.{Tame, dropped-own, finished-own, mask-other, mask-own, matching-mask, matching-own, mismatch-mask, own-append-both, state-path}
 
 module _ (p : Party) (real : T (not (eqb (p .key) 0))) where
   -- freed channels are free in the part too
@@ -30,9 +34,6 @@ module _ (p : Party) (real : T (not (eqb (p .key) 0))) where
       go false = refl
 
   module _ (n f : ℕ) where
-    cut : Lock → Lock
-    cut l = record { id = l .id; key = l .key; map = minus n (l .map) f }
-
     locks-cut : (q : Lock → Bool) (ls : List Lock) → keep q (cleared n f (ownLocks p ls)) ≡ ownLocks p (keep q (cleared n f ls))
     unfolding cleared ownLocks keep
     locks-cut q [] = refl
@@ -119,6 +120,27 @@ module _ (p : Party) (real : T (not (eqb (p .key) 0))) where
               (rw (length-change freed f cs) (lt→ltb (minus (length cs) (l .map) f) (2 ^ length cs) (minus-lt (length cs) (l .map) f))) (unfold isEmpty in e)))
           go false v = v
 
+  waiter-ok : (f : ℕ) (cs : List Channel) (l : Lock) → T (not (meets (length cs) f (l .map))) → T (ownLock p cs l) → T (ownLock p (change freed f cs) l)
+  unfolding ownLock lockFits
+  waiter-ok f cs l u t = go (eqb (l .key) (p .key)) t
+    where
+      r : Bool
+      r = ltb (l .map) (2 ^ length cs) && not (eqb (l .map) 0)
+
+      go : (b : Bool) → T (if b then p .mine (l .id) && (named (holds p) (l .map) cs && r) else not (p .mine (l .id)))
+          → T (if b then p .mine (l .id) && (named (holds p) (l .map) (change freed f cs) && (ltb (l .map) (2 ^ length (change freed f cs)) && not (eqb (l .map) 0))) else not (p .mine (l .id)))
+      go true v =
+          let w = and-right (p .mine (l .id)) (named (holds p) (l .map) cs && r) v in
+          rw (length-change freed f cs)
+          (and-both (p .mine (l .id)) (named (holds p) (l .map) (change freed f cs) && r) (and-left (p .mine (l .id)) (named (holds p) (l .map) cs && r) v)
+          (and-both (named (holds p) (l .map) (change freed f cs)) r (named-away freed (holds p) (l .map) f cs u (and-left (named (holds p) (l .map) cs) r w)) (and-right (named (holds p) (l .map) cs) r w)))
+      go false v = v
+
+  waiters-ok : (f : ℕ) (s : State) → Loop p s → T (all (ownLock p (change freed f (s .channels))) (cut f s .waiters))
+  unfolding cut onChannels
+  waiters-ok f s lp =
+      all-kept (λ w. not (onChannels (length (s .channels)) f w)) (ownLock p (s .channels)) (ownLock p (change freed f (s .channels))) (waiter-ok f (s .channels)) (s .waiters) (lp .waitersOK)
+
   fit-freed : (m : ℕ) (cs : List Channel) → T (all (fitting p) cs) → T (all (fitting p) (change freed m cs))
   unfolding all change
   fit-freed m [] t = tt
@@ -128,18 +150,21 @@ module _ (p : Party) (real : T (not (eqb (p .key) 0))) where
       (fit-freed (half m) cs (and-right (fitting p c) (all (fitting p) cs) t))
 
   pub free-own : (c : Call) (s : State) → c .key ≡ p .key → T (p .mine (c .id)) → Loop p s → doFree c (project p s) ≡ projectOut p (doFree c s)
-  unfolding doFree each project freeing freeingReplies
+  unfolding doFree each project freeing freeingReplies cut
   free-own c s k m lp =
       rw (matching-mask p real (c .key) k (c .map) (s .channels), mismatch-mask p real (c .key) k (c .map) (s .channels), length-map (s .channels) (mask p))
       (finished-own p real 9 c _ _ _ _ _ m
-      (own-append-both p real (abortedIn f (s .channels)) _ _ _ (abortedIn-own p real f (s .channels) (matching-own p real (c .key) k (c .map) (s .channels)) (lp .fit)) (ended-own (length (s .channels)) f (s .channels) (s .locks) (lp .locksOK)))
-      (state-path p real (change-freed f (s .channels)) (locks-cut (length (s .channels)) f (λ l. not (isEmpty l)) (s .locks))))
+      (own-append-both p real (dropped f s) _ _ _ (dropped-own p real f s (matching-own p real (c .key) k (c .map) (s .channels)) (lp .fit) (lp .waitersOK)) (ended-own (length (s .channels)) f (s .channels) (s .locks) (lp .locksOK)))
+      (state-path p real (change-freed f (s .channels)) (locks-cut (length (s .channels)) f (λ l. not (isEmpty l)) (s .locks)) waits))
     where
       f : ℕ
       f = matching (c .key) (c .map) (s .channels)
 
+      waits : keep (λ w. not (onChannels (length (s .channels)) f w)) (ownLocks p (s .waiters)) ≡ ownLocks p (keep (λ w. not (onChannels (length (s .channels)) f w)) (s .waiters))
+      waits = unfold ownLocks in keep-swap (λ w. not (onChannels (length (s .channels)) f w)) (λ (w : Lock). eqb (w .key) (p .key)) (s .waiters)
+
   pub free-loop : (c : Call) (s : State) → Loop p s → Loop p (doFree c s .next)
-  unfolding doFree each finished freeing
+  unfolding doFree each finished freeing cut
   free-loop c s lp =
       let f = matching (c .key) (c .map) (s .channels) in
       record {
@@ -147,6 +172,7 @@ module _ (p : Party) (real : T (not (eqb (p .key) 0))) where
         entered = lp .entered;
         fit = fit-freed f (s .channels) (lp .fit);
         locksOK = locks-ok f (s .channels) (s .locks) (lp .locksOK);
+        waitersOK = waiters-ok f s lp;
         low = lp .low;
         few = rw (length-change freed f (s .channels)) (lp .few);
       }

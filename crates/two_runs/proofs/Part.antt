@@ -3,11 +3,10 @@
 -- need, and their first laws.
 -- Assumes nothing.
 --
---   ownLocks p ls      the locks with K
---   project p s        the K party's part of a state: its channels and locks; nobody waits, and K alone is open
+--   ourWrite, theirWrite p w   a write has an id of the party's; has none
 --   projectOut p o     its part of an outcome: the answer, the replies to its ids, its part of the next state
 --   fitting p c        a channel with K is at P or more and has writes of the party's alone; another has none of them
---   fittingLock p l    a lock has an id of the party's exactly if it has K
+--   fittingLock p l    a lock or a WAITCYCLE has an id of the party's exactly if it has K
 --   lower p r          a waiting allocation is at most P, without K and without an id of the party's
 --   Ready p s          all of it, in a sound state with an entry for K
 --   allowed, modestly  what the premises leave of a command of the K party's, and of the others', by its kind
@@ -18,32 +17,33 @@ use mathlib.Core.Bool.{Bool, _&&_, _||_, false, not, true}
 use mathlib.Core.List.{List, [], _∷_, map}
 use lib.Dec.{T, T-not, eqb, eqb→eq, leb}
 use Rattle.machine.specs.Numbers.{ADCMD·ALLOCATE, ADCMD·FREE, ADCMD·SETPREC}
-use Rattle.machine.specs.Lists.{all, among, if_then_else_, keep}
-use Rattle.machine.specs.State.{COMMAND, Call, Channel, Lock, Op, Outcome, Reply, Request, State, free}
+use Rattle.machine.specs.Lists.{all, among, if_then_else_}
+use Rattle.machine.specs.State.{COMMAND, Call, Channel, Lock, Op, Outcome, Reply, Request, State, Write, free}
 use Rattle.machine.specs.Commands.{matching}
-use Rattle.machine.specs.Kinds.{ALLOCATE, CLEAR, FLUSH, FREE, Kind, LOCK, READ, RESET, SETPREC, START, STOP, UNKNOWN, UPDATE, WRITE, kind}
+use Rattle.machine.specs.Kinds.{ALLOCATE, CLEAR, FLUSH, FREE, Kind, LOCK, READ, RESET, SETPREC, START, STOP, FINISH, PERVOL, WAITCYCLE, UNKNOWN, UPDATE, WRITE, kind}
 use Rattle.machine.specs.Refusals.{accepted, refusal}
 use Rattle.machine.specs.Sound.{sound}
 use Rattle.machine.proofs.Tests.{and-left, and-right, by-test, if-elim, or-named, test-false, test-true}
 use Rattle.machine_laws.proofs.Lists.{keep-twice}
-use Rattle.two_runs.specs.TwoRuns.{Party, avoids, holds, keepsFloor, mask, maySend, modest, ownReplies, selected, sets, view}
+use Rattle.two_runs.specs.TwoRuns.{Party, avoids, holds, keepsFloor, mask, maySend, modest, ownReplies, selected, sets, view, waitersOf}
+unfoldable pub use Rattle.two_runs.specs.Part.{ownLocks, project}
 use Rattle.two_runs.specs.Core.{OfK, OfOthers, mayAlso, ofParty}
 
 -- ---- the part
-
-unfoldable pub ownLocks : Party → List Lock → List Lock
-ownLocks p ls = keep (λ l. eqb (l .key) (p .key)) ls
-
-unfoldable pub project : Party → State → State
-project p s = record { channels = map (mask p) (s .channels); locks = ownLocks p (s .locks); waiting = []; opens = p .key ∷ []; last = 0 }
 
 unfoldable pub projectOut : Party → Outcome → Outcome
 projectOut p o = record { answer = o .answer; replies = ownReplies p (o .replies); next = project p (o .next) }
 
 -- ---- between the calls
 
+abbrev pub ourWrite : Party → Write → Bool
+ourWrite p w = p .mine (w .id)
+
+abbrev pub theirWrite : Party → Write → Bool
+theirWrite p w = not (p .mine (w .id))
+
 unfoldable pub fitting : Party → Channel → Bool
-fitting p c = if holds p c then leb (p .floor) (c .prec) && all (p .mine) (c .writes) else all (λ i. not (p .mine i)) (c .writes)
+fitting p c = if holds p c then leb (p .floor) (c .prec) && all (ourWrite p) (c .writes) else all (theirWrite p) (c .writes)
 
 unfoldable pub fittingLock : Party → Lock → Bool
 fittingLock p l = if eqb (l .key) (p .key) then p .mine (l .id) else not (p .mine (l .id))
@@ -57,6 +57,7 @@ pub record Ready (p : Party) (s : State) : Type 0 where
   pub entered : T (among (p .key) (s .opens))
   pub fit : T (all (fitting p) (s .channels))
   pub fitLocks : T (all (fittingLock p) (s .locks))
+  pub fitWaiters : T (all (fittingLock p) (s .waiters))
   pub low : T (all (lower p) (s .waiting))
 
 -- ---- one call
@@ -87,7 +88,10 @@ allowed p START c s = true
 allowed p FLUSH c s = true
 allowed p FREE c s = true
 allowed p SETPREC c s = leb (p .floor) (c .prec) || eqb (matching (c .key) (c .map) (s .channels)) 0
+allowed p FINISH c s = true
+allowed p PERVOL c s = true
 allowed p LOCK c s = true
+allowed p WAITCYCLE c s = true
 allowed p ALLOCATE c s = false
 allowed p UNKNOWN c s = true
 
@@ -102,19 +106,24 @@ modestly p START c = true
 modestly p FLUSH c = true
 modestly p FREE c = true
 modestly p SETPREC c = true
+modestly p FINISH c = true
+modestly p PERVOL c = true
 modestly p LOCK c = true
+modestly p WAITCYCLE c = true
 modestly p ALLOCATE c = leb (c .prec) (p .floor)
 modestly p UNKNOWN c = true
 
 -- the kind of a number, by the tests that `kind` makes
 kind-elim : (P : Kind → Type 0) (n : ℕ) → P RESET → P READ → P WRITE → P UPDATE → P CLEAR → P STOP → P START → P FLUSH
-    → (T (eqb n ADCMD·FREE) → P FREE) → (T (eqb n ADCMD·SETPREC) → P SETPREC) → P LOCK → (T (eqb n ADCMD·ALLOCATE) → P ALLOCATE) → P UNKNOWN
+    → (T (eqb n ADCMD·FREE) → P FREE) → (T (eqb n ADCMD·SETPREC) → P SETPREC) → P FINISH → P PERVOL → P LOCK → P WAITCYCLE
+    → (T (eqb n ADCMD·ALLOCATE) → P ALLOCATE) → P UNKNOWN
     → P (kind n)
 unfolding kind
-kind-elim P n a b d e f g h i j k l m o =
+kind-elim P n a b d e f g h i j k q r l w m o =
     if-elim P (eqb n 1) (λ _. a) (λ _. if-elim P (eqb n 2) (λ _. b) (λ _. if-elim P (eqb n 3) (λ _. d) (λ _. if-elim P (eqb n 4) (λ _. e)
     (λ _. if-elim P (eqb n 5) (λ _. f) (λ _. if-elim P (eqb n 6) (λ _. g) (λ _. if-elim P (eqb n 7) (λ _. h) (λ _. if-elim P (eqb n 8) (λ _. i)
-    (λ _. if-elim P (eqb n 9) j (λ _. if-elim P (eqb n 10) k (λ _. if-elim P (eqb n 13) (λ _. l) (λ _. if-elim P (eqb n 32) m (λ _. o))))))))))))
+    (λ _. if-elim P (eqb n 9) j (λ _. if-elim P (eqb n 10) k (λ _. if-elim P (eqb n 11) (λ _. q) (λ _. if-elim P (eqb n 12) (λ _. r)
+    (λ _. if-elim P (eqb n 13) (λ _. l) (λ _. if-elim P (eqb n 14) (λ _. w) (λ _. if-elim P (eqb n 32) m (λ _. o)))))))))))))))
 
 -- a SETPREC that is not refused sets the precedence of the channels that match
 setprec-sets : (n : ℕ) (c : Call) (s : State) → T (eqb n ADCMD·SETPREC) → refusal (COMMAND n) c s ≡ accepted → sets c s ≡ matching (c .key) (c .map) (s .channels)
@@ -135,13 +144,16 @@ allowed-kind p s n c k e =
     (λ t. subst (λ (x : ℕ). T (leb (p .floor) (c .prec) || eqb x 0)) (setprec-sets n c s t e)
     (or-named (eqb n ADCMD·SETPREC) (leb (p .floor) (c .prec) || eqb (sets c s) 0) (k .high) t))
     tt
+    tt
+    tt
+    tt
     (λ t. no-allocate n (k .sends) t)
     tt
 
 pub modest-kind : (p : Party) (n : ℕ) (c : Call) → T (modest p (COMMAND n) c) → T (modestly p (kind n) c)
 unfolding modestly modest
 modest-kind p n c m =
-    kind-elim (λ x. T (modestly p x c)) n tt tt tt tt tt tt tt tt (λ _. tt) (λ _. tt) tt (or-named (eqb n ADCMD·ALLOCATE) (leb (c .prec) (p .floor)) m) tt
+    kind-elim (λ x. T (modestly p x c)) n tt tt tt tt tt tt tt tt (λ _. tt) (λ _. tt) tt tt tt tt (or-named (eqb n ADCMD·ALLOCATE) (leb (c .prec) (p .floor)) m) tt
 
 -- ---- the part of a part
 
@@ -159,6 +171,10 @@ map-twice p (c ∷ cs) = rw (mask-twice p c, map-twice p cs)
 pub view-part : (p : Party) (s : State) → view p (project p s) ≡ view p s
 unfolding view project
 view-part p s = map-twice p (s .channels)
+
+pub waiters-part : (p : Party) (s : State) → waitersOf p (project p s) ≡ waitersOf p s
+unfolding waitersOf project ownLocks
+waiters-part p s = keep-twice (λ (w : Lock). eqb (w .key) (p .key)) (s .waiters)
 
 pub ownReplies-twice : (p : Party) (rs : List Reply) → ownReplies p (ownReplies p rs) ≡ ownReplies p rs
 unfolding ownReplies

@@ -1,6 +1,6 @@
 -- Settling is nothing to the K party: every waiting allocation is at most P, so each look chooses channels without K. A grant
--- then goes to channels without K and to a key that is not K; a lock that is replied -12 is over such channels and so not
--- K's; and a reply goes to a waiting allocation, which has none of the party's ids.
+-- then goes to channels without K and to a key that is not K; a lock that is replied -12, or a WAITCYCLE that is cut, is over such
+-- channels and so not K's; and a reply goes to a waiting allocation, which has none of the party's ids.
 -- Assumes nothing.
 use Prim.Native.Nat.{_+_, _<_, _^_, _≤_, suc, zero, ℕ}
 use mathlib.Core.Path.{_∙_, _≡_, ap, refl, subst, sym}
@@ -12,16 +12,17 @@ use lib.ListN.{length, length-map}
 use Rattle.machine.specs.Numbers.{ALLOCFAILED, CHANNELSTOLEN}
 use Rattle.machine.specs.Lists.{all, any, if_then_else_, keep, among}
 use Rattle.machine.specs.State.{Channel, Lock, Reply, Request, State}
-use Rattle.machine.specs.Maps.{at, change, meets, named}
+use Rattle.machine.specs.Maps.{at, change, lowest, meets, named}
 use Rattle.machine.specs.Choosing.{Look, fails, grants, held, look}
-use Rattle.machine.specs.Granting.{abortedIn, granted, keyFor, taken}
+use Rattle.machine.specs.Granting.{abortedIn, cut, cutReplies, dropped, givenUp, granted, keyFor, onChannels, taken}
 use Rattle.machine.specs.Commands.{ended}
 use Rattle.machine.specs.Settling.{Found, Settled, Walk, goOn, nobody, onLook, replied, rounds, saying, settle, somebody, staying, walk, walked}
-use Rattle.machine.specs.Sound.{soundLock}
+use Rattle.machine.specs.Sound.{soundLock, soundWaiter}
 use Rattle.machine.proofs.Tests.{and-both, and-left, and-right, by-test, if-elim, test-false, test-true}
 use Rattle.machine_laws.proofs.Choosing.{Spares, look-spares}
 use Rattle.machine_laws.proofs.Lists.{all-keep}
-use Rattle.machine_laws.proofs.Maps.{apart-meets, length-change, named-mono}
+use Rattle.machine_laws.proofs.Maps.{apart-meets, length-change, lowest-on, named-mono}
+use Rattle.machine_laws.proofs.Keeping.{served}
 use Rattle.machine_laws.proofs.Sound.{parts, in-use-few}
 use Rattle.two_runs.specs.TwoRuns.{Party, holds, mask, ownReplies}
 use Rattle.two_runs.proofs.Part.{Ready, fitting, fittingLock, lower, ownLocks, project}
@@ -29,7 +30,7 @@ use Rattle.two_runs.proofs.Away.{abortedIn-quiet, any-view, change-fit,
 
 -- ---- what settling needs, and keeps
 
--- a lock of the party names only its channels, of the board and at least one, and has an id of its own; no other lock has
+-- a lock or a WAITCYCLE of the party names only its channels, of the board and at least one, and has an id of its own; no other has
 unfoldable pub lockFits : Party → List Channel → Lock → Bool
 lockFits p cs l = named (holds p) (l .map) cs && (ltb (l .map) (2 ^ length cs) && not (eqb (l .map) 0))
 
@@ -41,10 +42,21 @@ pub record Loop (p : Party) (s : State) : Type 0 where
   pub entered : T (among (p .key) (s .opens))
   pub fit : T (all (fitting p) (s .channels))
   pub locksOK : T (all (ownLock p (s .channels)) (s .locks))
+  pub waitersOK : T (all (ownLock p (s .channels)) (s .waiters))
   pub low : T (all (lower p) (s .waiting))
   pub few : length (s .channels) + length (s .waiting) + length (s .opens) < 65535
 
--- ---- locks over channels without K are not K's
+-- one with K has an id of the party's
+pub own-id : (p : Party) (cs : List Channel) (l : Lock) → T (ownLock p cs l) → T (eqb (l .key) (p .key)) → T (p .mine (l .id))
+unfolding ownLock
+own-id p cs l o k = and-left (p .mine (l .id)) (lockFits p cs l) (rw (test-true (eqb (l .key) (p .key)) k) at o)
+
+-- another has none
+pub other-id : (p : Party) (cs : List Channel) (l : Lock) → T (ownLock p cs l) → T (not (eqb (l .key) (p .key))) → T (not (p .mine (l .id)))
+unfolding ownLock
+other-id p cs l o k = rw (test-false (eqb (l .key) (p .key)) k) at o
+
+-- ---- locks and WAITCYCLEs over channels without K are not K's
 
 module _ (p : Party) (m : ℕ) (cs : List Channel) (off : T (named (λ c. not (holds p c)) m cs)) where
   met-foreign : (l : Lock) → T (ownLock p cs l) → T (meets (length cs) m (l .map)) → T (not (eqb (l .key) (p .key)))
@@ -58,20 +70,20 @@ module _ (p : Party) (m : ℕ) (cs : List Channel) (off : T (named (λ c. not (h
           (and-left (named (holds p) (l .map) cs) (ltb (l .map) (2 ^ length cs) && not (eqb (l .map) 0)) (and-right (p .mine (l .id)) (lockFits p cs l) u)))
           at t
 
-  pub foreign-id : (l : Lock) → T (ownLock p cs l) → T (not (eqb (l .key) (p .key))) → T (not (p .mine (l .id)))
-  unfolding ownLock
-  foreign-id l o t = rw (test-false (eqb (l .key) (p .key)) t) at o
+  pub met-quiet : (f : Lock → Reply) → ((l : Lock) → f l .id ≡ l .id) → (ls : List Lock) → T (all (ownLock p cs) ls)
+      → ownReplies p (map f (keep (λ l. meets (length cs) m (l .map)) ls)) ≡ []
+  unfolding all keep ownReplies
+  met-quiet f e [] t = refl
+  met-quiet f e (l ∷ ls) t =
+      let o = and-left (ownLock p cs l) (all (ownLock p cs) ls) t in
+      let ih = met-quiet f e ls (and-right (ownLock p cs l) (all (ownLock p cs) ls) t) in
+      by-test (meets (length cs) m (l .map))
+      (λ u. rw (test-true (meets (length cs) m (l .map)) u, e l, test-false (p .mine (l .id)) (other-id p cs l o (met-foreign l o u))) ih)
+      (λ u. rw (test-false (meets (length cs) m (l .map)) u) ih)
 
   stolen-quiet : (ls : List Lock) → T (all (ownLock p cs) ls)
       → ownReplies p (map (ended CHANNELSTOLEN) (keep (λ l. meets (length cs) m (l .map)) ls)) ≡ []
-  unfolding all keep ownReplies ended
-  stolen-quiet [] t = refl
-  stolen-quiet (l ∷ ls) t =
-      let o = and-left (ownLock p cs l) (all (ownLock p cs) ls) t in
-      let ih = stolen-quiet ls (and-right (ownLock p cs l) (all (ownLock p cs) ls) t) in
-      by-test (meets (length cs) m (l .map))
-      (λ u. rw (test-true (meets (length cs) m (l .map)) u, test-false (p .mine (l .id)) (foreign-id l o (met-foreign l o u))) ih)
-      (λ u. rw (test-false (meets (length cs) m (l .map)) u) ih)
+  stolen-quiet = met-quiet (ended CHANNELSTOLEN) (λ l. unfold ended in refl)
 
   stolen-locks : (ls : List Lock) → T (all (ownLock p cs) ls)
       → ownLocks p (keep (λ l. not (meets (length cs) m (l .map))) ls) ≡ ownLocks p ls
@@ -88,6 +100,25 @@ module _ (p : Party) (m : ℕ) (cs : List Channel) (off : T (named (λ c. not (h
       if-cong : (b : Bool) {w x y z : List Lock} → w ≡ y → x ≡ z → (if b then w else x) ≡ (if b then y else z)
       if-cong true e h = e
       if-cong false e h = h
+
+-- ---- a cut at channels without K
+
+module _ (p : Party) (m : ℕ) (s : State) (off : T (named (λ c. not (holds p c)) m (s .channels))) (ok : T (all (ownLock p (s .channels)) (s .waiters))) where
+  pub cut-quiet : ownReplies p (cutReplies m s) ≡ []
+  unfolding cutReplies onChannels givenUp
+  cut-quiet = met-quiet p m (s .channels) off givenUp (λ l. refl) (s .waiters) ok
+
+  pub cut-still : ownLocks p (cut m s .waiters) ≡ ownLocks p (s .waiters)
+  unfolding cut onChannels
+  cut-still = stolen-locks p m (s .channels) off (s .waiters) ok
+
+  pub cut-ok : T (all (ownLock p (s .channels)) (cut m s .waiters))
+  unfolding cut
+  cut-ok = all-keep (ownLock p (s .channels)) (λ w. not (onChannels (length (s .channels)) m w)) (s .waiters) ok
+
+  pub dropped-quiet : T (all (fitting p) (s .channels)) → ownReplies p (dropped m s) ≡ []
+  unfolding dropped
+  dropped-quiet fit = own-append p (abortedIn m (s .channels)) (cutReplies m s) (abortedIn-quiet p m (s .channels) off fit) cut-quiet
 
 -- ---- a walk
 
@@ -189,9 +220,9 @@ module _ (p : Party) (cs : List Channel) (real : T (not (eqb (p .key) 0))) (fit 
 -- ---- states with the same view
 
 pub project-path : (p : Party) (s t : State) → map (mask p) (s .channels) ≡ map (mask p) (t .channels) → ownLocks p (s .locks) ≡ ownLocks p (t .locks)
-    → project p s ≡ project p t
+    → ownLocks p (s .waiters) ≡ ownLocks p (t .waiters) → project p s ≡ project p t
 unfolding project
-project-path p s t e h = rw (e, h)
+project-path p s t e h g = rw (e, h, g)
 
 pub same-length : (p : Party) (cs ds : List Channel) → map (mask p) ds ≡ map (mask p) cs → length ds ≡ length cs
 same-length p cs ds e = sym (length-map ds (mask p)) ∙ ap length e ∙ length-map cs (mask p)
@@ -233,31 +264,32 @@ module _ (p : Party) (s : State) (m k prec : ℕ) (lp : Loop p s) (off : T (name
   grant-view = change-view p (taken (keyFor k s) prec) (λ c _. newKeyNot) m (s .channels) off
 
   pub grant-loop : Loop p (granted m k prec s)
-  unfolding granted taken fitting all
+  unfolding granted cut taken fitting all
   grant-loop =
       record {
         real = lp .real;
         entered = lp .entered;
         fit = change-fit p (taken (keyFor k s) prec) (λ c _. newKeyNot) (λ c _ _. rw (test-false (eqb (keyFor k s) (p .key)) newKeyNot) tt) m (s .channels) off (lp .fit);
         locksOK = ownLock-view p (s .channels) (change (taken (keyFor k s) prec) m (s .channels)) (lp .real) grant-view (s .locks) (lp .locksOK);
+        waitersOK = ownLock-view p (s .channels) (change (taken (keyFor k s) prec) m (s .channels)) (lp .real) grant-view (cut m s .waiters) (cut-ok p m s off (lp .waitersOK));
         low = lp .low;
         few = rw (length-change (taken (keyFor k s) prec) m (s .channels)) (lp .few);
       }
 
   pub grant-still : project p (granted m k prec s) ≡ project p s
   unfolding granted
-  grant-still = project-path p (granted m k prec s) s grant-view refl
+  grant-still = project-path p (granted m k prec s) s grant-view refl (cut-still p m s off (lp .waitersOK))
 
 -- ---- rounds
 
 walked-loop : (p : Party) (s : State) (w : Walk) → Loop p s → WalkCalm p (s .channels) (length (s .waiting)) (s .locks) w → Loop p (walked w s)
 unfolding walked
 walked-loop p s w lp c =
-    record { real = lp .real; entered = lp .entered; fit = lp .fit; locksOK = c .locksOK; low = c .low; few = omega (arith, c .fewer, lp .few) }
+    record { real = lp .real; entered = lp .entered; fit = lp .fit; locksOK = c .locksOK; waitersOK = lp .waitersOK; low = c .low; few = omega (arith, c .fewer, lp .few) }
 
 walked-still : (p : Party) (s : State) (w : Walk) → WalkCalm p (s .channels) (length (s .waiting)) (s .locks) w → project p (walked w s) ≡ project p s
 unfolding walked
-walked-still p s w c = project-path p (walked w s) s refl (c .locks)
+walked-still p s w c = project-path p (walked w s) s refl (c .locks) refl
 
 goOn-calm : (p : Party) (f : Found) (w : Walk) (s : State) (again : State → Settled) → Loop p s → FoundCalm p (s .channels) f
     → WalkCalm p (s .channels) (length (s .waiting)) (s .locks) w
@@ -270,8 +302,8 @@ goOn-calm p (somebody r m) w s again lp fc c ih =
     let i = ih g (grant-loop p (walked w s) m (r .key) (r .prec) lp′ (fc .0) (lower-key p r (fc .1))) in
     record {
       quiet =
-          own-append p (w .replies ++ abortedIn m (s .channels)) (replied 0 m (keyFor (r .key) (walked w s)) r ∷ again g .replies)
-          (own-append p (w .replies) (abortedIn m (s .channels)) (c .quiet) (abortedIn-quiet p m (s .channels) (fc .0) (lp .fit)))
+          own-append p (w .replies ++ dropped m s) (replied 0 m (keyFor (r .key) (walked w s)) r ∷ again g .replies)
+          (own-append p (w .replies) (dropped m s) (c .quiet) (dropped-quiet p m s (fc .0) (lp .waitersOK) (lp .fit)))
           (replied-quiet p 0 m (keyFor (r .key) (walked w s)) r (again g .replies) (fc .1) (i .quiet));
       still = i .still ∙ (grant-still p (walked w s) m (r .key) (r .prec) lp′ (fc .0) (lower-key p r (fc .1))) ∙ walked-still p s w c;
       loop = i .loop;
@@ -324,13 +356,40 @@ ready-lock p cs l f t =
     t5 : T b
     t5 = and-right a b (and-left (a && b) d (and-left (a && b && d) (named own (l .map) cs) t))
 
-ready-locks : (p : Party) (cs : List Channel) (ls : List Lock) → T (all (fittingLock p) ls) → T (all (soundLock cs) ls) → T (all (ownLock p cs) ls)
+ready-waiter : (p : Party) (cs : List Channel) (w : Lock) → T (fittingLock p w) → T (soundWaiter cs w) → T (ownLock p cs w)
+unfolding fittingLock soundWaiter ownLock lockFits
+ready-waiter p cs w f t =
+    by-test (eqb (w .key) (p .key))
+    (λ u. rw (test-true (eqb (w .key) (p .key)) u)
+    (and-both (p .mine (w .id)) (named (holds p) (w .map) cs && (ltb (w .map) (2 ^ length cs) && not (eqb (w .map) 0)))
+    (rw (test-true (eqb (w .key) (p .key)) u) at f)
+    (and-both (named (holds p) (w .map) cs) (ltb (w .map) (2 ^ length cs) && not (eqb (w .map) 0))
+    (named-mono (served w) (holds p) (w .map) cs
+    (λ c v. subst (λ (k : ℕ). T (eqb (c .key) k)) (eqb→eq (w .key) (p .key) u) (and-left (eqb (c .key) (w .key)) (not (eqb (length (c .writes)) 0)) v)) t1)
+    (and-both (ltb (w .map) (2 ^ length cs)) (not (eqb (w .map) 0)) (lowest-on (length cs) (w .map) t3) t2))))
+    (λ u. rw (test-false (eqb (w .key) (p .key)) u) (rw (test-false (eqb (w .key) (p .key)) u) at f))
+  where
+    a : Bool
+    a = not (eqb (w .map) 0)
+
+    b : Bool
+    b = eqb (lowest (length cs) (w .map)) (w .map)
+
+    t1 : T (named (served w) (w .map) cs)
+    t1 = and-right (a && b) (named (served w) (w .map) cs) t
+
+    t2 : T a
+    t2 = and-left a b (and-left (a && b) (named (served w) (w .map) cs) t)
+
+    t3 : T b
+    t3 = and-right a b (and-left (a && b) (named (served w) (w .map) cs) t)
+
+-- two tests that all of a list pass give a third
+both-all : (q r u : Lock → Bool) → ((l : Lock) → T (q l) → T (r l) → T (u l)) → (ls : List Lock) → T (all q ls) → T (all r ls) → T (all u ls)
 unfolding all
-ready-locks p cs [] f t = tt
-ready-locks p cs (l ∷ ls) f t =
-    and-both (ownLock p cs l) (all (ownLock p cs) ls)
-    (ready-lock p cs l (and-left (fittingLock p l) (all (fittingLock p) ls) f) (and-left (soundLock cs l) (all (soundLock cs) ls) t))
-    (ready-locks p cs ls (and-right (fittingLock p l) (all (fittingLock p) ls) f) (and-right (soundLock cs l) (all (soundLock cs) ls) t))
+both-all q r u g [] f t = tt
+both-all q r u g (l ∷ ls) f t =
+    and-both (u l) (all u ls) (g l (and-left (q l) (all q ls) f) (and-left (r l) (all r ls) t)) (both-all q r u g ls (and-right (q l) (all q ls) f) (and-right (r l) (all r ls) t))
 
 pub ready-loop : (p : Party) (s : State) → Ready p s → Loop p s
 ready-loop p s r =
@@ -339,7 +398,8 @@ ready-loop p s r =
       real = r .real;
       entered = r .entered;
       fit = r .fit;
-      locksOK = ready-locks p (s .channels) (s .locks) (r .fitLocks) (q .locksOK);
+      locksOK = both-all (fittingLock p) (soundLock (s .channels)) (ownLock p (s .channels)) (ready-lock p (s .channels)) (s .locks) (r .fitLocks) (q .locksOK);
+      waitersOK = both-all (fittingLock p) (soundWaiter (s .channels)) (ownLock p (s .channels)) (ready-waiter p (s .channels)) (s .waiters) (r .fitWaiters) (q .waitersOK);
       low = r .low;
       few = omega (arith, in-use-few s q);
     }

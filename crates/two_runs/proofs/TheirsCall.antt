@@ -15,7 +15,7 @@ use Rattle.machine.specs.Choosing.{look}
 use Rattle.machine.specs.Commands.{doAbort, doClose, doEvent, doRead, done, each, eachChange, matches, matching, flushed, reset, same, setPrec, setStop, silent}
 use Rattle.machine.specs.Allocating.{doAllocate, doOpen, opening}
 use Rattle.machine.specs.Call.{accept, answering, call, openSettling, perform, settling}
-use Rattle.machine.specs.Kinds.{ALLOCATE, CLEAR, FLUSH, FREE, Kind, LOCK, READ, RESET, SETPREC, START, STOP, UNKNOWN, UPDATE, WRITE, kind}
+use Rattle.machine.specs.Kinds.{ALLOCATE, CLEAR, FLUSH, FREE, Kind, LOCK, READ, RESET, SETPREC, START, STOP, FINISH, PERVOL, WAITCYCLE, UNKNOWN, UPDATE, WRITE, kind}
 use Rattle.machine.specs.Refusals.{Refusal, accepted, badMap, refusal, refuse, refused}
 use Rattle.machine.specs.Settling.{settle}
 use Rattle.machine.proofs.Tests.{and-left, and-right, if-elim}
@@ -28,8 +28,9 @@ use Rattle.two_runs.proofs.Away.{own-append}
 use Rattle.two_runs.proofs.Settle.{Loop, ready-loop, settle-calm}
 use Rattle.two_runs.proofs.TheirsEach.{Mild, eachChange-mild, finished-mild}
 use Rattle.two_runs.proofs.TheirsFree.{close-mild, free-mild}
-use Rattle.two_runs.proofs.TheirsQueue.{lock-mild, read-mild, write-mild}
+use Rattle.two_runs.proofs.TheirsQueue.{lock-mild, read-mild, waitcycle-mild, write-mild}
 use Rattle.two_runs.proofs.TheirsEvent.{event-mild}
+use Rattle.two_runs.proofs.TheirsFinish.{finish-mild, pervol-mild}
 use Rattle.two_runs.proofs.TheirsAllocate.{allocate-mild, open-mild}
 use Rattle.two_runs.proofs.TheirsAbort.{abort-mild}
 
@@ -61,7 +62,10 @@ module _ (p : Party) (c : Call) (s : State) (u : T (not (p .mine (c .id)))) (lp 
   perform-mild FLUSH t few m = eachChange-mild p flushed (λ d. refl) (λ d _. tt) 8 true c s t u lp
   perform-mild FREE t few m = free-mild p c s t u lp
   perform-mild SETPREC t few m = eachChange-mild p (setPrec (c .prec)) (λ d. refl) (λ d w. w) 10 false c s t u lp
+  perform-mild FINISH t few m = finish-mild p c s t u lp
+  perform-mild PERVOL t few m = pervol-mild p c s t u lp
   perform-mild LOCK t few m = lock-mild p c s t u lp
+  perform-mild WAITCYCLE t few m = waitcycle-mild p c s t u lp
   perform-mild ALLOCATE t few m =
       unfold doAllocate in
       allocate-mild p c s t u lp (look (c .prec) (c .combos) (s .channels)) few m (look-spares (p .floor) (c .prec) (c .combos) (s .channels) (leb→le (c .prec) (p .floor) m))

@@ -4,31 +4,31 @@
 -- two runs with the same such calls show it the same.
 -- Assumes nothing.
 use Prim.Native.Nat.{_≤_, _^_, _/_, _%_, suc, zero, ℕ}
-use mathlib.Core.Path.{_∙_, _≡_, ap, ap₂, refl, sym}
+use mathlib.Core.Path.{_∙_, _≡_, ap, ap₂, refl, subst, sym}
 use mathlib.Core.Bool.{Bool, _&&_, _||_, false, not, true}
 use mathlib.Core.List.{List, [], _++_, _∷_, map}
 use native.Mathlib.Omega.{arith}
 use lib.Dec.{T, eqb, eqb→eq, leb→le, le→leb, ltb, ltb→lt, not-T}
 use lib.ListN.{length, length-map}
 use borrow.Author.Tests.{lt-ltb}
-use Rattle.machine.specs.Numbers.{REQUESTS}
+use Rattle.machine.specs.Numbers.{REQUESTS, CYCLES}
 use Rattle.machine.specs.Lists.{all, if_then_else_}
 use Rattle.machine.specs.State.{ABORT, CLOSE, COMMAND, Call, Channel, EVENT, Lock, OPEN, Op, State}
 use Rattle.machine.specs.Maps.{bit, half, lowest, odd}
 use Rattle.machine.specs.Choosing.{Look, fails, grants, held, look}
-use Rattle.machine.specs.Commands.{doAbort, doClose, doEvent, doFree, doLock, doRead, doWrite, each, eachChange, finished, silent}
+use Rattle.machine.specs.Commands.{cyclesIn, doAbort, doClose, doEvent, doFinish, doFree, doLock, doPervol, doRead, doWaitcycle, doWrite, each, eachChange, finished, silent}
 use Rattle.machine.specs.Allocating.{allocating, doAllocate, doOpen, opening, waits}
 use Rattle.machine.specs.Call.{accept, answering, call, inRange, openSettling, perform, settling}
-use Rattle.machine.specs.Kinds.{ALLOCATE, CLEAR, FLUSH, FREE, Kind, LOCK, READ, RESET, SETPREC, START, STOP, UNKNOWN, UPDATE, WRITE, kind}
+use Rattle.machine.specs.Kinds.{ALLOCATE, CLEAR, FLUSH, FREE, Kind, LOCK, READ, RESET, SETPREC, START, STOP, FINISH, PERVOL, WAITCYCLE, UNKNOWN, UPDATE, WRITE, kind}
 use Rattle.machine.specs.Log.{opened}
-use Rattle.machine.specs.Refusals.{Refusal, accepted, badList, badMap, badMaps, refusal, refuse, refused}
+use Rattle.machine.specs.Refusals.{Refusal, accepted, badList, badMap, badMaps, badNumbers, refusal, refuse, refused}
 use Rattle.machine.specs.Sound.{sound}
 use Rattle.machine.proofs.Tests.{and-both, and-left, and-right, by-test, test-false, test-true}
 use Rattle.machine_laws.proofs.Maps.{half-bit, odd-bit}
 use Rattle.machine_laws.proofs.Sound.{parts}
-use Rattle.machine_laws.proofs.KeepingCalls.{call-sound}
-use Rattle.two_runs.specs.TwoRuns.{ByK, ByOthers, Demand3, Keeps, Party, Run, Start, Step, maySend, ofK, calls, filled, lends, noted, onK, our, own, mask, ownReplies, reached, said, seen, their, view}
-use Rattle.two_runs.proofs.Part.{Ready, fittingLock, ours-of, ownReplies-twice, project, projectOut, theirs-of, view-part}
+use Rattle.machine_laws.proofs.KeepingCalls.{Counted, call-sound}
+use Rattle.two_runs.specs.TwoRuns.{ByK, ByOthers, Demand3, Keeps, Party, Run, Start, Step, maySend, ofK, calls, counted, filled, inBytes, lends, noted, onK, our, own, mask, ownReplies, reached, said, seen, their, view, waitersOf}
+use Rattle.two_runs.proofs.Part.{Ready, fittingLock, ours-of, ownLocks, ownReplies-twice, project, projectOut, theirs-of, view-part, waiters-part}
 use Rattle.two_runs.proofs.Settle.{Loop, lockFits, ownLock}
 use Rattle.two_runs.proofs.TheirsEach.{Mild}
 use Rattle.two_runs.proofs.TheirsCall.{theirs-mild}
@@ -44,7 +44,7 @@ module _ (c : Call) (full : T (lends c)) where
   room-enough = test-false (ltb (c .room) REQUESTS) (not-T (ltb (c .room) REQUESTS) (λ t. omega (arith, ltb→lt (c .room) REQUESTS t, leb→le REQUESTS (c .room) full)))
 
   filled-refusal : (o : Op) (s : State) → refusal o (filled c) s ≡ refusal o c s
-  unfolding refusal filled badList badMaps badMap
+  unfolding refusal filled badList badMaps badMap badNumbers
   filled-refusal OPEN s = rw room-enough
   filled-refusal CLOSE s = rw room-enough
   filled-refusal ABORT s = rw room-enough
@@ -64,7 +64,7 @@ module _ (c : Call) (full : T (lends c)) where
   filled-open (grants m) s = refl
 
   filled-perform : (k : Kind) (s : State) → perform k (filled c) s ≡ perform k c s
-  unfolding filled perform eachChange each finished silent doRead doWrite doFree doLock doAllocate
+  unfolding filled perform eachChange each finished silent doRead doWrite doFree doFinish doPervol doLock doWaitcycle doAllocate
   filled-perform RESET s = refl
   filled-perform READ s = refl
   filled-perform WRITE s = refl
@@ -75,7 +75,10 @@ module _ (c : Call) (full : T (lends c)) where
   filled-perform FLUSH s = refl
   filled-perform FREE s = refl
   filled-perform SETPREC s = refl
+  filled-perform FINISH s = refl
+  filled-perform PERVOL s = refl
   filled-perform LOCK s = refl
+  filled-perform WAITCYCLE s = refl
   filled-perform ALLOCATE s = filled-look (look (c .prec) (c .combos) (s .channels)) s
   filled-perform UNKNOWN s = refl
 
@@ -217,26 +220,41 @@ ready-from p s t lp =
       entered = lp .entered;
       fit = lp .fit;
       fitLocks = locks-ready p (s .channels) (s .locks) (lp .locksOK);
+      fitWaiters = locks-ready p (s .channels) (s .waiters) (lp .waitersOK);
       low = lp .low;
     }
 
+-- a call's numbers fit their bytes
+bytes-range : (c : Call) → T (inBytes c) → T (inRange c)
+unfolding inBytes
+bytes-range c t = and-left (inRange c) (counted (c .op) c) t
+
+count-of : (o : Op) (c : Call) → T (counted o c) → Counted o c
+unfolding counted
+count-of o c t e = leb→le (cyclesIn (c .combos)) CYCLES (subst (λ (x : Op). T (counted x c)) e t)
+
+bytes-count : (c : Call) → T (inBytes c) → Counted (c .op) c
+unfolding inBytes
+bytes-count c t = count-of (c .op) c (and-right (inRange c) (counted (c .op) c) t)
+
 theirs-ready : (p : Party) (s : State) (c : Call) → Ready p s → OfOthers p s c → Ready p (call s c .next)
-theirs-ready p s c r b = ready-from p (call s c .next) (call-sound s c (b .fits) (r .sane)) (theirs-mild p s c r (theirs-of p s c b) .loop)
+theirs-ready p s c r b = ready-from p (call s c .next) (call-sound s c (bytes-range c (b .fits)) (bytes-count c (b .fits)) (r .sane)) (theirs-mild p s c r (theirs-of p s c b) .loop)
 
 ours-ready : (p : Party) (s : State) (c : Call) → Ready p s → OfK p s c → Ready p (call s c .next)
-ours-ready p s c r b = ready-from p (call s c .next) (call-sound s c (b .fits) (r .sane)) (ours-loop p s r c (ours-of p s c b))
+ours-ready p s c r b = ready-from p (call s c .next) (call-sound s c (bytes-range c (b .fits)) (bytes-count c (b .fits)) (r .sane)) (ours-loop p s r c (ours-of p s c b))
 
 -- ---- a run shows what the K party's calls show, made alone from its part of the state
 
 alone : (p : Party) (s : State) (xs : List Step) → Ready p s → Goes p s xs → seen p s xs ≡ seen p (project p s) (map our (own xs))
 unfolding seen own projectOut
-alone p s [] r k = rw (view-part p s)
+alone p s [] r k = rw (view-part p s, waiters-part p s)
 alone p s (our c ∷ xs) r k =
     rw (
       own-same p s c r (k .0),
       ours-same p s r c (ours-of p s c (k .0)),
       ownReplies-twice p (call s c .replies),
       view-part p (call s c .next),
+      waiters-part p (call s c .next),
       alone p (call s c .next) xs (ours-ready p s c r (k .0)) (k .1),
     )
 alone p s (their c ∷ xs) r k =
@@ -281,7 +299,7 @@ also (COMMAND n) t = go (eqb n 9) t
     go true u = tt
     go false u = u
 
-goes-of : (p : Party) (s : State) (xs : List Step) → Keeps p s xs → T (all lends (calls xs)) → T (all inRange (calls xs)) → Goes p s xs
+goes-of : (p : Party) (s : State) (xs : List Step) → Keeps p s xs → T (all lends (calls xs)) → T (all inBytes (calls xs)) → Goes p s xs
 unfolding calls all
 goes-of p s [] k l f = tt
 goes-of p s (our c ∷ xs) k l f =
@@ -291,14 +309,14 @@ goes-of p s (our c ∷ xs) k l f =
         sends = also (c .op) (b .sends);
         high = b .high;
         full = and-left (lends c) (all lends (calls xs)) l;
-        fits = and-left (inRange c) (all inRange (calls xs)) f;
+        fits = and-left (inBytes c) (all inBytes (calls xs)) f;
       },
-      goes-of p (call s c .next) xs (k .1) (and-right (lends c) (all lends (calls xs)) l) (and-right (inRange c) (all inRange (calls xs)) f),
+      goes-of p (call s c .next) xs (k .1) (and-right (lends c) (all lends (calls xs)) l) (and-right (inBytes c) (all inBytes (calls xs)) f),
     )
 goes-of p s (their c ∷ xs) k l f =
     let b = k .0 in (
-      record { apart = b .apart; low = b .low; fits = and-left (inRange c) (all inRange (calls xs)) f },
-      goes-of p (call s c .next) xs (k .1) (and-right (lends c) (all lends (calls xs)) l) (and-right (inRange c) (all inRange (calls xs)) f),
+      record { apart = b .apart; low = b .low; fits = and-left (inBytes c) (all inBytes (calls xs)) f },
+      goes-of p (call s c .next) xs (k .1) (and-right (lends c) (all lends (calls xs)) l) (and-right (inBytes c) (all inBytes (calls xs)) f),
     )
 
 run-goes : (p : Party) (s : State) (xs : List Step) → Run p s xs → Goes p s xs
@@ -342,11 +360,15 @@ left-alone p s (their d ∷ xs) c r k = left-alone p (call s d .next) xs c (thei
 
 pub others-leave-K-alone : (p : Party) (s : State) (xs : List Step) (c : Call) → Start p s → Run p s (xs ++ their c ∷ [])
     → (ownReplies p (call (reached s xs) c .replies) ≡ []) × (view p (call (reached s xs) c .next) ≡ view p (reached s xs))
+    × (waitersOf p (call (reached s xs) c .next) ≡ waitersOf p (reached s xs))
 unfolding view
 others-leave-K-alone p s xs c t h =
     let g : Goes p s (xs ++ their c ∷ []) = run-goes p s (xs ++ their c ∷ []) h in
     let m : Mild p (reached s xs) (call (reached s xs) c) = left-alone p s xs c (start-ready p s (begins-of p s t)) g in
-    (m .quiet, channels-of (call (reached s xs) c .next) (reached s xs) (m .still))
+    (m .quiet, channels-of (call (reached s xs) c .next) (reached s xs) (m .still), waiters-of (call (reached s xs) c .next) (reached s xs) (m .still))
   where
     channels-of : (u v : State) → project p u ≡ project p v → map (mask p) (u .channels) ≡ map (mask p) (v .channels)
     channels-of u v e = unfold project in ap (λ (x : State). x .channels) e
+
+    waiters-of : (u v : State) → project p u ≡ project p v → waitersOf p u ≡ waitersOf p v
+    waiters-of u v e = unfold waitersOf project ownLocks in ap (λ (x : State). x .waiters) e

@@ -9,7 +9,7 @@ use Rattle.table.specs.Entry.{keyIn}
 use Rattle.reply.specs.Replies.{encode, sent}
 use Rattle.reply.proofs.Laws.{sent-one, length-sent}
 use Rattle.machine.specs.State.{Request, State as StateM, Reply}
-use Rattle.machine.specs.Granting.{keyFor, abortedIn, granted}
+use Rattle.machine.specs.Granting.{keyFor, cutReplies, dropped, granted}
 use Rattle.machine.specs.Settling.{replied}
 use Rattle.store.specs.declared.State.{State}
 use Rattle.store.specs.Store.{structOf, tableOf, stateIn, Held}
@@ -46,37 +46,41 @@ module _ {st t : State} {tb tb′ : List ℕ} (h : Held st tb) (i : ℕ) (a : t 
   pub out-next : Held t tb′ × (stateIn t tb′ ≡ outAt i (stateIn st tb))
   out-next = held-next (outAt i (stateIn st tb)) t tb′ (out-sound i (stateIn st tb) (held-parts h)) (held-eight h) a b
 
-  pub out-ready : {l : List ℕ} {n : ℕ} (m : ℕ) → 384 ≤ length l → n + (length (abortedIn m (stateIn st tb .channels)) + 1) ≤ 64
-      → Ready t tb′ l n (length (abortedIn m (stateIn t tb′ .channels)))
+  -- it has no write and waits for no cycle
+  out-dropped : (m : ℕ) → dropped m (stateIn t tb′) ≡ dropped m (stateIn st tb)
+  out-dropped m = ap (dropped m) (out-next .1) ∙ (unfold dropped cutReplies in refl)
+
+  pub out-ready : {l : List ℕ} {n : ℕ} (m : ℕ) → 384 ≤ length l → n + (length (dropped m (stateIn st tb)) + 1) ≤ 64
+      → Ready t tb′ l n (length (dropped m (stateIn t tb′)))
   out-ready m r f =
       record {
         held = out-next .0;
         room = r;
-        fits = rw (ap (λ (x : StateM). x .channels) (out-next .1)) (omega arith);
+        fits = rw (out-dropped m) (omega arith);
       }
 
-  pub out-room : {l tb″ l″ : List ℕ} {n m k p : ℕ} {g : Granted} → 384 ≤ length l → n + (length (abortedIn m (stateIn st tb .channels)) + 1) ≤ 64
+  pub out-room : {l tb″ l″ : List ℕ} {n m k p : ℕ} {g : Granted} → 384 ≤ length l → n + (length (dropped m (stateIn st tb)) + 1) ≤ 64
       → GrantedTo t tb′ l n m k p g tb″ l″ → g .n * 6 + 6 ≤ length l″
   out-room {l} {n = n} {m = m} r f d =
-      let ac = ap (λ (x : StateM). length (abortedIn m (x .channels))) (out-next .1) in
+      let ac = ap length (out-dropped m) in
       let c = d .did .count in
-      let q = length-sent l n (abortedIn m (stateIn t tb′ .channels)) (omega arith) in
+      let q = length-sent l n (dropped m (stateIn t tb′)) (omega arith) in
       let e = ap length (d .did .list) in
       omega arith
 
   -- granted, then replied
-  pub out-granted : {l tb″ l″ l‴ : List ℕ} {n m n′ j k p : ℕ} {g : Granted} (w : i < st .waiting .n) → 384 ≤ length l → n + (length (abortedIn m (stateIn st tb .channels)) + 1) ≤ 64
+  pub out-granted : {l tb″ l″ l‴ : List ℕ} {n m n′ j k p : ℕ} {g : Granted} (w : i < st .waiting .n) → 384 ≤ length l → n + (length (dropped m (stateIn st tb)) + 1) ≤ 64
       → GrantedTo t tb′ l n m k p g tb″ l″ → k ≡ waiter i (stateIn st tb) .key → p ≡ waiter i (stateIn st tb) .prec → j ≡ getD (st .waiting .ids) i 0
       → l‴ ≡ splice l″ (g .n * 6) (encode (record { id = j; command = 32; error = 0; map = m; key = g .key })) → n′ ≡ g .n + 1
       → Did (granted m (waiter i (stateIn st tb) .key) (waiter i (stateIn st tb) .prec) (outAt i (stateIn st tb)))
-      (abortedIn m (stateIn st tb .channels) ++ replied 0 m (keyFor (waiter i (stateIn st tb) .key) (outAt i (stateIn st tb))) (waiter i (stateIn st tb)) ∷ [])
+      (dropped m (stateIn st tb) ++ replied 0 m (keyFor (waiter i (stateIn st tb) .key) (outAt i (stateIn st tb))) (waiter i (stateIn st tb)) ∷ [])
       l n (g .state) tb″ l‴ n′
   out-granted {l} {tb″} {l″} {l‴} {n} {m} {n′} {j} {k} {p} {g} w r f d ek ep ej el en =
       let s = stateIn st tb in
       let o = out-next .1 in
-      let xs = abortedIn m (s .channels) in
+      let xs = dropped m s in
       let sc : granted m k p (stateIn t tb′) ≡ granted m (waiter i s .key) (waiter i s .prec) (outAt i s) = rw (o, ek, ep) refl in
-      let ac : abortedIn m (stateIn t tb′ .channels) ≡ xs = ap (λ (x : StateM). abortedIn m (x .channels)) o in
+      let ac : dropped m (stateIn t tb′) ≡ xs = out-dropped m in
       let gk : g .key ≡ keyFor (waiter i s .key) (outAt i s) = d .given ∙ ap₂ keyFor ek o in
       let c : g .n ≡ n + length xs = d .did .count ∙ ap (λ (x : List Reply). n + length x) ac in
       let li : l″ ≡ sent l n xs = d .did .list ∙ ap (sent l n) ac in

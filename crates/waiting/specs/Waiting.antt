@@ -11,7 +11,8 @@
 --   Readable q tb the entries of a queue's ids can be read
 --   Finds ..      the promise of `next`: from a place on nothing comes of the requests passed, and something of the one found
 --   droppedReplies i s              the reply -11 to it
---   grantedAt i m s, grantedReplies i m s   the state in which it is granted the map m, and the replies: to the writes that end, then its own
+--   grantedAt i m s, grantedReplies i m s   the state in which it is granted the map m, and the replies: to the writes that
+--                 end and to who waits for a cycle of theirs, then its own
 --   Makes f g ..  a step's promise: of the state held it makes the state f, and behind the first n replies it sends g
 --   stolen m s, withoutLocks m s   the replies -12 to the locks over a channel of m, and the state without those locks
 use Prim.Native.Nat.{ℕ, suc, _+_, _≤_, _<_, max}
@@ -24,7 +25,7 @@ use Rattle.machine.specs.Lists.{keep}
 use Rattle.machine.specs.State.{Channel, Request, Reply, State, withWaiting, withLocks}
 use Rattle.machine.specs.Maps.{meets}
 use Rattle.machine.specs.Choosing.{Look, fails, held, grants, look}
-use Rattle.machine.specs.Granting.{keyFor, abortedIn, granted}
+use Rattle.machine.specs.Granting.{keyFor, dropped, granted}
 use Rattle.machine.specs.Commands.{ended}
 use Rattle.machine.specs.Settling.{replied}
 use Rattle.memory.specs.Splice.{block}
@@ -87,7 +88,7 @@ abbrev pub grantedAt : ℕ → ℕ → State → State
 grantedAt i m s = granted m (waiter i s .key) (waiter i s .prec) (outAt i s)
 
 abbrev pub grantedReplies : ℕ → ℕ → State → List Reply
-grantedReplies i m s = abortedIn m (s .channels) ++ replied 0 m (keyFor (waiter i s .key) (outAt i s)) (waiter i s) ∷ []
+grantedReplies i m s = dropped m s ++ replied 0 m (keyFor (waiter i s .key) (outAt i s)) (waiter i s) ∷ []
 
 abbrev pub Makes : (State → State) → (State → List Reply) → Struct → List ℕ → List ℕ → ℕ → Settled → List ℕ → List ℕ → Type 0
 Makes f g st tb l n r tb′ l′ = Did (f (stateIn st tb)) (g (stateIn st tb)) l n (r .state) tb′ l′ (r .n)

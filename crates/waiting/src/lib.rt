@@ -2,6 +2,7 @@
 // its map.
 // A step is promised in the machine's words: the state it leaves and the replies it adds. Assumes nothing.
 use choosing::Look;
+use fates::End;
 use queue::Queue;
 use reply::Reply;
 use standing::Standing;
@@ -11,7 +12,7 @@ ghost use Prim.Native.Nat.{_+_, _<_};
 ghost use mathlib.Core.List.{List};
 ghost use lib.ListN.{length};
 ghost use Rattle.machine.specs.State.{Channel as ChannelM};
-ghost use Rattle.machine.specs.Granting.{abortedIn};
+ghost use Rattle.machine.specs.Granting.{dropped};
 ghost use Rattle.standing.specs.Standing.{Stood};
 ghost use Rattle.choosing.specs.Choosing.{lookIn};
 ghost use Rattle.store.specs.Store.{stateIn, Held};
@@ -110,7 +111,7 @@ pub fn grant_one(
     i: usize,
     map: u8,
 ) -> Settled
-    requires { ⌜ Ready s (now table) (now replies) n (length (abortedIn map (stateIn s (now table) .channels)) + 1) × (i < s .waiting .n) ⌝ }
+    requires { ⌜ Ready s (now table) (now replies) n (length (dropped map (stateIn s (now table))) + 1) × (i < s .waiting .n) ⌝ }
     ensures { λ r. ⌜ Makes (grantedAt i map) (grantedReplies i map) s (now (table .entry)) (now (replies .entry)) n r (now (table .exit)) (now (replies .exit)) ⌝ }
 {
     let q = s.waiting;
@@ -140,8 +141,8 @@ pub fn steal(s: State, table: &mut [u8], replies: &mut [u8], n: usize, map: u8) 
     ensures { λ r. ⌜ Makes (withoutLocks map) (stolen map) s (now (table .entry)) (now (replies .entry)) n r (now (table .exit)) (now (replies .exit)) ⌝ }
 {
     let q = s.locks;
-    let f = locks::sift(q, table, replies, n, map, true);
-    let left = f.locks;
+    let f = locks::sift(q, table, replies, n, map, End::Stolen);
+    let left = f.left;
     let mut t = s;
     t.locks = left;
     Settled { state: t, n: f.n }

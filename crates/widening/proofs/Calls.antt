@@ -2,24 +2,27 @@
 -- same state with those channels still free behind it. Assumes nothing.
 use Prim.Native.Nat.{ℕ, zero, suc, _+_, _^_, _≤_, _<_}
 use mathlib.Core.Path.{_≡_, refl, ap, ap₂, subst, sym, _∙_}
-use mathlib.Core.Bool.{Bool, true, false, not, _&&_}
+use mathlib.Core.Logic.{_⊎_, inl, inr}
+use mathlib.Core.Bool.{Bool, true, false, not, _&&_, true≢false}
 use mathlib.Core.List.{List, [], _∷_, _++_, map}
 use native.Mathlib.Omega.{arith}
 use native.Mathlib.Nat.{pow-le-pow-right}
 use lib.Dec.{T, eqb, leb, ltb, leb→le, le→leb, ltb→lt, lt→ltb}
 use lib.ListN.{length}
-use Rattle.machine.specs.Numbers.{ALLOCFAILED, NONE}
+use Rattle.machine.specs.Numbers.{ALLOCFAILED, NONE, CYCLES, CMD·WRITE}
 use Rattle.machine.specs.Lists.{if_then_else_, all, any, among}
 use Rattle.machine.specs.State.{Channel, Lock, Request, State, Reply, Outcome, Call, Op, OPEN, CLOSE, ABORT, EVENT, COMMAND, free}
-use Rattle.machine.specs.Maps.{named}
+use Rattle.machine.specs.Maps.{lowest, named, at}
 use Rattle.machine.specs.Sound.{soundLock, soundRequest, ids, sound}
-use Rattle.machine.specs.Commands.{reset, same, setStop, flushed, setPrec, done, finished, silent, doClose, doAbort, doEvent}
+use Rattle.machine.specs.Commands.{reset, same, setStop, flushed, setPrec, done, finished, silent, matches, setWrites, cyclesIn, writeOf, doPervol, doWrite, doClose, doAbort, doEvent}
 use Rattle.machine.specs.Allocating.{doOpen}
 use Rattle.machine.specs.Settling.{Settled, settle}
-use Rattle.machine.specs.Kinds.{Kind, RESET, READ, WRITE, UPDATE, CLEAR, STOP, START, FLUSH, FREE, SETPREC, LOCK, ALLOCATE, UNKNOWN, kind, allocates}
+use Rattle.machine.specs.Kinds.{Kind, RESET, READ, WRITE, UPDATE, CLEAR, STOP, START, FLUSH, FREE, SETPREC, FINISH, PERVOL, LOCK, WAITCYCLE, ALLOCATE, UNKNOWN, kind, allocates}
+use Rattle.machine.specs.Bytes.{number}
 use Rattle.machine.specs.Refusals.{Refusal, accepted, refused, first, badMap, badMaps, refusal, refuse}
 use Rattle.machine.specs.Call.{perform, settling, openSettling, accept, answering, call, inRange}
 use Rattle.machine.proofs.Tests.{if-elim, and-left, and-right, and-both, nor-left, nor-right, nor-both, test-false}
+use Rattle.machine_laws.proofs.Maps.{length-change}
 use Rattle.machine_laws.proofs.Sound.{Parts, unparts, in-use-few}
 use Rattle.machine.proofs.Steps.{NoneOf, first-none}
 use Rattle.machine_laws.proofs.KeepingSettle.{look-unlocked}
@@ -28,7 +31,7 @@ use Rattle.widening.specs.Widening.{wider, widen, widenO, widenS, smallL
 use Rattle.widening.proofs.Keys.{Few}
 use Rattle.widening.proofs.Sound.{map-more, maps-more, ids-wide, sound-wide}
 use Rattle.widening.proofs.Settling.{Waits, settle-wide}
-use Rattle.widening.proofs.Commands.{Locks, change-each, free-wide, lock-wide, read-wide, write-wide, event-wide, close-wide, abort-wide, allocate-wide, open-wide}
+use Rattle.widening.proofs.Commands.{Locks, change-each, free-wide, lock-wide, read-wide, write-wide, waitcycle-wide, finish-wide, event-wide, close-wide, abort-wide, allocate-wide, open-wide}
 
 -- ---- what a sound state stores fits its board
 
@@ -112,14 +115,58 @@ perform-wide k START c s p t = change-each k s 7 (setStop false) false c (map-on
 perform-wide k FLUSH c s p t = change-each k s 8 flushed true c (map-on c s t)
 perform-wide k FREE c s p t = free-wide k s c (map-on c s t) (locks-fit s p)
 perform-wide k SETPREC c s p t = change-each k s 10 (setPrec (c .prec)) false c (map-on c s t)
+perform-wide k FINISH c s p t = finish-wide k s c (map-on c s t)
+perform-wide k PERVOL c s p t = unfold doPervol in change-each k s 12 _ false c (map-on c s t)
 perform-wide k LOCK c s p t = lock-wide k s c (map-on c s t)
+perform-wide k WAITCYCLE c s p t = waitcycle-wide k s c (map-on c s t)
 perform-wide k ALLOCATE c s p t = allocate-wide k c s (maps-on c s t) (few-fit s p)
 perform-wide k UNKNOWN c s p t = unfold silent in refl
 
-settling-wide : (k : ℕ) (o o′ : Outcome) → o′ ≡ widenO k o → Parts (o .next) → settling o′ ≡ widenO k (settling o)
+-- what settling asks of a state
+record Fit (s : State) : Type 0 where
+  few : Few s
+  waits : Waits (length (s .channels)) (s .waiting)
+
+sound-fit : (s : State) → Parts s → Fit s
+sound-fit s p = record { few = few-fit s p; waits = waits-fit s p }
+
+-- a WRITE leaves all of it, whatever numbers it carries
+write-fit : (c : Call) (s : State) → Fit s → Fit (doWrite c s .next)
+unfolding doWrite silent finished
+write-fit c s f =
+    let m = lowest (length (s .channels)) (c .map) in
+    let g = setWrites (at m (s .channels) .writes ++ writeOf c ∷ []) in
+    if-elim (λ (o : Outcome). Fit (o .next)) (matches (c .key) (at m (s .channels)))
+    (λ _. let e = length-change g m (s .channels) in record { few = rw e (f .few); waits = rw e (f .waits) })
+    (λ _. f)
+
+no-write : (q : Kind) → eqb (number q) CMD·WRITE ≡ false → (q ≡ WRITE) ⊎ (q ≡ WRITE → ⊥)
+unfolding number
+no-write q e = inr (λ w. true≢false (sym (ap (λ (x : Kind). eqb (number x) CMD·WRITE) w) ∙ e))
+
+is-write : (q : Kind) → (q ≡ WRITE) ⊎ (q ≡ WRITE → ⊥)
+unfolding number
+is-write RESET = no-write RESET refl
+is-write READ = no-write READ refl
+is-write WRITE = inl refl
+is-write UPDATE = no-write UPDATE refl
+is-write CLEAR = no-write CLEAR refl
+is-write STOP = no-write STOP refl
+is-write START = no-write START refl
+is-write FLUSH = no-write FLUSH refl
+is-write FREE = no-write FREE refl
+is-write SETPREC = no-write SETPREC refl
+is-write FINISH = no-write FINISH refl
+is-write PERVOL = no-write PERVOL refl
+is-write LOCK = no-write LOCK refl
+is-write WAITCYCLE = no-write WAITCYCLE refl
+is-write ALLOCATE = no-write ALLOCATE refl
+is-write UNKNOWN = no-write UNKNOWN refl
+
+settling-wide : (k : ℕ) (o o′ : Outcome) → o′ ≡ widenO k o → Fit (o .next) → settling o′ ≡ widenO k (settling o)
 unfolding settling
-settling-wide k o o′ e p =
-    let q = settle-wide k (o .next) (few-fit (o .next) p) (waits-fit (o .next) p) in
+settling-wide k o o′ e f =
+    let q = settle-wide k (o .next) (f .few) (f .waits) in
     ap settling e ∙ ap (λ (t : Settled). record { answer = o .answer; replies = o .replies ++ t .replies; next = t .state }) q
 
 pub accept-wide : (k : ℕ) (o : Op) (c : Call) (s : State) → Parts s → T (inRange c) → refusal o c s ≡ accepted
@@ -129,20 +176,26 @@ accept-wide k OPEN c s p r e =
     let n = first-none _ e in
     let w = open-wide k c s (maps-on c s (n .1 .1 .1 .0)) (few-fit s p) in
     let q : Parts (doOpen c s .next) = unfold doOpen in open-sound _ c s p (look-unlocked (c .prec) (c .combos) (s .channels)) (range-prec c r) (range-key c r) (n .1 .1 .1 .1 .0) in
-    rw w (go (eqb (doOpen c s .answer .error) ALLOCFAILED) (settling-wide k (doOpen c s) (widenO k (doOpen c s)) refl q))
+    rw w (go (eqb (doOpen c s .answer .error) ALLOCFAILED) (settling-wide k (doOpen c s) (widenO k (doOpen c s)) refl (sound-fit (doOpen c s .next) q)))
   where
     go : (b : Bool) → settling (widenO k (doOpen c s)) ≡ widenO k (settling (doOpen c s)) → (if b then widenO k (doOpen c s) else settling (widenO k (doOpen c s))) ≡ widenO k (if b then doOpen c s else settling (doOpen c s))
     go true x = refl
     go false x = x
-accept-wide k CLOSE c s p r e = settling-wide k (doClose c s) (doClose c (widen k s)) (close-wide k s c (locks-fit s p)) (close-sound c s p)
-accept-wide k ABORT c s p r e = settling-wide k (doAbort c s) (doAbort c (widen k s)) (abort-wide k c s) (abort-sound c s p)
+accept-wide k CLOSE c s p r e = settling-wide k (doClose c s) (doClose c (widen k s)) (close-wide k s c (locks-fit s p)) (sound-fit (doClose c s .next) (close-sound c s p))
+accept-wide k ABORT c s p r e = settling-wide k (doAbort c s) (doAbort c (widen k s)) (abort-wide k c s) (sound-fit (doAbort c s .next) (abort-sound c s p))
 accept-wide k EVENT c s p r e =
     let n = first-none _ e in
-    settling-wide k (doEvent c s) (doEvent c (widen k s)) (event-wide k s c (map-on c s (n .1 .1 .0))) (event-sound c s p)
+    settling-wide k (doEvent c s) (doEvent c (widen k s)) (event-wide k s c (map-on c s (n .1 .1 .0))) (sound-fit (doEvent c s .next) (event-sound c s p))
 accept-wide k (COMMAND j) c s p r e =
     let n = first-none _ e in
     settling-wide k (perform (kind j) c s) (perform (kind j) c (widen k s)) (perform-wide k (kind j) c s p (n .1 .1 .1 .1 .1 .1 .1 .0))
-    (perform-sound (kind j) c s p r (id-small (c .id) (n .1 .1 .0)) (n .1 .1 .1 .0) (n .1 .1 .1 .1 .1 .1 .0) (n .1 .1 .1 .1 .1 .1 .1 .0))
+    (go (is-write (kind j))
+    (perform-sound (kind j) c s p r (id-small (c .id) (n .1 .1 .0)) (n .1 .1 .1 .0) (n .1 .1 .1 .1 .1 .1 .0) (n .1 .1 .1 .1 .1 .1 .1 .0) (n .1 .1 .1 .1 .1 .1 .1 .1 .0)))
+  where
+    go : (kind j ≡ WRITE) ⊎ (kind j ≡ WRITE → ⊥) → ((kind j ≡ WRITE → cyclesIn (c .combos) ≤ CYCLES) → Parts (perform (kind j) c s .next))
+        → Fit (perform (kind j) c s .next)
+    go (inl w) f = rw w (unfold perform in write-fit c s (sound-fit s p))
+    go (inr w) f = sound-fit (perform (kind j) c s .next) (f (λ e. absurd (w e)))
 
 refuse-wide : (k : ℕ) (o : Op) (x : ℕ) (c : Call) (s : State) → refuse o x c (widen k s) ≡ widenO k (refuse o x c s)
 unfolding refuse silent finished
@@ -216,4 +269,4 @@ module _ (k : ℕ) (c : Call) (s : State) where
         let n = first-none _ e in
         let i : T (not (among (c .id) (ids (widen k s)))) = rw (ids-wide k s) (n .1 .1 .1 .0) in
         let m = n .1 .1 .1 .1 in
-        none-first _ (sane, (n .1 .0, (n .1 .1 .0, (i, (m .0, (m .1 .0, (m .1 .1 .0, (bad-wide (allocates (kind j)) (m .1 .1 .1 .0), tt))))))))
+        none-first _ (sane, (n .1 .0, (n .1 .1 .0, (i, (m .0, (m .1 .0, (m .1 .1 .0, (bad-wide (allocates (kind j)) (m .1 .1 .1 .0), m .1 .1 .1 .1))))))))

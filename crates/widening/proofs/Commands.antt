@@ -1,51 +1,26 @@
 -- Every operation before settling, with free channels behind the board. Assumes nothing.
 use Prim.Native.Nat.{ℕ, zero, suc, pred, _+_, _*_, _^_, _≤_, _<_}
 use mathlib.Core.Path.{_≡_, refl, ap, ap₂, subst, sym, _∙_}
-use mathlib.Core.Bool.{Bool, true, false, not, _&&_}
+use mathlib.Core.Bool.{Bool, true, false, not}
 use mathlib.Core.List.{List, [], _∷_, _++_, map}
-use native.Mathlib.Omega.{arith}
-use native.Mathlib.Nat.{pow-suc}
 use lib.Dec.{T, eqb, ltb, ltb→lt}
-use lib.ListN.{length}
-use lib.Pow.{pow-pos}
-use Rattle.machine.specs.Numbers.{nowait, NOALLOCATION, NONE, ALLOCFAILED}
+use lib.ListN.{length, length-map}
+use Rattle.machine.specs.Numbers.{nowait, synced, NOALLOCATION, NONE, ALLOCFAILED}
 use Rattle.machine.specs.Lists.{if_then_else_, all, keep}
-use Rattle.machine.specs.State.{Channel, Lock, Request, State, Reply, Answer, Outcome, Call, free, withChannels, withLocks, frees}
-use Rattle.machine.specs.Maps.{odd, half, bit, minus, lowest, named, change, at}
+use Rattle.machine.specs.State.{Channel, Lock, Request, State, Reply, Answer, Outcome, Call, free, withChannels, withLocks, withWaiters, frees}
+use Rattle.machine.specs.Maps.{minus, lowest, named, change, at}
 use Rattle.machine.specs.Choosing.{Look, fails, held, grants, look}
-use Rattle.machine.specs.Granting.{keyFor, aborted, abortedIn, granted}
-use Rattle.machine.specs.Commands.{matches, matching, mismatch, done, pending, finished, silent, freed, setLock, setWrites, cleared, isEmpty, ended, freeing, freeingReplies, each, eachChange, doFree, doLock, front, back, playing, doRead, doWrite, doEvent, owned, doClose, abortedWrites, abortedWaits, without, doAbort}
+use Rattle.machine.specs.Granting.{keyFor, aborted, abortedIn, cut, cutReplies, dropped, granted}
+use Rattle.machine.specs.Commands.{matches, matching, mismatch, done, pending, finished, silent, freed, setLock, setWrites, cleared, isEmpty, ended, freeing, freeingReplies, each, eachChange, doFree, doLock, front, playing, doRead, writeOf, doWrite, doWaitcycle, inProgress, frontOnly, frontGone, onFront, rememberFinish, doFinish, doEvent, owned, doClose, abortedWrites, abortedWaits, without, ledBy, abortedBy, leaving, doAbort}
 use Rattle.machine.specs.Allocating.{enqueue, waits, allocating, doAllocate, opening, doOpen}
 use Rattle.machine.specs.Kinds.{Kind, RESET, READ, WRITE, UPDATE, CLEAR, STOP, START, FLUSH, FREE, SETPREC, LOCK, ALLOCATE, UNKNOWN}
 use Rattle.machine.specs.Call.{perform}
-use Rattle.machine.proofs.Tests.{if-elim, and-left, and-right}
+use Rattle.machine.proofs.Tests.{and-left, and-right, by-test, test-true, test-false}
+use Rattle.machine_laws.proofs.Maps.{lowest-small}
 use Rattle.widening.specs.Widening.{wider, widen, widenO, smallList}
-use Rattle.widening.proofs.Maps.{length-wider, named-wide, change-wide, at-wide, matching-wide, owned-wide, aborted-wide, lowest-wide, minus-wide}
+use Rattle.widening.proofs.Maps.{length-wider, named-wide, change-wide, at-wide, matching-wide, inProgress-wide, led-wide, owned-wide, fronts-wide, aborted-wide, lowest-wide, minus-wide, matching-small, inProgress-small, led-small, owned-small}
 use Rattle.widening.proofs.Choosing.{BelowL, look-below, look-wide}
-use Rattle.widening.proofs.Keys.{Few, keyFor-wide, granted-wide}
-
--- ---- maps that are made are on the board
-
-bit-small : (b : Bool) (n m : ℕ) → m < 2 ^ n → bit b m < 2 ^ suc n
-unfolding bit
-bit-small true n m h = let e = pow-suc 2 n in omega arith
-bit-small false n m h = let e = pow-suc 2 n in omega arith
-
-matching-small : (key m : ℕ) (cs : List Channel) → matching key m cs < 2 ^ length cs
-unfolding matching
-matching-small key m [] = omega arith
-matching-small key m (c ∷ cs) = bit-small (odd m && matches key c) (length cs) (matching key (half m) cs) (matching-small key (half m) cs)
-
-owned-small : (key : ℕ) (cs : List Channel) → owned key cs < 2 ^ length cs
-unfolding owned
-owned-small key [] = omega arith
-owned-small key (c ∷ cs) = bit-small (matches key c) (length cs) (owned key cs) (owned-small key cs)
-
-lowest-small : (n m : ℕ) → lowest n m < 2 ^ n
-unfolding lowest
-lowest-small zero m = omega arith
-lowest-small (suc n) m =
-    if-elim (λ (x : ℕ). x < 2 ^ suc n) (odd m) (λ _. let e = pow-suc 2 n in let p = pow-pos n in omega arith) (λ _. bit-small false n (lowest n (half m)) (lowest-small n (half m)))
+use Rattle.widening.proofs.Keys.{Few, keyFor-wide, on-wide, cut-wide, cut-says, dropped-wide, granted-wide}
 
 -- ---- the locks
 
@@ -69,17 +44,20 @@ module _ (k : ℕ) (s : State) where
   change-state : (f : Channel → Channel) (m : ℕ) → m < 2 ^ length cs → withChannels (change f m (wider k cs)) (widen k s) ≡ widen k (withChannels (change f m cs) s)
   change-state f m h = ap (λ (x : List Channel). withChannels x s) (change-wide f k m cs h)
 
+  cut-state : (f : Channel → Channel) (m : ℕ) → m < 2 ^ length cs → withChannels (change f m (wider k cs)) (cut m (widen k s)) ≡ widen k (withChannels (change f m cs) (cut m s))
+  cut-state f m h = ap₂ (λ (x : List Channel) (u : State). withChannels x u) (change-wide f k m cs h) (cut-wide k m s h)
+
   cleared-state : (f : ℕ) → Locks (length cs) (s .locks) → cleared (length (wider k cs)) f (s .locks) ≡ cleared (length cs) f (s .locks)
   cleared-state f t = ap (λ (n : ℕ). cleared n f (s .locks)) (length-wider k cs) ∙ cleared-wide (length cs) k f (s .locks) t
 
   freeing-wide : (f : ℕ) → f < 2 ^ length cs → Locks (length cs) (s .locks) → freeing f (widen k s) ≡ widen k (freeing f s)
   unfolding freeing
   freeing-wide f h t =
-      ap₂ (λ (x : List Channel) (y : List Lock). withLocks (keep (λ l. not (isEmpty l)) y) (withChannels x s)) (change-wide freed k f cs h) (cleared-state f t)
+      rw (cut-wide k f s h, change-wide freed k f cs h, cleared-state f t) refl
 
-  freeing-says : (f : ℕ) → Locks (length cs) (s .locks) → freeingReplies f (widen k s) ≡ freeingReplies f s
+  freeing-says : (f : ℕ) → f < 2 ^ length cs → Locks (length cs) (s .locks) → freeingReplies f (widen k s) ≡ freeingReplies f s
   unfolding freeingReplies
-  freeing-says f t = ap₂ (λ (x : List Reply) (y : List Lock). x ++ map (ended 0) (keep isEmpty y)) (aborted-wide k f cs) (cleared-state f t)
+  freeing-says f h t = ap₂ (λ (x : List Reply) (y : List Lock). x ++ map (ended 0) (keep isEmpty y)) (dropped-wide k f s h) (cleared-state f t)
 
   mismatch-wide : (key m : ℕ) → m < 2 ^ length cs → mismatch key m (wider k cs) ≡ mismatch key m cs
   unfolding mismatch
@@ -101,18 +79,24 @@ module _ (k : ℕ) (s : State) where
 
   pub change-each : (n : ℕ) (f : Channel → Channel) (drops : Bool) (c : Call) → c .map < 2 ^ length cs → eachChange n f drops c (widen k s) ≡ widenO k (eachChange n f drops c s)
   unfolding eachChange
-  change-each n f drops c h =
+  change-each n f true c h =
       let m = matching (c .key) (c .map) cs in
-      ap (λ (x : ℕ). each n c (if drops then abortedIn x (wider k cs) else []) (withChannels (change f x (wider k cs)) (widen k s)) (widen k s)) (matching-wide (c .key) k (c .map) cs)
-      ∙ ap₂ (λ (x : List Reply) (u : State). each n c (if drops then x else []) u (widen k s)) (aborted-wide k m cs) (change-state f m (matching-small (c .key) (c .map) cs))
-      ∙ each-wide n c (if drops then abortedIn m cs else []) (withChannels (change f m cs) s) h
+      let l = matching-small (c .key) (c .map) cs in
+      ap (λ (x : ℕ). each n c (dropped x (widen k s)) (withChannels (change f x (wider k cs)) (cut x (widen k s))) (widen k s)) (matching-wide (c .key) k (c .map) cs)
+      ∙ ap₂ (λ (x : List Reply) (u : State). each n c x u (widen k s)) (dropped-wide k m s l) (cut-state f m l)
+      ∙ each-wide n c (dropped m s) (withChannels (change f m cs) (cut m s)) h
+  change-each n f false c h =
+      let m = matching (c .key) (c .map) cs in
+      ap (λ (x : ℕ). each n c [] (withChannels (change f x (wider k cs)) (widen k s)) (widen k s)) (matching-wide (c .key) k (c .map) cs)
+      ∙ ap (λ (u : State). each n c [] u (widen k s)) (change-state f m (matching-small (c .key) (c .map) cs))
+      ∙ each-wide n c [] (withChannels (change f m cs) s) h
 
   pub free-wide : (c : Call) → c .map < 2 ^ length cs → Locks (length cs) (s .locks) → doFree c (widen k s) ≡ widenO k (doFree c s)
   unfolding doFree
   free-wide c h t =
       let m = matching (c .key) (c .map) cs in
       ap (λ (x : ℕ). each 9 c (freeingReplies x (widen k s)) (freeing x (widen k s)) (widen k s)) (matching-wide (c .key) k (c .map) cs)
-      ∙ ap₂ (λ (x : List Reply) (u : State). each 9 c x u (widen k s)) (freeing-says m t) (freeing-wide m (matching-small (c .key) (c .map) cs) t)
+      ∙ ap₂ (λ (x : List Reply) (u : State). each 9 c x u (widen k s)) (freeing-says m (matching-small (c .key) (c .map) cs) t) (freeing-wide m (matching-small (c .key) (c .map) cs) t)
       ∙ each-wide 9 c (freeingReplies m s) (freeing m s) h
 
   pub lock-wide : (c : Call) → c .map < 2 ^ length cs → doLock c (widen k s) ≡ widenO k (doLock c s)
@@ -148,21 +132,69 @@ module _ (k : ℕ) (s : State) where
   unfolding doWrite finished silent
   write-wide c h =
       let m = lowest (length cs) (c .map) in
-      rw (low-wide (c .map) h, at-wide k m cs, change-wide (setWrites (at m cs .writes ++ c .id ∷ [])) k m cs (lowest-small (length cs) (c .map)))
+      rw (low-wide (c .map) h, at-wide k m cs, change-wide (setWrites (at m cs .writes ++ writeOf c ∷ [])) k m cs (lowest-small (length cs) (c .map)))
       (if-widen (matches (c .key) (at m cs)) _ _)
+
+  pub waitcycle-wide : (c : Call) → c .map < 2 ^ length cs → doWaitcycle c (widen k s) ≡ widenO k (doWaitcycle c s)
+  unfolding doWaitcycle finished silent
+  waitcycle-wide c h =
+      let m = lowest (length cs) (c .map) in
+      rw (low-wide (c .map) h, at-wide k m cs) (go (not (matches (c .key) (at m cs))) (playing (at m cs)))
+    where
+      a : Outcome
+      a = finished 14 c (done NOALLOCATION 0 (c .key) NONE) [] s
+
+      b : Outcome
+      b = silent (pending (c .key)) [] (withWaiters (s .waiters ++ record { id = c .id; key = c .key; map = lowest (length cs) (c .map) } ∷ []) s)
+
+      d : Outcome
+      d = finished 14 c (done 0 (lowest (length cs) (c .map)) (c .key) NONE) [] s
+
+      go : (x y : Bool) → (if x then widenO k a else if y then widenO k b else widenO k d) ≡ widenO k (if x then a else if y then b else d)
+      go true y = refl
+      go false true = refl
+      go false false = refl
+
+  pub finish-wide : (c : Call) → c .map < 2 ^ length cs → doFinish c (widen k s) ≡ widenO k (doFinish c s)
+  unfolding doFinish
+  finish-wide c h =
+      by-test (synced (c .flags))
+      (λ t. rw (test-true (synced (c .flags)) t) (change-each 11 (onFront rememberFinish) false c h))
+      (λ t. rw (test-false (synced (c .flags)) t) go)
+    where
+      m : ℕ
+      m = inProgress (matching (c .key) (c .map) cs) cs
+
+      l : m < 2 ^ length cs
+      l = inProgress-small (matching (c .key) (c .map) cs) cs
+
+      says : (x : ℕ) (u : State) → List Reply
+      says x u = abortedIn x (map frontOnly (u .channels)) ++ cutReplies x u
+
+      same : says m (widen k s) ≡ says m s
+      same = ap₂ (λ (x y : List Reply). x ++ y) (ap (abortedIn m) (fronts-wide k cs) ∙ aborted-wide k m (map frontOnly cs)) (cut-says k m s l)
+
+      go : each 11 c (says (inProgress (matching (c .key) (c .map) (wider k cs)) (wider k cs)) (widen k s)) (withChannels (change frontGone (inProgress (matching (c .key) (c .map) (wider k cs)) (wider k cs)) (wider k cs)) (cut (inProgress (matching (c .key) (c .map) (wider k cs)) (wider k cs)) (widen k s))) (widen k s)
+          ≡ widenO k (each 11 c (says m s) (withChannels (change frontGone m cs) (cut m s)) s)
+      go =
+          ap (λ (x : ℕ). each 11 c (says x (widen k s)) (withChannels (change frontGone x (wider k cs)) (cut x (widen k s))) (widen k s))
+          (ap (λ (x : ℕ). inProgress x (wider k cs)) (matching-wide (c .key) k (c .map) cs) ∙ inProgress-wide k (matching (c .key) (c .map) cs) cs)
+          ∙ ap₂ (λ (x : List Reply) (u : State). each 11 c x u (widen k s)) same (cut-state frontGone m l)
+          ∙ each-wide 11 c (says m s) (withChannels (change frontGone m cs) (cut m s)) h
 
   pub event-wide : (c : Call) → c .map < 2 ^ length cs → doEvent c (widen k s) ≡ widenO k (doEvent c s)
   unfolding doEvent silent
   event-wide c h =
       let m = lowest (length cs) (c .map) in
-      rw (low-wide (c .map) h, at-wide k m cs, change-wide (setWrites (back (at m cs .writes))) k m cs (lowest-small (length cs) (c .map)))
+      let l = lowest-small (length cs) (c .map) in
+      rw (low-wide (c .map) h, at-wide k m cs, on-wide k m cs l, change-wide frontGone k m cs l, cut-wide k m s l)
       (if-widen (playing (at m cs)) _ _)
 
   pub close-wide : (c : Call) → Locks (length cs) (s .locks) → doClose c (widen k s) ≡ widenO k (doClose c s)
   unfolding doClose silent
   close-wide c t =
       let m = owned (c .key) cs in
-      rw (owned-wide (c .key) k cs, freeing-says m t, freeing-wide m (owned-small (c .key) cs) t) refl
+      rw (owned-wide (c .key) k cs, freeing-says m (owned-small (c .key) cs) t, freeing-wide m (owned-small (c .key) cs) t) refl
 
 -- ---- ABORT
 
@@ -174,7 +206,7 @@ abort-frees i (suc k) = abort-frees i k
 abort-says : (i k : ℕ) (cs : List Channel) → abortedWrites i (wider k cs) ≡ abortedWrites i cs
 unfolding abortedWrites
 abort-says i k [] = abort-frees i k
-abort-says i k (c ∷ cs) = ap (λ (x : List Reply). aborted (c .key) (keep (eqb i) (c .writes)) ++ x) (abort-says i k cs)
+abort-says i k (c ∷ cs) = ap (λ (x : List Reply). aborted (c .key) (keep (λ w. eqb i (w .id)) (c .writes)) ++ x) (abort-says i k cs)
 
 without-frees : (i k : ℕ) → map (without i) (frees k) ≡ frees k
 unfolding frees without keep
@@ -185,9 +217,25 @@ without-wide : (i k : ℕ) (cs : List Channel) → map (without i) (wider k cs) 
 without-wide i k [] = without-frees i k
 without-wide i k (c ∷ cs) = ap (λ (x : List Channel). without i c ∷ x) (without-wide i k cs)
 
+abortedBy-wide : (i k : ℕ) (s : State) → abortedBy i (widen k s) ≡ abortedBy i s
+unfolding abortedBy
+abortedBy-wide i k s = rw (abort-says i k (s .channels)) refl
+
+leaving-wide : (i k : ℕ) (s : State) → leaving i (widen k s) ≡ widen k (leaving i s)
+unfolding leaving
+leaving-wide i k s = rw (without-wide i k (s .channels)) refl
+
+leaving-long : (i : ℕ) (s : State) → length (leaving i s .channels) ≡ length (s .channels)
+unfolding leaving
+leaving-long i s = length-map (s .channels) (without i)
+
 pub abort-wide : (k : ℕ) (c : Call) (s : State) → doAbort c (widen k s) ≡ widenO k (doAbort c s)
 unfolding doAbort silent
-abort-wide k c s = rw (abort-says (c .id) k (s .channels), without-wide (c .id) k (s .channels)) refl
+abort-wide k c s =
+    let m = ledBy (c .id) (s .channels) in
+    let l = led-small (c .id) (s .channels) in
+    let l′ : m < 2 ^ length (leaving (c .id) s .channels) = rw (leaving-long (c .id) s) l in
+    rw (led-wide (c .id) k (s .channels), abortedBy-wide (c .id) k s, cut-says k m s l, leaving-wide (c .id) k s, cut-wide k m (leaving (c .id) s) l′) refl
 
 -- ---- ALLOCATE and OPEN
 
@@ -201,7 +249,7 @@ allocating-wide k fails c s b f = go (nowait (c .flags))
     go false = refl
 allocating-wide k (held m) c s b f = refl
 allocating-wide k (grants m) c s b f =
-    rw (keyFor-wide (c .key) k s f, aborted-wide k m (s .channels), granted-wide m (c .key) (c .prec) k s b f) refl
+    rw (keyFor-wide (c .key) k s f, dropped-wide k m s b, granted-wide m (c .key) (c .prec) k s b f) refl
 
 pub allocate-wide : (k : ℕ) (c : Call) (s : State) → T (smallList (length (s .channels)) (c .combos)) → Few s → doAllocate c (widen k s) ≡ widenO k (doAllocate c s)
 unfolding doAllocate
@@ -214,7 +262,7 @@ unfolding opening silent
 opening-wide k fails c s b f = refl
 opening-wide k (held m) c s b f = refl
 opening-wide k (grants m) c s b f =
-    rw (keyFor-wide (c .key) k s f, aborted-wide k m (s .channels), granted-wide m (c .key) (c .prec) k s b f) refl
+    rw (keyFor-wide (c .key) k s f, dropped-wide k m s b, granted-wide m (c .key) (c .prec) k s b f) refl
 
 pub open-wide : (k : ℕ) (c : Call) (s : State) → T (smallList (length (s .channels)) (c .combos)) → Few s → doOpen c (widen k s) ≡ widenO k (doOpen c s)
 unfolding doOpen

@@ -1,4 +1,4 @@
--- The new key, and the grant, with free channels behind the board: key 0 counts for nothing, and more candidates are not
+-- The new key, the cut, and the grant, with free channels behind the board: key 0 counts for nothing, and more candidates are not
 -- needed. Assumes nothing.
 use Prim.Native.Nat.{ℕ, zero, suc, _+_, _^_, _≤_, _<_}
 use mathlib.Core.Path.{_≡_, refl, ap, ap₂, subst, sym, _∙_}
@@ -8,14 +8,14 @@ use native.Mathlib.Omega.{arith}
 use native.Mathlib.Nat.{zero-add, suc-add}
 use lib.Dec.{T, T-not, eqb, ltb, ltb→lt}
 use lib.ListN.{length}
-use Rattle.machine.specs.Lists.{if_then_else_, among, any}
-use Rattle.machine.specs.State.{Channel, Request, State, frees}
+use Rattle.machine.specs.Lists.{if_then_else_, among, any, keep}
+use Rattle.machine.specs.State.{Channel, Lock, Request, State, Reply, frees, withWaiters}
 use Rattle.machine.specs.Maps.{change}
-use Rattle.machine.specs.Granting.{after, inUse, firstUnused, newKey, keyFor, lastFor, taken, granted}
+use Rattle.machine.specs.Granting.{after, inUse, firstUnused, newKey, keyFor, lastFor, onChannels, givenUp, cut, cutReplies, dropped, taken, granted}
 use Rattle.machine.proofs.Tests.{if-elim, by-test, test-true, test-false, eqb-false}
 use Rattle.machine_laws.proofs.Granting.{newKey-unused, inUse-length}
 use Rattle.widening.specs.Widening.{wider, widen}
-use Rattle.widening.proofs.Maps.{change-wide, length-frees, length-wider}
+use Rattle.widening.proofs.Maps.{change-wide, length-frees, length-wider, meets-wide, aborted-wide}
 
 after-one : (k : ℕ) → 1 ≤ after k
 unfolding after
@@ -84,6 +84,29 @@ unfolding lastFor
 lastFor-wide zero k s f = newKey-wide k s f
 lastFor-wide (suc key) k s f = refl
 
+-- ---- the cut: a map on the board names no channel behind it
+
+pub on-wide : (k m : ℕ) (cs : List Channel) → m < 2 ^ length cs → onChannels (length (wider k cs)) m ≡ onChannels (length cs) m
+unfolding onChannels
+on-wide k m cs h =
+    let q : onChannels (length cs + k) m ≡ onChannels (length cs) m = λ i w. meets-wide (length cs) k m (w .map) h i in
+    ap (λ (n : ℕ). onChannels n m) (length-wider k cs) ∙ q
+
+pub cut-wide : (k m : ℕ) (s : State) → m < 2 ^ length (s .channels) → cut m (widen k s) ≡ widen k (cut m s)
+unfolding cut
+cut-wide k m s h =
+    ap (λ (on : Lock → Bool). widen k (withWaiters (keep (λ w. not (on w)) (s .waiters)) s)) (on-wide k m (s .channels) h)
+
+pub cut-says : (k m : ℕ) (s : State) → m < 2 ^ length (s .channels) → cutReplies m (widen k s) ≡ cutReplies m s
+unfolding cutReplies
+cut-says k m s h = ap (λ (on : Lock → Bool). map givenUp (keep on (s .waiters))) (on-wide k m (s .channels) h)
+
+pub dropped-wide : (k m : ℕ) (s : State) → m < 2 ^ length (s .channels) → dropped m (widen k s) ≡ dropped m s
+unfolding dropped
+dropped-wide k m s h = ap₂ (λ (x y : List Reply). x ++ y) (aborted-wide k m (s .channels)) (cut-says k m s h)
+
+-- ---- the grant
+
 pub granted-wide : (m key prec k : ℕ) (s : State) → m < 2 ^ length (s .channels) → Few s
     → granted m key prec (widen k s) ≡ widen k (granted m key prec s)
 unfolding granted
@@ -91,4 +114,4 @@ granted-wide m key prec k s h f =
     let a = keyFor-wide key k s f in
     let b = lastFor-wide key k s f in
     let d = change-wide (taken (keyFor key s) prec) k m (s .channels) h in
-    rw (a, b, d) refl
+    rw (a, b, d, cut-wide k m s h) refl

@@ -12,9 +12,10 @@ use Rattle.machine.specs.State.{Channel, Reply, free, isFree, frees}
 use Rattle.machine.specs.Maps.{odd, half, bit, minus, meets, lowest, named, change, at}
 use Rattle.machine.specs.Choosing.{highest, stolen}
 use Rattle.machine.specs.Granting.{aborted, abortedIn}
-use Rattle.machine.specs.Commands.{matches, matching, owned, without, abortedWrites}
+use Rattle.machine.specs.Commands.{matches, matching, playing, inProgress, frontOnly, owned, leads, ledBy}
 use Rattle.machine.specs.Sound.{writesOf}
 use Rattle.machine.proofs.Tests.{by-test, test-true, test-false, eqb-false}
+use Rattle.machine_laws.proofs.Maps.{bit-small}
 use Rattle.widening.specs.Widening.{wider}
 
 -- ---- frees
@@ -76,7 +77,7 @@ unfolding at
 at-wide k m [] = at-frees k m
 at-wide k m (c ∷ cs) = ap (λ (x : Channel). if odd m then c else x) (at-wide k (half m) cs)
 
-and-no : (b : Bool) → b && false ≡ false
+pub and-no : (b : Bool) → b && false ≡ false
 and-no true = refl
 and-no false = refl
 
@@ -117,6 +118,26 @@ unfolding matching
 matching-wide key k m [] = matching-frees key k m
 matching-wide key k m (c ∷ cs) = ap (bit (odd m && matches key c)) (matching-wide key k (half m) cs)
 
+inProgress-frees : (k m : ℕ) → inProgress m (frees k) ≡ 0
+unfolding inProgress playing frees bit
+inProgress-frees zero m = refl
+inProgress-frees (suc k) m = rw (and-no (odd m), inProgress-frees k (half m))
+
+pub inProgress-wide : (k m : ℕ) (cs : List Channel) → inProgress m (wider k cs) ≡ inProgress m cs
+unfolding inProgress
+inProgress-wide k m [] = inProgress-frees k m
+inProgress-wide k m (c ∷ cs) = ap (bit (odd m && playing c)) (inProgress-wide k (half m) cs)
+
+led-frees : (i k : ℕ) → ledBy i (frees k) ≡ 0
+unfolding ledBy leads frees bit
+led-frees i zero = refl
+led-frees i (suc k) = rw (led-frees i k)
+
+pub led-wide : (i k : ℕ) (cs : List Channel) → ledBy i (wider k cs) ≡ ledBy i cs
+unfolding ledBy
+led-wide i k [] = led-frees i k
+led-wide i k (c ∷ cs) = ap (bit (leads i (c .writes))) (led-wide i k cs)
+
 owned-frees : (key k : ℕ) → owned key (frees k) ≡ 0
 unfolding owned frees bit
 owned-frees key zero = refl
@@ -141,6 +162,15 @@ unfolding abortedIn
 aborted-wide k m [] = aborted-frees k m
 aborted-wide k m (c ∷ cs) = ap (λ (x : List Reply). (if odd m then aborted (c .key) (c .writes) else []) ++ x) (aborted-wide k (half m) cs)
 
+fronts-frees : (k : ℕ) → map frontOnly (frees k) ≡ frees k
+unfolding frees
+fronts-frees zero = refl
+fronts-frees (suc k) = ap (λ (x : List Channel). free ∷ x) (fronts-frees k)
+
+pub fronts-wide : (k : ℕ) (cs : List Channel) → map frontOnly (wider k cs) ≡ wider k (map frontOnly cs)
+fronts-wide k [] = fronts-frees k
+fronts-wide k (c ∷ cs) = ap (λ (x : List Channel). frontOnly c ∷ x) (fronts-wide k cs)
+
 writes-frees : (k : ℕ) → writesOf (frees k) ≡ []
 unfolding writesOf frees
 writes-frees zero = refl
@@ -149,7 +179,7 @@ writes-frees (suc k) = writes-frees k
 pub writes-wide : (k : ℕ) (cs : List Channel) → writesOf (wider k cs) ≡ writesOf cs
 unfolding writesOf
 writes-wide k [] = writes-frees k
-writes-wide k (c ∷ cs) = ap (λ (x : List ℕ). c .writes ++ x) (writes-wide k cs)
+writes-wide k (c ∷ cs) = ap (λ (x : List ℕ). map (λ w. w .id) (c .writes) ++ x) (writes-wide k cs)
 
 -- ---- lowest, minus, meets: of n bits, and of k more
 
@@ -182,3 +212,25 @@ pub meets-wide : (n k m f : ℕ) → m < 2 ^ n → meets (n + k) m f ≡ meets n
 unfolding meets
 meets-wide zero k m f h = rw (zero-add k, none m h) (meets-none k f)
 meets-wide (suc n) k m f h = rw (suc-add n k) (ap (λ (b : Bool). odd m && odd f || b) (meets-wide n k (half m) (half f) (half-small n m h)))
+
+-- ---- maps that are made are on the board
+
+pub matching-small : (key m : ℕ) (cs : List Channel) → matching key m cs < 2 ^ length cs
+unfolding matching
+matching-small key m [] = omega arith
+matching-small key m (c ∷ cs) = bit-small (odd m && matches key c) (length cs) (matching key (half m) cs) (matching-small key (half m) cs)
+
+pub inProgress-small : (m : ℕ) (cs : List Channel) → inProgress m cs < 2 ^ length cs
+unfolding inProgress
+inProgress-small m [] = omega arith
+inProgress-small m (c ∷ cs) = bit-small (odd m && playing c) (length cs) (inProgress (half m) cs) (inProgress-small (half m) cs)
+
+pub led-small : (i : ℕ) (cs : List Channel) → ledBy i cs < 2 ^ length cs
+unfolding ledBy
+led-small i [] = omega arith
+led-small i (c ∷ cs) = bit-small (leads i (c .writes)) (length cs) (ledBy i cs) (led-small i cs)
+
+pub owned-small : (key : ℕ) (cs : List Channel) → owned key cs < 2 ^ length cs
+unfolding owned
+owned-small key [] = omega arith
+owned-small key (c ∷ cs) = bit-small (matches key c) (length cs) (owned key cs) (owned-small key cs)

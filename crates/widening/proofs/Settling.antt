@@ -11,15 +11,15 @@ use Rattle.machine.specs.Lists.{if_then_else_, all, keep}
 use Rattle.machine.specs.State.{Channel, Lock, Request, State, Reply}
 use Rattle.machine.specs.Maps.{meets}
 use Rattle.machine.specs.Choosing.{Look, fails, held, grants, look}
-use Rattle.machine.specs.Granting.{keyFor, abortedIn, granted, taken}
+use Rattle.machine.specs.Granting.{keyFor, dropped, granted, taken}
 use Rattle.machine.specs.Commands.{ended}
 use Rattle.machine.specs.Settling.{Found, nobody, somebody, Walk, Settled, replied, staying, saying, onLook, walk, walked, goOn, rounds, settle}
 use Rattle.machine.proofs.Tests.{if-elim, and-left, and-right, and-both}
 use Rattle.machine_laws.proofs.Maps.{length-change}
 use Rattle.widening.specs.Widening.{wider, widen, widenS, smallList}
-use Rattle.widening.proofs.Maps.{length-wider, meets-wide, aborted-wide}
+use Rattle.widening.proofs.Maps.{length-wider, meets-wide}
 use Rattle.widening.proofs.Choosing.{BelowL, look-below, look-wide}
-use Rattle.widening.proofs.Keys.{Few, keyFor-wide, granted-wide}
+use Rattle.widening.proofs.Keys.{Few, keyFor-wide, dropped-wide, granted-wide}
 
 abbrev pub Waits : ℕ → List Request → Type 0
 Waits n rs = T (all (λ r. smallList n (r .combos)) rs)
@@ -111,8 +111,8 @@ goOn-wide k (somebody r m) w s again q f t ih =
     let e = keyFor-wide (r .key) k u q in
     let a = granted-wide m (r .key) (r .prec) k u f q in
     let i : again (widen k g) ≡ widenS k (again g) = ih g (granted-long m (r .key) (r .prec) u) (granted-few m (r .key) (r .prec) u q) (granted-waits m (r .key) (r .prec) u t) in
-    ap₂ (λ (t : Settled) (x : ℕ). record { state = t .state; replies = w .replies ++ abortedIn m (wider k (s .channels)) ++ replied 0 m x r ∷ t .replies }) (ap again a ∙ i) e
-    ∙ ap (λ (l : List Reply). record { state = widen k (again g .state); replies = w .replies ++ l ++ replied 0 m (keyFor (r .key) u) r ∷ again g .replies }) (aborted-wide k m (s .channels))
+    ap₂ (λ (t : Settled) (x : ℕ). record { state = t .state; replies = w .replies ++ dropped m (widen k s) ++ replied 0 m x r ∷ t .replies }) (ap again a ∙ i) e
+    ∙ ap (λ (l : List Reply). record { state = widen k (again g .state); replies = w .replies ++ l ++ replied 0 m (keyFor (r .key) u) r ∷ again g .replies }) (dropped-wide k m s f)
 
 walked-few : (w : Walk) (s : State) → length (w .waiting) ≤ length (s .waiting) → Few s → Few (walked w s)
 unfolding walked

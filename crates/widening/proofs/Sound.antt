@@ -9,13 +9,15 @@ use lib.Dec.{T, T-not, eqb, leb, ltb, leb→le, le→leb, ltb→lt, lt→ltb}
 use lib.ListN.{length}
 use Rattle.machine.specs.Lists.{if_then_else_, all, distinct}
 use Rattle.machine.specs.State.{Channel, Lock, Request, State, free, frees}
-use Rattle.machine.specs.Maps.{odd, half, named}
-use Rattle.machine.specs.Sound.{soundChannel, soundLock, soundRequest, writesOf, ids, sound}
+use Rattle.machine.specs.Maps.{odd, half, lowest, named}
+use Rattle.machine.specs.Sound.{soundChannel, soundLock, soundWaiter, soundRequest, writesOf, ids, sound}
 use Rattle.machine.proofs.Tests.{and-left, and-right, and-both, test-true}
-use Rattle.machine_laws.proofs.Lists.{all-append}
+use Rattle.machine_laws.proofs.Lists.{all-append, all-mono}
 use Rattle.machine_laws.proofs.Sound.{Parts}
+use Rattle.machine_laws.proofs.Keeping.{served}
+use Rattle.machine_laws.proofs.Maps.{lowest-on}
 use Rattle.widening.specs.Widening.{wider, widen}
-use Rattle.widening.proofs.Maps.{length-wider, named-wide, writes-wide}
+use Rattle.widening.proofs.Maps.{length-wider, named-wide, lowest-wide, writes-wide, and-no}
 
 -- ---- more channels, more maps
 
@@ -69,6 +71,18 @@ locks-wide k cs (l ∷ ls) t =
     and-both (soundLock (wider k cs) l) (all (soundLock (wider k cs)) ls) (lock-wide k cs l (and-left (soundLock cs l) (all (soundLock cs) ls) t))
     (locks-wide k cs ls (and-right (soundLock cs l) (all (soundLock cs) ls) t))
 
+-- a WAITCYCLE's bit is on the board: it is the lowest of as many bits as there are channels
+waiter-wide : (k : ℕ) (cs : List Channel) (w : Lock) → T (soundWaiter cs w) → T (soundWaiter (wider k cs) w)
+unfolding soundWaiter
+waiter-wide k cs w t =
+    let a = not (eqb (w .map) 0) in
+    let b = eqb (lowest (length cs) (w .map)) (w .map) in
+    let p = served w in
+    let e = named p (w .map) cs in
+    let t1 = and-left (a && b) e t in
+    let low = ltb→lt (w .map) (2 ^ length cs) (lowest-on (length cs) (w .map) (and-right a b t1)) in
+    rw (length-wider k cs, lowest-wide (length cs) k (w .map) low, named-wide p k (w .map) cs low) t
+
 request-wide : (k : ℕ) (cs : List Channel) (r : Request) → T (soundRequest cs r) → T (soundRequest (wider k cs) r)
 unfolding soundRequest
 request-wide k cs r t =
@@ -92,7 +106,7 @@ requests-wide k cs (r ∷ rs) t =
 
 pub ids-wide : (k : ℕ) (s : State) → ids (widen k s) ≡ ids s
 unfolding ids
-ids-wide k s = ap (λ (x : List ℕ). x ++ map (λ l. l .id) (s .locks) ++ map (λ r. r .id) (s .waiting)) (writes-wide k (s .channels))
+ids-wide k s = ap (λ (x : List ℕ). x ++ map (λ l. l .id) (s .locks) ++ map (λ w. w .id) (s .waiters) ++ map (λ r. r .id) (s .waiting)) (writes-wide k (s .channels))
 
 pub sound-wide : (k : ℕ) (s : State) → Parts s → length (s .channels) + k ≤ 8 → Parts (widen k s)
 sound-wide k s p h =
@@ -103,6 +117,7 @@ sound-wide k s p h =
       most = le→leb (length (wider k (s .channels))) 8 (omega arith);
       channelsOK = all-append soundChannel (s .channels) (frees k) (p .channelsOK) (frees-sound k);
       locksOK = locks-wide k (s .channels) (s .locks) (p .locksOK);
+      waitersOK = all-mono (soundWaiter (s .channels)) (soundWaiter (wider k (s .channels))) (waiter-wide k (s .channels)) (s .waiters) (p .waitersOK);
       waitingOK = requests-wide k (s .channels) (s .waiting) (p .waitingOK);
       order = p .order;
       small = subst (λ (l : List ℕ). T (all (λ i. ltb i 64) l)) (sym (ids-wide k s)) (p .small);
@@ -171,6 +186,20 @@ locks-narrow k cs (l ∷ ls) t =
     and-both (soundLock cs l) (all (soundLock cs) ls) (lock-narrow k cs l (and-left (soundLock (wider k cs) l) (all (soundLock (wider k cs)) ls) t))
     (locks-narrow k cs ls (and-right (soundLock (wider k cs) l) (all (soundLock (wider k cs)) ls) t))
 
+waiter-narrow : (k : ℕ) (cs : List Channel) (w : Lock) → T (soundWaiter (wider k cs) w) → T (soundWaiter cs w)
+unfolding soundWaiter
+waiter-narrow k cs w t =
+    let a = not (eqb (w .map) 0) in
+    let b = eqb (lowest (length (wider k cs)) (w .map)) (w .map) in
+    let p = served w in
+    let e = named p (w .map) (wider k cs) in
+    let high : w .map < 2 ^ (length cs + k) = rw (length-wider k cs) at (ltb→lt (w .map) (2 ^ length (wider k cs)) (lowest-on (length (wider k cs)) (w .map) (and-right a b (and-left (a && b) e t)))) in
+    let low = named-small p (no-write w) k (w .map) cs high (and-right (a && b) e t) in
+    rw (length-wider k cs, lowest-wide (length cs) k (w .map) low, named-wide p k (w .map) cs low) at t
+  where
+    no-write : (w : Lock) → served w free ≡ false
+    no-write w = and-no (eqb 0 (w .key))
+
 all-front {ℓ} : {A : Type ℓ} (q : A → Bool) (xs ys : List A) → T (all q (xs ++ ys)) → T (all q xs)
 unfolding all
 all-front q [] ys t = tt
@@ -185,6 +214,7 @@ sound-narrow k s h p w =
       most = le→leb (length (s .channels)) 8 (omega arith);
       channelsOK = all-front soundChannel (s .channels) (frees k) (p .channelsOK);
       locksOK = locks-narrow k (s .channels) (s .locks) (p .locksOK);
+      waitersOK = all-mono (soundWaiter (wider k (s .channels))) (soundWaiter (s .channels)) (waiter-narrow k (s .channels)) (s .waiters) (p .waitersOK);
       waitingOK = w;
       order = p .order;
       small = subst (λ (l : List ℕ). T (all (λ i. ltb i 64) l)) (ids-wide k s) (p .small);

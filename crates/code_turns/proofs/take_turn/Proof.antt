@@ -1,4 +1,6 @@
--- `take_turn` meets its contract: the call's promise is the turn's, and the types give the two ranges. Assumes nothing.
+-- `take_turn` meets its contract: the call's promise is the turn's, and the types give the ranges: what is lent as combinations are
+-- bytes. Assumes nothing.
+use Rattle.code_runs.proofs.CodeRuns.{bytes-counted}
 use borrow.Author.Needs.{needs}
 use Rattle.code_turns.proofs.take_turn.Statement.{statement}
 use Rattle.code_turns.proofs.take_turn.Tie as tie
@@ -16,7 +18,16 @@ same-length-2 : tie.Need-same-length-2
 same-length-2 c = search needs
 
 returns : tie.Need-returns
-returns c = let a = c .before .before .before .before in let r = a .before .before .before .ranges .ensures in record { called = a .call .ensures; prec = r .0; key = r .1 }
+returns c =
+    let a = c .before .before .before .before in
+    let r = a .before .before .before in
+    let b = r .before .before .before .shared-slice-known in
+    record {
+      called = a .call .ensures;
+      prec = r .ranges .ensures .0;
+      key = r .ranges .ensures .1;
+      count = bytes-counted _ _ (λ i. b .given i .fits);
+    }
 
 pub take-turn-spec : {M : Type 1} → statement M
 take-turn-spec =

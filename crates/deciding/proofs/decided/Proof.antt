@@ -42,7 +42,7 @@ settle-requires c κs =
     let p = u .before .before .before .before .before .before .before in
     let e = p .before .before .before in
     let s = e .before .before .before .before in
-    settle-ready (zero-allowed (s .pre) (e .if1 .left)) (p .perform .ensures) (sym (u .before .rests .ensures) ∙ u .if2 .left) (s .pre .range)
+    settle-ready (zero-allowed (s .pre) (e .if1 .left)) (p .perform .ensures) (sym (u .before .rests .ensures) ∙ u .if2 .left) (s .pre .range) (s .pre .bytes)
 
 same-length-4 : tie.Need-same-length-4
 same-length-4 c = search needs
@@ -57,7 +57,7 @@ returns-3 c =
     let p = u .before .before .before .before .before .before .before in
     let e = p .before .before .before in
     let s = e .before .before .before .before in
-    settled-told (zero-allowed (s .pre) (e .if1 .left)) (p .perform .ensures) (sym (u .before .rests .ensures) ∙ u .if2 .left) (s .pre .range) (w .settle .ensures) (e .if1 .left)
+    settled-told (zero-allowed (s .pre) (e .if1 .left)) (p .perform .ensures) (sym (u .before .rests .ensures) ∙ u .if2 .left) (s .pre .range) (s .pre .bytes) (w .settle .ensures) (e .if1 .left)
 
 pub decided-spec : {M : Type 1} → statement M
 decided-spec =

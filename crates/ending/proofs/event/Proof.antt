@@ -2,7 +2,7 @@
 use Prim.Native.Nat.{_<_}
 use mathlib.Core.Path.{sym, _∙_}
 use native.Mathlib.Omega.{arith}
-use lib.ListN.{length, drop, length-set}
+use lib.ListN.{length}
 use Rattle.play.proofs.Laws.{getD-any}
 use Rattle.ending.proofs.Steps.{event-quiet, event-off, event-idle, event-told}
 use borrow.Author.Needs.{needs}
@@ -43,9 +43,7 @@ returns-2 : tie.Need-returns-2
 returns-2 c =
     let s = c .before .before .before .before .before .before .before .before .before in
     let h = s .pre .held in
-    let l = c .before .before .before .before .before .before .lowest in
-    let n : l .result < 8 = search needs in
-    event-quiet h (s .args .r) (c .done2 .ensures) (event-idle h (s .args .r) _ _ (l .ensures) n (sym (c .before .if2 .taken) ∙ c .before .before .front .ensures))
+    event-quiet h (s .args .r) (c .done2 .ensures) (event-idle h (s .args .r) _ _ (c .before .before .before .before .before .before .lowest .ensures) (c .before .before .before .before .before .if1 .left) (sym (c .before .if2 .taken) ∙ c .before .before .front .ensures))
 
 end-front-requires : tie.Need-end-front-requires
 end-front-requires c κs =

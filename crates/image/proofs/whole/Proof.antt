@@ -8,7 +8,7 @@ use Rattle.image.proofs.whole.Tie as tie
 
 returns : tie.Need-returns
 returns c =
-    let n : length (c .before .before .args .bytes .now) ≡ 758 → ⊥ = c .if1 .taken in
+    let n : length (c .before .before .args .bytes .now) ≡ 823 → ⊥ = c .if1 .taken in
     not-long _ n
 
 all-marked-requires : tie.Need-all-marked-requires

@@ -1,6 +1,6 @@
 -- `clean_all` meets its contract: the channels done and the cleaning of the rest make the cleaning of all. Assumes nothing.
 use Prim.Native.Nat.{_≤_, _<_, _-_}
-use mathlib.Core.Path.{_≡_, refl, sym, _∙_}
+use mathlib.Core.Path.{_≡_, refl, _∙_}
 use mathlib.Core.List.{map}
 use native.Mathlib.Numerals.{add-one}
 use native.Mathlib.Omega.{arith}

@@ -13,20 +13,23 @@ queue-at-requires c κs = let e = whole-long _ (c .before .before .pre) in omega
 queue-at-requires-2 : tie.Need-queue-at-requires-2
 queue-at-requires-2 c κs = let e = whole-long _ (c .before .before .before .pre) in omega arith
 
+queue-at-requires-3 : tie.Need-queue-at-requires-3
+queue-at-requires-3 c κs = let e = whole-long _ (c .before .before .before .before .pre) in omega arith
+
 open-at-requires : tie.Need-open-at-requires
-open-at-requires c κs = let e = whole-long _ (c .before .before .before .before .pre) in omega arith
+open-at-requires c κs = let e = whole-long _ (c .before .before .before .before .before .pre) in omega arith
 
 key-at-requires : tie.Need-key-at-requires
-key-at-requires c κs = let e = whole-long _ (c .before .before .before .before .before .pre) in omega arith
+key-at-requires c κs = let e = whole-long _ (c .before .before .before .before .before .before .pre) in omega arith
 
-shared-slice-read-t9 : tie.Need-shared-slice-read-t9
-shared-slice-read-t9 c = let e = whole-long _ (c .before .before .before .before .before .before .before .pre) in omega arith
+shared-slice-read-t10 : tie.Need-shared-slice-read-t10
+shared-slice-read-t10 c = let e = whole-long _ (c .before .before .before .before .before .before .before .before .pre) in omega arith
 
 returns : tie.Need-returns
 returns c =
     let f = c .before .before .before in
-    state-parts _ (f .before .before .channels-at .ensures) (f .before .queue-at .ensures) (f .queue-at2 .ensures) (c .before .before .open-at .ensures)
-    (c .before .key-at .ensures)
+    state-parts _ (f .before .before .before .channels-at .ensures) (f .before .before .queue-at .ensures) (f .before .queue-at2 .ensures) (f .queue-at3 .ensures)
+    (c .before .before .open-at .ensures) (c .before .key-at .ensures)
 
 pub load-spec : {M : Type 1} → statement M
 load-spec =
@@ -35,7 +38,8 @@ load-spec =
     channels-at-requires
     queue-at-requires
     queue-at-requires-2
+    queue-at-requires-3
     open-at-requires
     key-at-requires
-    shared-slice-read-t9
+    shared-slice-read-t10
     returns)

@@ -15,6 +15,9 @@ put-queue-requires c κs = search needs
 put-queue-requires-2 : tie.Need-put-queue-requires-2
 put-queue-requires-2 c κs = search needs
 
+put-queue-requires-3 : tie.Need-put-queue-requires-3
+put-queue-requires-3 c κs = search needs
+
 put-open-requires : tie.Need-put-open-requires
 put-open-requires c κs = search needs
 
@@ -34,19 +37,23 @@ returns c =
     let y = z .before .before .before .before in
     let x = y .before .before .before .before in
     let w = x .before .before .before .before in
-    let v = w .before .before .before .before in
-    let s = v .before .before .before .before .before .before .before .before in
+    let l = w .before .before .before .before in
+    let v = l .before .before .before .before in
+    let s = v .before .before .before .before .before .before .before .before .before in
     let a = s .args in
-    let e = state-wrote (a .bytes .now) (a .b) (s .pre) (v .put-channels .ensures .wrote) (w .put-queue .ensures) (x .put-queue2 .ensures) (y .put-open .ensures) (z .put-key .ensures) in
+    let e =
+    state-wrote (a .bytes .now) (a .b) (s .pre) (v .put-channels .ensures .wrote) (l .put-queue .ensures) (w .put-queue2 .ensures) (x .put-queue3 .ensures)
+    (y .put-open .ensures) (z .put-key .ensures) in
     saved (a .b)
     record {
       eight = v .put-channels .ensures .eight;
       channels = v .put-channels .ensures .filled;
-      locks = queue-filled (w .put-queue .ensures);
-      waiting = queue-filled (x .put-queue2 .ensures);
+      locks = queue-filled (l .put-queue .ensures);
+      waiters = queue-filled (w .put-queue2 .ensures);
+      waiting = queue-filled (x .put-queue3 .ensures);
       opens = open-filled (a .b .state .opens) (y .put-open .ensures);
     }
-    (o .put-width .ensures ∙ e) (λ i. c .slice-known7 .given i .fits)
+    (o .put-width .ensures ∙ e) (λ i. c .slice-known8 .given i .fits)
 
 pub save-spec : {M : Type 1} → statement M
 save-spec =
@@ -55,6 +62,7 @@ save-spec =
     put-channels-requires
     put-queue-requires
     put-queue-requires-2
+    put-queue-requires-3
     put-open-requires
     put-key-requires
     put-width-requires

@@ -24,7 +24,7 @@ returns c = not-begun (λ h. no-T (sym (c .before .sized .ensures) ∙ not-true 
 returns-2 : tie.Need-returns-2
 returns-2 c =
     let s = c .before .before .before .before .before in
-    let n : length (s .args .state .now) ≡ 758 → ⊥ = c .if2 .taken in
+    let n : length (s .args .state .now) ≡ 823 → ⊥ = c .if2 .taken in
     not-begun (λ h. n (h .1))
 
 returns-3 : tie.Need-returns-3

@@ -1,0 +1,36 @@
+// FINISH without SYNCCYCLE: the write in progress at each channel that matches is cut. Assumes nothing.
+use answers::Outcome;
+use answers::Request;
+use channel::Change;
+use fronts::Front;
+use store::State;
+ghost use mathlib.Core.Path.{_≡_};
+ghost use mathlib.Core.Bool.{false};
+ghost use mathlib.Core.List.{[]};
+ghost use Prim.Native.Nat.{_+_, _<_};
+ghost use lib.ListN.{length};
+ghost use Rattle.machine.specs.Numbers.{synced};
+ghost use Rattle.machine.specs.Commands.{doFinish};
+ghost use Rattle.store.specs.Store.{stateIn};
+ghost use Rattle.store.specs.Work.{Ready};
+ghost use Rattle.answers.specs.Answers.{callOf, Does};
+ghost use Rattle.cutting.specs.Cutting.{finishReplies};
+
+pub fn finish(r: Request, s: State, table: &mut [u8], replies: &mut [u8]) -> Outcome
+    requires { ⌜ Ready s (now table) (now replies) 0 (length (finishReplies r (stateIn s (now table))) + 1) × (r .map < 256) × (r .command ≡ 11) × (synced (r .flags) ≡ false) ⌝ }
+    ensures { λ d. ⌜ Does (doFinish (callOf r [])) s (now (table .entry)) (now (replies .entry)) d (now (table .exit)) (now (replies .exit)) ⌝ }
+{
+    let cs = s.channels;
+    let ok = channel::matching(cs, r.key, r.map);
+    let on = fronts::which(cs, Front::Plays, ok);
+    let fronts = channel::change_named(cs, on, Change::FrontOnly);
+    let q = s.waiters;
+    let d = granting::drop_named(table, replies, 0, fronts, q, on);
+    let ds = channel::change_named(cs, on, Change::FrontGone);
+    let left = d.waiters;
+    let mut t = s;
+    t.channels = ds;
+    t.waiters = left;
+    let a = sweep::verdict(r, ok);
+    answers::finished(r, a, t, replies, d.n)
+}
