@@ -53,7 +53,7 @@ int main(void)
     /* A lock stays outstanding until the channel is freed, or until somebody wants to steal it. */
     call("lock channel 0", ADCMD_LOCK, 2, 0, 1, 0, mine, first, 0);
     call("write to channel 1", CMD_WRITE, 3, 0, 2, 0, mine, first, 0);
-    call("its write ends", QAMHUDEER_EVENT, 0, 0, 2, 0, 0, first, 0);
+    call("its write ends", QAMHUDEER_CYCLE_ENDED, 0, 0, 2, 0, 0, first, 0);
     call("write to channel 0", CMD_WRITE, 4, 0, 1, 0, mine, first, 0);
 
     /* Another desk wants channel 0 at a higher precedence. The channel is locked, so that it waits, and the lock is told. */

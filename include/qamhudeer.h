@@ -81,7 +81,17 @@ extern "C" {
 #define QAMHUDEER_OPEN 0xF0
 #define QAMHUDEER_CLOSE 0xF1
 #define QAMHUDEER_ABORT 0xF2
-#define QAMHUDEER_EVENT 0xF3 /* the front write of the lowest channel of the map has ended */
+
+/* The driver's two events, on the lowest channel of the map. Where that channel is stopped or has no write, nothing happens and
+ * the answer's map is 0; otherwise it is the channel's bit, whether or not the write has ended. They need no id and no open key.
+ *
+ * A cycle has ended: the channel's ADCMD_WAITCYCLEs are replied 0, oldest first. Then what is remembered is done: a FINISH ends
+ * the write with IOERR_ABORTED, and that is all; a PERVOL replaces its period and volume. Then the cycles are counted down, and
+ * the last of them ends the write with 0. An endless write is not counted down. */
+#define QAMHUDEER_CYCLE_ENDED 0xF3
+/* The driver gave up: the front write ends with IOERR_ABORTED, then the channel's ADCMD_WAITCYCLEs do, oldest first. The next
+ * write moves up. */
+#define QAMHUDEER_GAVE_UP 0xF4
 
 /* exec/io.h */
 #ifndef CMD_RESET

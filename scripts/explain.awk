@@ -1,12 +1,12 @@
 # Reads a log, and beside it the file 'output', what the program wrote for it with '--show', on a board of so many channels;
-# writes the same in words. The program shows no queue, so which request waits on which channel, and what is remembered there,
-# is followed from the calls and the replies. ./explain runs it. POSIX awk.
+# writes the same in words. The program shows no queue, so which request waits on which channel, what is remembered there and
+# how many cycles a write has left is followed from the calls and the replies. ./explain runs it. POSIX awk.
 
 BEGIN {
     width = 98          # columns of a line, where words can be broken so
     margin = 23         # where the words of a call and of what follows it begin
 
-    names("OPEN 240 CLOSE 241 ABORT 242 write-end 243 CMD_RESET 1 CMD_READ 2 CMD_WRITE 3 CMD_UPDATE 4 CMD_CLEAR 5 " \
+    names("OPEN 240 CLOSE 241 ABORT 242 cycle-end 243 give-up 244 CMD_RESET 1 CMD_READ 2 CMD_WRITE 3 CMD_UPDATE 4 CMD_CLEAR 5 " \
           "CMD_STOP 6 CMD_START 7 CMD_FLUSH 8 ADCMD_FREE 9 ADCMD_SETPREC 10 ADCMD_FINISH 11 ADCMD_PERVOL 12 " \
           "ADCMD_LOCK 13 ADCMD_WAITCYCLE 14 ADCMD_ALLOCATE 32")
 
@@ -186,9 +186,9 @@ function add_numbers(text, op) {
 function say_call(text,    op) {
     op = byte(text, 0)
     words = ""
-    if (op < 240 || op > 243 || op == 242)
+    if (op < 240 || op > 244 || op == 242)
         add("id " byte(text, 1))
-    if (op < 240 || op > 243) {
+    if (op < 240 || op > 244) {
         if (flag(text, 1))
             add("QUICK")
         if (op == 32 && flag(text, 64))
@@ -245,14 +245,35 @@ function follow_reply(text,    id, c) {
         }
 }
 
+# The front write of an event's channel, and what is remembered there, before the replies take them away.
+function before_event(call,    c) {
+    if (byte(call, 0) != 243 && byte(call, 0) != 244)
+        return
+    c = lowest(byte(call, 3))
+    split(writes[c], front, " ")
+    finished = finish[c]
+    tuned = pervol[c]
+}
+
+# A cycle's end of a write that goes on: PERVOL has been applied, and the cycle is counted.
+function follow_cycle(map, call) {
+    if (byte(call, 0) != 243 || map == 0 || finished != "" || left[front[1]] == 1)
+        return
+    pervol[lowest(map)] = ""
+    if (left[front[1]] > 0)
+        left[front[1]]--
+}
+
 # An answer: a write or a WAITCYCLE that is outstanding has joined its list, on the lowest channel of its map.
 function follow_answer(text, call,    id, c) {
     if (byte(text, 0) != 161)
         return
     id = byte(call, 1)
     c = lowest(byte(call, 3))
-    if (byte(call, 0) == 3)
+    if (byte(call, 0) == 3) {
         writes[c] = joins(writes[c], id)
+        left[id] = cycles(call)
+    }
     if (byte(call, 0) == 14) {
         waiters = joins(waiters, id)
         awaited[id] = c
@@ -316,6 +337,22 @@ function refusal_words(number, call) {
     return number == -4 ? length_words(call) : reason[number]
 }
 
+# What an event has done to the front write of its channel.
+function add_event(op, map,    id, count) {
+    id = "id " front[1]
+    count = left[front[1]]
+    add((op == 243 ? "a cycle ended on " : "the driver gave up on ") on_channels(map))
+    if (op == 244)
+        add(id " ends")
+    else if (finished != "")
+        add("FINISH ends " id)
+    else {
+        if (tuned != "")
+            add(tuned " is applied to " id)
+        add(count == 0 ? id " is endless" : count == 1 ? "the last cycle of " id : id " has " cycle_words(count - 1) " left")
+    }
+}
+
 # A0 done or A1 outstanding, error, map, key, last byte.
 function say_answer(text, call,    op, number, map, last) {
     op = byte(call, 0)
@@ -329,11 +366,13 @@ function say_answer(text, call,    op, number, map, last) {
         add(error[number] (number in reason ? ": " refusal_words(number, call) : ""))
     else if (op == 242)
         add(last == 1 ? "aborted" : "not aborted")
-    else if (op == 243)
-        add(map == 0 ? "no write ended" : "a write ended")
+    else if ((op == 243 || op == 244) && map == 0)
+        add("no write plays")
+    else if (op == 243 || op == 244)
+        add_event(op, map)
     else
         add("done")
-    if (map != 0)
+    if (map != 0 && op != 243 && op != 244)
         add(on_channels(map))
     if (op == 2 && number == 0)
         add(last == 255 ? "no write plays" : "the write of id " last " plays")
@@ -377,6 +416,7 @@ function say_channels(said,    c, d, phrase) {
     why = fault($0)
     # A malformed line is no call. It stands here as a frame of command 0, of which nothing is followed.
     call = why == "" ? $0 : "0000000000000000"
+    before_event(call)
     if (why == "")
         say_call($0)
     else
@@ -390,6 +430,7 @@ function say_channels(said,    c, d, phrase) {
             say_answer(text, call)
             follow_answer(text, call)
             map = byte(text, 2)
+            follow_cycle(map, call)
         } else if (text ~ /^B0/) {
             follow_synced(map, call, seen, byte(text, 5))
             said[seen++] = channel_words(text)

@@ -137,9 +137,9 @@ static unsigned reset(struct Arbiter *a, unsigned c, struct Replies *r)
     return flush(a, c, r);
 }
 
-/* The WAITCYCLEs on these channels end, oldest first over the whole board. "The event
-   answers waiters 0 with that bit"; "a front write that ends otherwise has its channel's
-   waiters replied -2, map 0, oldest first after the writes". */
+/* The WAITCYCLEs on these channels end, oldest first over the whole board: with 0 and their
+   bit where their cycle has ended. "A front write that ends otherwise has its channel's
+   waiters replied -2, map 0, oldest first after the writes." */
 static void end_waiters(struct Arbiter *a, unsigned map, int error, struct Replies *r)
 {
     unsigned at = 0;
@@ -710,26 +710,58 @@ static struct Answer abort_request(struct Arbiter *a, const struct Frame *f,
     return made;
 }
 
-/* "If that channel isn't stopped and has a write, the front write is replied 0 with that
-   channel's bit and removed, and the event answers that bit; else map 0." */
-static struct Answer write_end(struct Arbiter *a, const struct Frame *f, struct Replies *r)
+/* Request #102: "F3 becomes 'a cycle ended': it answers waiters first, then applies what was
+   remembered (FINISH ends the write with -2 and stops here), then counts down, and the last
+   cycle ends the write with 0." A count of 0 is endless. */
+static void cycle_ended(struct Arbiter *a, unsigned c, struct Replies *r)
 {
-    unsigned ended = 0;
+    struct Channel *channel = &a->channel[c];
+    struct Request *front = &a->request[channel->writes.id[0]];
+
+    end_waiters(a, 1u << c, DONE, r);
+    if (channel->finish) {
+        end_front(a, c, IOERR_ABORTED, 0, r);
+        return;
+    }
+    if (channel->pervol) {
+        front->period = channel->period;
+        front->volume = channel->volume;
+        forget(channel);
+    }
+    if (front->cycles == 1)
+        end_front(a, c, DONE, 1u << c, r);
+    else if (front->cycles > 1)
+        front->cycles--;
+}
+
+/* "F4 is 'the driver gave up': the front write ends with -2, and its waiters too." */
+static void gave_up(struct Arbiter *a, unsigned c, struct Replies *r)
+{
+    end_front(a, c, IOERR_ABORTED, 0, r);
+    end_waiters(a, 1u << c, IOERR_ABORTED, r);
+}
+
+/* "The event takes the lowest set bit." Where a write is in progress there it answers that
+   bit, whether or not the write ends; "on a stopped or empty channel both answer map 0". */
+static struct Answer event(struct Arbiter *a, const struct Frame *f, struct Replies *r)
+{
+    unsigned met = 0;
 
     if (beyond_board(a, f->map))
         return refuse(f, IOERR_BADADDRESS);
     if (f->map != 0) {
         unsigned c = lowest_channel(f->map);
-        struct Channel *channel = &a->channel[c];
 
-        if (in_progress(channel)) {
-            ended = 1u << c;
-            end_waiters(a, ended, DONE, r);         /* "before the write" */
-            end_front(a, c, DONE, ended, r);
+        if (in_progress(&a->channel[c])) {
+            met = 1u << c;
+            if (f->operation == CALL_CYCLE_ENDED)
+                cycle_ended(a, c, r);
+            else
+                gave_up(a, c, r);
         }
     }
     settle(a, r);
-    return answer(DONE, ended, f->key);
+    return answer(DONE, met, f->key);
 }
 
 struct Answer arbiter_call(struct Arbiter *a, const struct Frame *f, struct Replies *r)
@@ -745,7 +777,7 @@ struct Answer arbiter_call(struct Arbiter *a, const struct Frame *f, struct Repl
     case CALL_OPEN: return open_device(a, f, r);
     case CALL_CLOSE: return close_device(a, f, r);
     case CALL_ABORT: return abort_request(a, f, r);
-    case CALL_EVENT: return write_end(a, f, r);
+    case CALL_CYCLE_ENDED: case CALL_GAVE_UP: return event(a, f, r);
     default: return command(a, f, r);
     }
 }

@@ -37,8 +37,12 @@ enum {
     REFUSED_ID = 4, REFUSED_REPLIES = 5, REFUSED_LINE = 7
 };
 
-/* "Operations F0 to F3 are OPEN, CLOSE, ABORT, event; others are the command number." */
-enum { CALL_OPEN = 0xF0, CALL_CLOSE = 0xF1, CALL_ABORT = 0xF2, CALL_EVENT = 0xF3 };
+/* "Operations F0 to F3 are OPEN, CLOSE, ABORT, event; others are the command number." Request
+   #102: F3 is "a cycle ended", F4 "the driver gave up". */
+enum {
+    CALL_OPEN = 0xF0, CALL_CLOSE = 0xF1, CALL_ABORT = 0xF2,
+    CALL_CYCLE_ENDED = 0xF3, CALL_GAVE_UP = 0xF4
+};
 
 /* Ids in order; the places from count on are 0. */
 struct Ids {
@@ -71,7 +75,7 @@ struct Request {
     uint16_t key;
     uint8_t length;                         /* waiting allocation: 1 to 16 */
     uint8_t combination[COMBINATIONS];
-    uint16_t cycles;                        /* write: 0 is endless */
+    uint16_t cycles;                        /* write: how many are left; 0 is endless */
     uint32_t period;                        /* write */
     uint8_t volume;                         /* write */
 };

@@ -1,15 +1,19 @@
 /* Plays logs, each on a fresh device, and counts the answers and the replies by what
-   caused them: coverage-count SHORT|LONG LOG... Prints a row for each, and fails if a row
-   that is due was never reached. Some rows are due in LONG logs only. */
+   caused them: coverage-count SHORT|LONG|EIGHT LOG... Prints a row for each, and fails if a
+   row that is due was never reached. Some rows are due in LONG logs only, some on four
+   channels only. */
 #include "log.h"
 
 #include <stdio.h>
 #include <string.h>
 
+/* When a row is due. */
+enum { ALWAYS, ONLY_LONG, ONLY_FOUR };
+
 /* Rows of answers: by A0 or A1 and error. */
 static struct AnswerRow {
     const char *name;
-    int outstanding, error, only_long;
+    int outstanding, error, due;
     unsigned long count;
 } answer_rows[] = {
     {"A0   0 done", 0, DONE, 0, 0},
@@ -17,7 +21,7 @@ static struct AnswerRow {
     {"A0  -1 OPENFAIL", 0, IOERR_OPENFAIL, 0, 0},
     {"A0  -3 NOCMD", 0, IOERR_NOCMD, 0, 0},
     {"A0  -4 BADLENGTH", 0, IOERR_BADLENGTH, 0, 0},
-    {"A0  -5 BADADDRESS", 0, IOERR_BADADDRESS, 0, 0},
+    {"A0  -5 BADADDRESS", 0, IOERR_BADADDRESS, ONLY_FOUR, 0},
     {"A0 -10 NOALLOCATION", 0, ADIOERR_NOALLOCATION, 0, 0},
     {"A0 -11 ALLOCFAILED", 0, ADIOERR_ALLOCFAILED, 0, 0},
     {"A0   2 nothing open", 0, REFUSED_CLOSED, 0, 0},
@@ -48,7 +52,9 @@ static struct ReplyRow {
     {"LOCK   0, own: map 0", ADCMD_LOCK, DONE, OWN, 0},
     {"LOCK -10, own: mismatch", ADCMD_LOCK, ADIOERR_NOALLOCATION, OWN, 0},
     {"LOCK -12, settling: stolen", ADCMD_LOCK, ADIOERR_CHANNELSTOLEN, SETTLING, 0},
-    {"WRITE   0, event", CMD_WRITE, DONE, CALL_EVENT, 0},
+    {"WRITE   0, F3: the last cycle", CMD_WRITE, DONE, CALL_CYCLE_ENDED, 0},
+    {"WRITE  -2, F3: a remembered FINISH", CMD_WRITE, IOERR_ABORTED, CALL_CYCLE_ENDED, 0},
+    {"WRITE  -2, F4", CMD_WRITE, IOERR_ABORTED, CALL_GAVE_UP, 0},
     {"WRITE  -2, stolen", CMD_WRITE, IOERR_ABORTED, STEAL, 0},
     {"WRITE  -2, FREE", CMD_WRITE, IOERR_ABORTED, ADCMD_FREE, 0},
     {"WRITE  -2, CLOSE", CMD_WRITE, IOERR_ABORTED, CALL_CLOSE, 0},
@@ -58,7 +64,8 @@ static struct ReplyRow {
     {"WRITE  -2, FINISH", CMD_WRITE, IOERR_ABORTED, ADCMD_FINISH, 0},
     {"WRITE -10, own", CMD_WRITE, ADIOERR_NOALLOCATION, OWN, 0},
     {"WRITE  -4, own: numbers", CMD_WRITE, IOERR_BADLENGTH, OWN, 0},
-    {"WAITCYCLE   0, event", ADCMD_WAITCYCLE, DONE, CALL_EVENT, 0},
+    {"WAITCYCLE   0, F3", ADCMD_WAITCYCLE, DONE, CALL_CYCLE_ENDED, 0},
+    {"WAITCYCLE  -2, F4", ADCMD_WAITCYCLE, IOERR_ABORTED, CALL_GAVE_UP, 0},
     {"WAITCYCLE   0, own: done at once", ADCMD_WAITCYCLE, DONE, OWN, 0},
     {"WAITCYCLE -10, own", ADCMD_WAITCYCLE, ADIOERR_NOALLOCATION, OWN, 0},
     {"WAITCYCLE  -2, stolen", ADCMD_WAITCYCLE, IOERR_ABORTED, STEAL, 0},
@@ -99,7 +106,7 @@ static struct ReplyRow {
 /* What a row of answers does not tell apart. */
 static struct CallRow {
     const char *name;
-    int only_long;
+    int due;
     unsigned long count;
 } call_rows[] = {
     {"OPEN 0 with combinations", 0, 0},
@@ -109,8 +116,6 @@ static struct CallRow {
     {"CLOSE 0", 0, 0},
     {"CLOSE 0, another entry of its key remains", 0, 0},
     {"CLOSE 2, the device open for others", 0, 0},
-    {"event 0 with a write ended", 0, 0},
-    {"event 0 with map 0", 0, 0},
     {"ABORT 0, aborted", 0, 0},
     {"ABORT 0, not aborted", 0, 0},
     {"READ 0 with an id", 0, 0},
@@ -127,10 +132,10 @@ static struct CallRow {
     {"ten replies or more in a call", 0, 0},
     {"more than 60 outstanding", 0, 0},
     {"new key passes over keys in use", 0, 0},
-    {"keys come round", 1, 0},
-    {"keys come round over keys in use", 1, 0},
+    {"keys come round", ONLY_LONG, 0},
+    {"keys come round over keys in use", ONLY_LONG, 0},
     {"new key passes over one of an opener alone", 0, 0},
-    {"keys come round over such a key", 1, 0},
+    {"keys come round over such a key", ONLY_LONG, 0},
     {"FINISH remembered", 0, 0},
     {"FINISH, plain, on a stopped channel", 0, 0},
     {"FINISH, synced, on a stopped channel", 0, 0},
@@ -139,23 +144,71 @@ static struct CallRow {
     {"PERVOL remembered", 0, 0},
     {"PERVOL remembered over another", 0, 0},
     {"PERVOL at once beside a remembered one", 0, 0},
-    {"event drops what is remembered", 0, 0},
-    {"event answers two waiters or more", 0, 0},
     {"two waiters or more cut, of two channels", 0, 0},
     {"ABORT of the first of two writes, waited for", 0, 0},
     {"ABORT of a write behind one waited for", 0, 0},
     {"STOP of a channel waited for", 0, 0},
     {"WAITCYCLE done on a stopped channel", 0, 0},
     {"WRITE endless", 0, 0},
-    {"WRITE with period 124 or 65,536", 0, 0}
+    {"WRITE with period 124 or 65,536", 0, 0},
+    {"F3: the write goes on, waiters answered", 0, 0},
+    {"F3: two waiters or more answered", 0, 0},
+    {"F3: no end of an endless write", 0, 0},
+    {"F3: counted down, more than 1 left", 0, 0},
+    {"F3: counted down to 1", 0, 0},
+    {"F3: counted down from 256", 0, 0},
+    {"F3: the last cycle, waiters answered", 0, 0},
+    {"F3: the last cycle, a write behind it", 0, 0},
+    {"F3: PERVOL applied, counted down", 0, 0},
+    {"F3: PERVOL applied, endless", 0, 0},
+    {"F3: PERVOL remembered in the last cycle", 0, 0},
+    {"F3: FINISH, cycles left", 0, 0},
+    {"F3: FINISH, endless", 0, 0},
+    {"F3: FINISH in the last cycle", 0, 0},
+    {"F3: FINISH and PERVOL remembered", 0, 0},
+    {"F3: FINISH, waiters answered", 0, 0},
+    {"F3: FINISH, a write behind it", 0, 0},
+    {"F3 on a stopped channel with a write", 0, 0},
+    {"F3, stopped, waiters there", 0, 0},
+    {"F3, stopped, something remembered", 0, 0},
+    {"F3 on a channel without a write", 0, 0},
+    {"F3 on a free channel", 0, 0},
+    {"F3 of map 0", 0, 0},
+    {"F3 above the highest map: -5", ONLY_FOUR, 0},
+    {"F3 reads the lowest of several bits", 0, 0},
+    {"F3 met a write, nothing open", 0, 0},
+    {"F3, nothing open, map 0", 0, 0},
+    {"F4 of a write alone", 0, 0},
+    {"F4, a write behind it", 0, 0},
+    {"F4, waiters ended", 0, 0},
+    {"F4, two waiters or more ended", 0, 0},
+    {"F4, waiters of another channel stay", 0, 0},
+    {"F4, something remembered", 0, 0},
+    {"F4 of an endless write", 0, 0},
+    {"F4 on a stopped channel with a write", 0, 0},
+    {"F4 on a channel without a write", 0, 0},
+    {"F4 on a free channel", 0, 0},
+    {"F4 of map 0", 0, 0},
+    {"F4 above the highest map: -5", ONLY_FOUR, 0},
+    {"F4 reads the lowest of several bits", 0, 0},
+    {"F4 met a write, nothing open", 0, 0},
+    {"F4, nothing open, map 0", 0, 0}
 };
 enum {
-    OPEN_LIST, OPEN_PLAIN, OPEN_FAILED, OPEN_LAST, CLOSED, CLOSED_ONE, CLOSE_FOREIGN, EVENT_ENDED, EVENT_NOTHING, ABORTED, NOT_ABORTED,
+    OPEN_LIST, OPEN_PLAIN, OPEN_FAILED, OPEN_LAST, CLOSED, CLOSED_ONE, CLOSE_FOREIGN, ABORTED, NOT_ABORTED,
     READ_ID, READ_NONE, HELD, HELD_NOWAIT, PARTIAL, MANY_GRANTS, FEWER, FEWER_HELD, TIED,
     SIXTEEN, SEVENTEEN, TEN_REPLIES, NEARLY_FULL, PASSES, ROUND, ROUND_PASSES,
     PASSES_OPENER, ROUND_PASSES_OPENER,
     FINISH_LATER, FINISH_STOPPED, FINISH_LATER_STOPPED, FINISH_OF_TWO, PERVOL_NOW, PERVOL_LATER, PERVOL_AGAIN, PERVOL_BESIDE,
-    DROPPED, TWO_MET, TWO_CUT, ABORT_FIRST, ABORT_BEHIND, STOP_WAITED, WAIT_STOPPED, ENDLESS, LONG_PERIODS
+    TWO_CUT, ABORT_FIRST, ABORT_BEHIND, STOP_WAITED, WAIT_STOPPED, ENDLESS, LONG_PERIODS,
+    CYCLE_ANSWERED, CYCLE_TWO, CYCLE_ENDLESS, CYCLE_LEFT, CYCLE_TO_ONE, CYCLE_FROM_256, CYCLE_LAST_ANSWERED, CYCLE_LAST_BEHIND,
+    CYCLE_PERVOL, CYCLE_PERVOL_ENDLESS, CYCLE_PERVOL_LAST,
+    CYCLE_FINISH, CYCLE_FINISH_ENDLESS, CYCLE_FINISH_LAST, CYCLE_BOTH, CYCLE_FINISH_ANSWERED, CYCLE_FINISH_BEHIND,
+    CYCLE_STOPPED, CYCLE_STOPPED_WAITED, CYCLE_STOPPED_REMEMBERED, CYCLE_EMPTY, CYCLE_FREE, CYCLE_NOTHING, CYCLE_BEYOND,
+    CYCLE_LOWEST, CYCLE_CLOSED, CYCLE_CLOSED_NOTHING,
+    GAVE_UP_ALONE, GAVE_UP_BEHIND, GAVE_UP_WAITED, GAVE_UP_TWO, GAVE_UP_OTHERS, GAVE_UP_REMEMBERED, GAVE_UP_ENDLESS,
+    GAVE_UP_STOPPED, GAVE_UP_EMPTY, GAVE_UP_FREE, GAVE_UP_NOTHING, GAVE_UP_BEYOND, GAVE_UP_LOWEST, GAVE_UP_CLOSED,
+    GAVE_UP_CLOSED_NOTHING
 };
 
 #define COUNT_OF(array) (sizeof (array) / sizeof *(array))
@@ -234,6 +287,8 @@ static int cause_of(const struct Arbiter *before, const struct Frame *f,
         return was->key == f->key ? CALL_CLOSE : STEAL;
     case CALL_ABORT:
         return reply->id == f->id ? CALL_ABORT : STEAL;
+    case CALL_CYCLE_ENDED: case CALL_GAVE_UP:
+        return c == lowest_of(f->map) ? f->operation : STEAL;
     default:
         return STEAL;
     }
@@ -340,25 +395,21 @@ static void count_front(const struct Frame *f, const struct Channel *was, const 
 static void count_cuts(const struct Arbiter *before, const struct Arbiter *after, const struct Frame *f,
                        const struct Answer *answer, const struct Replies *replies)
 {
-    unsigned met = 0, cut = 0, places = 0, c = lowest_of(f->map);
+    unsigned cut = 0, places = 0, c = lowest_of(f->map);
 
     for (size_t i = 0; i < replies->count; i++) {
         const struct Reply *r = &replies->record[i];
 
-        met += r->command == ADCMD_WAITCYCLE && r->error == DONE && f->operation == CALL_EVENT;
         if (r->command == ADCMD_WAITCYCLE && r->error == IOERR_ABORTED) {
             cut++;
             places |= before->request[r->id].map;
         }
     }
-    call_rows[TWO_MET].count += met > 1;
     call_rows[TWO_CUT].count += cut > 1 && (places & (places - 1)) != 0;
     if (f->operation == ADCMD_FINISH || f->operation == ADCMD_PERVOL)
         for (unsigned k = 0; k < before->channels; k++)
             if (answer->map >> k & 1)
                 count_front(f, &before->channel[k], &after->channel[k]);
-    if (f->operation == CALL_EVENT && answer->map != 0)
-        call_rows[DROPPED].count += before->channel[c].finish || before->channel[c].pervol;
     if (f->operation == CALL_ABORT && answer->last == 1 && before->request[f->id].command == CMD_WRITE) {
         unsigned k = channel_of(before, f->id);
         int first = before->channel[k].writes.id[0] == f->id;
@@ -375,6 +426,80 @@ static void count_cuts(const struct Arbiter *before, const struct Arbiter *after
         call_rows[ENDLESS].count += after->request[f->id].command == CMD_WRITE && after->request[f->id].cycles == 0;
         call_rows[LONG_PERIODS].count += f->length == 6
             && (after->request[f->id].period == LEAST_PERIOD || after->request[f->id].period == MOST_PERIOD);
+    }
+}
+
+/* F3 with a write in progress, by the state before it. */
+static void count_cycle(const struct Channel *was, unsigned cycles, unsigned waiters)
+{
+    int endless = cycles == 0, last = cycles == 1, behind = was->writes.count > 1;
+
+    call_rows[CYCLE_TWO].count += waiters > 1;
+    if (was->finish) {
+        call_rows[CYCLE_FINISH].count += cycles > 1;
+        call_rows[CYCLE_FINISH_ENDLESS].count += endless;
+        call_rows[CYCLE_FINISH_LAST].count += last;
+        call_rows[CYCLE_BOTH].count += was->pervol;
+        call_rows[CYCLE_FINISH_ANSWERED].count += waiters > 0;
+        call_rows[CYCLE_FINISH_BEHIND].count += behind;
+        return;
+    }
+    call_rows[CYCLE_ANSWERED].count += !last && waiters > 0;
+    call_rows[CYCLE_ENDLESS].count += endless;
+    call_rows[CYCLE_LEFT].count += cycles > 2;
+    call_rows[CYCLE_TO_ONE].count += cycles == 2;
+    call_rows[CYCLE_FROM_256].count += cycles == 256;
+    call_rows[CYCLE_LAST_ANSWERED].count += last && waiters > 0;
+    call_rows[CYCLE_LAST_BEHIND].count += last && behind;
+    call_rows[CYCLE_PERVOL].count += was->pervol && cycles > 1;
+    call_rows[CYCLE_PERVOL_ENDLESS].count += was->pervol && endless;
+    call_rows[CYCLE_PERVOL_LAST].count += was->pervol && last;
+}
+
+/* F4 with a write in progress. */
+static void count_given_up(const struct Channel *was, unsigned cycles, unsigned waiters, unsigned others)
+{
+    call_rows[GAVE_UP_ALONE].count += was->writes.count == 1;
+    call_rows[GAVE_UP_BEHIND].count += was->writes.count > 1;
+    call_rows[GAVE_UP_WAITED].count += waiters > 0;
+    call_rows[GAVE_UP_TWO].count += waiters > 1;
+    call_rows[GAVE_UP_OTHERS].count += others > 0;
+    call_rows[GAVE_UP_REMEMBERED].count += was->finish || was->pervol;
+    call_rows[GAVE_UP_ENDLESS].count += cycles == 0;
+}
+
+/* Request #102: the two events. */
+static void count_event(const struct Arbiter *before, const struct Frame *f, const struct Answer *answer)
+{
+    unsigned c = lowest_of(f->map), waiters = waiters_on(before, c);
+    const struct Channel *was = &before->channel[c];
+    int cycle = f->operation == CALL_CYCLE_ENDED, written = was->writes.count > 0;
+
+    if (answer->error == IOERR_BADADDRESS) {
+        call_rows[cycle ? CYCLE_BEYOND : GAVE_UP_BEYOND].count++;
+        return;
+    }
+    if (answer->map != 0) {
+        unsigned cycles = before->request[was->writes.id[0]].cycles;
+
+        call_rows[cycle ? CYCLE_LOWEST : GAVE_UP_LOWEST].count += f->map != answer->map;
+        call_rows[cycle ? CYCLE_CLOSED : GAVE_UP_CLOSED].count += before->open.count == 0;
+        if (cycle)
+            count_cycle(was, cycles, waiters);
+        else
+            count_given_up(was, cycles, waiters, before->cycles.count - waiters);
+        return;
+    }
+    call_rows[cycle ? CYCLE_CLOSED_NOTHING : GAVE_UP_CLOSED_NOTHING].count += before->open.count == 0;
+    call_rows[cycle ? CYCLE_NOTHING : GAVE_UP_NOTHING].count += f->map == 0;
+    if (f->map == 0)
+        return;
+    call_rows[cycle ? CYCLE_FREE : GAVE_UP_FREE].count += was->key == 0;
+    call_rows[cycle ? CYCLE_EMPTY : GAVE_UP_EMPTY].count += was->key != 0 && !written;
+    call_rows[cycle ? CYCLE_STOPPED : GAVE_UP_STOPPED].count += written;
+    if (cycle) {
+        call_rows[CYCLE_STOPPED_WAITED].count += waiters > 0;
+        call_rows[CYCLE_STOPPED_REMEMBERED].count += was->finish || was->pervol;
     }
 }
 
@@ -397,10 +522,6 @@ static void count_call(const struct Arbiter *before, const struct Arbiter *after
         call_rows[CLOSED].count += done;
         call_rows[CLOSED_ONE].count += done && has_entry(after, f->key);
         call_rows[CLOSE_FOREIGN].count += answer->error == REFUSED_CLOSED && before->open.count > 0;
-        break;
-    case CALL_EVENT:
-        call_rows[EVENT_ENDED].count += done && answer->map != 0;
-        call_rows[EVENT_NOTHING].count += done && answer->map == 0;
         break;
     case CALL_ABORT:
         call_rows[ABORTED].count += done && answer->last == 1;
@@ -459,11 +580,13 @@ static void count_call(const struct Arbiter *before, const struct Arbiter *after
         count_new_key(before, answer->key);
 }
 
+static int is_long, is_eight;               /* what the logs are */
+
 /* One row, per thousand lines; 1 if it is due and was never reached. */
-static int print_row(const char *name, unsigned long count, int only_long)
+static int print_row(const char *name, unsigned long count, int due)
 {
     printf("| %-42s | %8lu | %8.2f |\n", name, count, 1000.0 * (double)count / (double)lines);
-    return count == 0 && !only_long;
+    return count == 0 && (due == ALWAYS || (due == ONLY_LONG && is_long) || (due == ONLY_FOUR && !is_eight));
 }
 
 static void play(FILE *log, unsigned channels)
@@ -486,22 +609,19 @@ static void play(FILE *log, unsigned channels)
                 count_reply(&record[i], cause_of(&before, &frame, &answer, &record[i]));
             count_call(&before, &state, &frame, &answer, &replies);
             count_cuts(&before, &state, &frame, &answer, &replies);
+            if (frame.operation == CALL_CYCLE_ENDED || frame.operation == CALL_GAVE_UP)
+                count_event(&before, &frame, &answer);
         }
         count_answer(&answer);
     }
 }
 
-/* "Maps above 255 can't occur, so -5 isn't given there." */
-static int never(int error, int is_eight)
-{
-    return is_eight && error == IOERR_BADADDRESS;
-}
-
 int main(int count, char **argument)
 {
-    int is_long = count > 1 && strcmp(argument[1], "LONG") == 0, missing = 0;
-    int is_eight = count > 1 && strcmp(argument[1], "EIGHT") == 0;
+    int missing = 0;
 
+    is_long = count > 1 && strcmp(argument[1], "LONG") == 0;
+    is_eight = count > 1 && strcmp(argument[1], "EIGHT") == 0;
     for (int i = 2; i < count; i++) {
         FILE *log = fopen(argument[i], "rb");
 
@@ -519,13 +639,13 @@ int main(int count, char **argument)
     printf("| %-42s | %8s | %8s |\n", "", "count", "per 1000");
     printf("|--------------------------------------------|----------|----------|\n");
     for (size_t i = 0; i < COUNT_OF(answer_rows); i++)
-        missing += print_row(answer_rows[i].name, answer_rows[i].count,
-                             (answer_rows[i].only_long && !is_long) || never(answer_rows[i].error, is_eight));
+        missing += print_row(answer_rows[i].name, answer_rows[i].count, answer_rows[i].due);
+    /* "Maps above 255 can't occur, so -5 isn't given there." */
     for (size_t i = 0; i < COUNT_OF(reply_rows); i++)
-        missing += print_row(reply_rows[i].name, reply_rows[i].count, never(reply_rows[i].error, is_eight));
+        missing += print_row(reply_rows[i].name, reply_rows[i].count,
+                             reply_rows[i].error == IOERR_BADADDRESS ? ONLY_FOUR : ALWAYS);
     for (size_t i = 0; i < COUNT_OF(call_rows); i++)
-        missing += print_row(call_rows[i].name, call_rows[i].count,
-                             call_rows[i].only_long && !is_long);
+        missing += print_row(call_rows[i].name, call_rows[i].count, call_rows[i].due);
     printf("\n%lu lines, %d rows missing, %lu unexpected\n", lines, missing, unexpected);
     return missing != 0 || unexpected != 0;
 }

@@ -13,14 +13,14 @@
 /* ---- Styles ---- */
 
 enum Kind {
-    OPEN, CLOSE, ABORT, EVENT, RESET, READ, WRITE, UPDATE, CLEAR, STOP, START, FLUSH,
-    FREE, SETPREC, LOCK, ALLOCATE, UNKNOWN, FINISH, PERVOL, WAITCYCLE, KINDS
+    OPEN, CLOSE, ABORT, CYCLE, RESET, READ, WRITE, UPDATE, CLEAR, STOP, START, FLUSH,
+    FREE, SETPREC, LOCK, ALLOCATE, UNKNOWN, FINISH, PERVOL, WAITCYCLE, GIVE_UP, KINDS
 };
 
 static const uint8_t operation_of[KINDS] = {
-    CALL_OPEN, CALL_CLOSE, CALL_ABORT, CALL_EVENT, CMD_RESET, CMD_READ, CMD_WRITE,
+    CALL_OPEN, CALL_CLOSE, CALL_ABORT, CALL_CYCLE_ENDED, CMD_RESET, CMD_READ, CMD_WRITE,
     CMD_UPDATE, CMD_CLEAR, CMD_STOP, CMD_START, CMD_FLUSH, ADCMD_FREE, ADCMD_SETPREC,
-    ADCMD_LOCK, ADCMD_ALLOCATE, 0, ADCMD_FINISH, ADCMD_PERVOL, ADCMD_WAITCYCLE
+    ADCMD_LOCK, ADCMD_ALLOCATE, 0, ADCMD_FINISH, ADCMD_PERVOL, ADCMD_WAITCYCLE, CALL_GAVE_UP
 };
 
 struct Style {
@@ -35,34 +35,36 @@ struct Style {
 
 enum {
     MIX, LOCKS, NOWAIT, QUEUES, FULL, ABORTS, PRECEDENCES, REFUSALS, MALFORMED, LISTS,
-    BYTES, TIES, CUTS, OPENS, KEYS, MANY_LOCKS, MANY_STEALS, MANY_ENTRIES, MANY_WAITING, STYLES
+    BYTES, TIES, CUTS, CYCLES, OPENS, KEYS, MANY_LOCKS, MANY_STEALS, MANY_ENTRIES, MANY_WAITING, STYLES
 };
-#define SHORT_STYLES KEYS       /* 1 to 13 take part in the mix */
+#define SHORT_STYLES KEYS       /* 1 to 14 take part in the mix */
 #define LONG_STRETCH 67500ul    /* lines in which the keys reach their end */
 #define LONG_LOG 70000ul        /* a mix this long begins with such a stretch */
 
 static const struct Style styles[STYLES] = {
-    /*              Op Cl Ab Ev Rs Rd Wr Up Cr Sp St Fl Fr Pr Lk Al Un Fi Pv Wc */
+    /*              Op Cl Ab Cy Rs Rd Wr Up Cr Sp St Fl Fr Pr Lk Al Un Fi Pv Wc Gu */
     {"mix",         {0}, 0, 0, 0, 0, 0},
-    {"locks",       {2, 2, 2, 1, 1, 1, 6, 1, 1, 1, 1, 1,18, 6,26,34, 0, 1, 1, 1}, 30, 2,  5,  1, 30},
-    {"nowait",      {2, 1, 3, 1, 1, 1, 3, 0, 0, 1, 1, 1, 9,26,20,36, 0, 0, 0, 1}, 85, 2,  5,  1, 30},
-    {"queues",      {2, 1, 5,14, 3, 8,46, 1, 1, 4, 6, 2, 2, 2, 1, 5, 0, 4, 4, 8}, 30, 2,  5,  1, 62},
-    {"full",        {3, 0, 1, 2, 0, 3,64, 0, 0, 2, 2, 0, 0, 1, 6,18, 0, 1, 1, 6}, 30, 3,  5,  1, 62},
-    {"aborts",      {2, 1,30, 3, 1, 2,22, 1, 1, 1, 1, 1, 4, 4, 8,24, 0, 1, 1, 8}, 20, 3,  5,  1, 40},
-    {"precedences", {5, 4, 3, 2, 1, 1, 8, 1, 1, 1, 1, 1, 8,30, 6,30, 0, 1, 1, 1}, 25, 2, 10,  1, 40},
-    {"refusals",    {9,14, 4, 5, 4, 4, 9, 4, 4, 4, 4, 4, 6, 5, 5,18,10, 3, 3, 3}, 40,40, 15,  2, 30},
-    {"malformed",   {6, 4, 4, 6, 3, 4,12, 3, 3, 4, 4, 3, 8, 6, 8,20, 2, 2, 2, 2}, 40, 5, 10, 50, 40},
-    {"lists",       {14,8, 3, 2, 1, 1, 6, 0, 0, 1, 1, 1,12, 6, 8,46, 0, 0, 0, 0}, 40,12, 60,  1, 40},
-    {"bytes",       {1, 1, 1, 1, 1, 1, 1, 1, 1, 1, 1, 1, 1, 1, 1, 1, 1, 1, 1, 1}, 50,30, 20,  5, 50},
-    {"ties",        {2, 1, 3, 1, 1, 1, 4, 0, 0, 1, 1, 1, 4,30, 1,50, 0, 0, 0, 0}, 70, 2,  8,  1, 30},
-    {"cuts",        {2, 1, 5,14, 2, 2,26, 0, 0, 5, 7, 2, 2, 1, 1, 8, 0,12,12,20}, 20, 3,  5,  1, 55},
-    {"opens",       {40,22, 2, 2, 1, 1, 4, 1, 1, 1, 1, 1, 4, 3, 3,12, 1, 1, 1, 1}, 40, 3, 5,  1, 40},
-    {"keys",        {6, 1, 2, 2, 1, 1, 4, 1, 1, 1, 1, 1, 4, 6, 4,40, 1, 0, 0, 0}, 20, 2, 10,  1, 40},
-    /* One kind of work each, for measuring: good frames, and hardly a refusal. */
-    {"many-locks",  {1, 0, 2, 1, 1, 2, 4, 2, 2, 2, 2, 1, 4, 8,60, 3, 0, 0, 0, 0}, 90, 0,  5,  0, 50},
-    {"many-steals", {1, 0, 1, 1, 0, 1,30, 0, 0, 1, 1, 0, 1,36, 0,36, 0, 0, 0, 0},100, 0,  5,  0, 50},
-    {"many-entries",{6, 4, 3, 1, 1, 1, 4, 1, 1, 1, 1, 1, 9, 9, 2,55, 0, 0, 0, 0}, 60, 0,100,  0, 40},
-    {"many-waiting",{1, 0, 4, 4, 1, 8, 8, 4, 4, 4, 4, 2, 0, 1, 0,55, 0, 0, 0, 0},  0, 0,  5,  0, 56}
+    {"locks",       {2, 2, 2, 1, 1, 1, 6, 1, 1, 1, 1, 1,18, 6,26,34, 0, 1, 1, 1, 1}, 30, 2,  5,  1, 30},
+    {"nowait",      {2, 1, 3, 1, 1, 1, 3, 0, 0, 1, 1, 1, 9,26,20,36, 0, 0, 0, 1, 1}, 85, 2,  5,  1, 30},
+    {"queues",      {2, 1, 5,14, 3, 8,46, 1, 1, 4, 6, 2, 2, 2, 1, 5, 0, 4, 4, 8, 4}, 30, 2,  5,  1, 62},
+    {"full",        {3, 0, 1, 2, 0, 3,64, 0, 0, 2, 2, 0, 0, 1, 6,18, 0, 1, 1, 6, 1}, 30, 3,  5,  1, 62},
+    {"aborts",      {2, 1,30, 3, 1, 2,22, 1, 1, 1, 1, 1, 4, 4, 8,24, 0, 1, 1, 8, 2}, 20, 3,  5,  1, 40},
+    {"precedences", {5, 4, 3, 2, 1, 1, 8, 1, 1, 1, 1, 1, 8,30, 6,30, 0, 1, 1, 1, 1}, 25, 2, 10,  1, 40},
+    {"refusals",    {9,14, 4, 5, 4, 4, 9, 4, 4, 4, 4, 4, 6, 5, 5,18,10, 3, 3, 3, 5}, 40,40, 15,  2, 30},
+    {"malformed",   {6, 4, 4, 6, 3, 4,12, 3, 3, 4, 4, 3, 8, 6, 8,20, 2, 2, 2, 2, 3}, 40, 5, 10, 50, 40},
+    {"lists",       {14,8, 3, 2, 1, 1, 6, 0, 0, 1, 1, 1,12, 6, 8,46, 0, 0, 0, 0, 1}, 40,12, 60,  1, 40},
+    {"bytes",       {1, 1, 1, 1, 1, 1, 1, 1, 1, 1, 1, 1, 1, 1, 1, 1, 1, 1, 1, 1, 1}, 50,30, 20,  5, 50},
+    {"ties",        {2, 1, 3, 1, 1, 1, 4, 0, 0, 1, 1, 1, 4,30, 1,50, 0, 0, 0, 0, 1}, 70, 2,  8,  1, 30},
+    {"cuts",        {2, 1, 5, 8, 3, 2,26, 0, 0, 5, 7, 3, 3, 1, 1, 8, 0,12,12,24, 2}, 20, 3,  5,  1, 55},
+    {"cycles",      {2, 1, 3,40, 1, 2,26, 0, 0, 5, 9, 1, 1, 1, 1, 6, 0,10,14,16, 7}, 20, 3,  5,  1, 50},
+    {"opens",       {40,22, 2, 2, 1, 1, 4, 1, 1, 1, 1, 1, 4, 3, 3,12, 1, 1, 1, 1, 1}, 40, 3, 5,  1, 40},
+    {"keys",        {6, 1, 2, 2, 1, 1, 4, 1, 1, 1, 1, 1, 4, 6, 4,40, 1, 0, 0, 0, 1}, 20, 2, 10,  1, 40},
+    /* One kind of work each, for measuring: good frames, hardly a refusal, and no F4, so that
+       their logs stay what they were before there was one. */
+    {"many-locks",  {1, 0, 2, 1, 1, 2, 4, 2, 2, 2, 2, 1, 4, 8,60, 3, 0, 0, 0, 0, 0}, 90, 0,  5,  0, 50},
+    {"many-steals", {1, 0, 1, 1, 0, 1,30, 0, 0, 1, 1, 0, 1,36, 0,36, 0, 0, 0, 0, 0},100, 0,  5,  0, 50},
+    {"many-entries",{6, 4, 3, 1, 1, 1, 4, 1, 1, 1, 1, 1, 9, 9, 2,55, 0, 0, 0, 0, 0}, 60, 0,100,  0, 40},
+    {"many-waiting",{1, 0, 4, 4, 1, 8, 8, 4, 4, 4, 4, 2, 0, 1, 0,55, 0, 0, 0, 0, 0},  0, 0,  5,  0, 56}
 };
 
 /* ---- The device as it stands ---- */
@@ -162,14 +164,21 @@ static unsigned pick_key(void)
     return below(LAST_OF_KEYS + 1);
 }
 
-/* Mostly the channels of this key, all of them, some, or some more. */
-static unsigned pick_map(unsigned key)
+static unsigned channels_of(unsigned key)
 {
-    unsigned odds = below(100), random = below(all_channels() + 1), own = 0;
+    unsigned own = 0;
 
     for (unsigned c = 0; c < state.channels; c++)
         if (key != 0 && state.channel[c].key == key)
             own |= 1u << c;
+    return own;
+}
+
+/* Mostly the channels of this key, all of them, some, or some more. */
+static unsigned pick_map(unsigned key)
+{
+    unsigned odds = below(100), random = below(all_channels() + 1), own = channels_of(key);
+
     if (odds < 45)
         return own;
     if (odds < 80)
@@ -232,17 +241,28 @@ static void pick_list(struct Frame *f, const struct Style *s)
         memset(f->combination, f->combination[0], COMBINATIONS - 1);
 }
 
+/* Endless, few cycles, or any number. Of many hardly one would be seen to end, so style cycles
+   has fewer of those, and some whose low byte runs out. */
+static unsigned pick_cycles(const struct Style *s)
+{
+    static const uint16_t many[3] = {256, 257, 65535};
+
+    if (s == &styles[CYCLES])
+        return percent(75) ? below(4) : many[below(3)];
+    return percent(70) ? below(4) : below(65536);
+}
+
 /* The six numbers of a WRITE or a PERVOL: mostly good ones, at times an end of a range or
    one beyond it, at times another length. */
-static void pick_sound(struct Frame *f)
+static void pick_sound(struct Frame *f, const struct Style *s)
 {
     static const uint32_t periods[8] = {124, 125, 65535, 65536, 123, 65537, 0, 0xFFFFFF};
     static const uint8_t volumes[4] = {0, 64, 65, 255};
     static const uint8_t lengths[6] = {1, 4, 5, 7, 16, 255};
     uint32_t period = 124 + below(1000);
-    unsigned volume = below(65), cycles = percent(70) ? below(4) : below(65536);
+    unsigned volume = below(65), cycles = pick_cycles(s);
 
-    if (percent(40))
+    if (percent(s == &styles[CYCLES] ? 15 : 40))
         return;
     if (percent(25))
         period = periods[below(percent(60) ? 4 : 8)];
@@ -277,10 +297,10 @@ static void spoil_list(struct Frame *f, int ignore)
         f->combination[below(f->length)] = 0x10;
 }
 
-/* Every number but those of the listed commands and of F0 to F3. */
+/* Every number but those of the listed commands and of F0 to F4. */
 static unsigned pick_unknown(void)
 {
-    static const uint8_t near[8] = {0, 15, 16, 30, 31, 33, 0xEF, 0xF4};
+    static const uint8_t near[8] = {0, 15, 16, 30, 31, 33, 0xEF, 0xF5};
     unsigned number = near[below(8)];
 
     if (percent(40))
@@ -346,7 +366,7 @@ static void make_frame(struct Frame *f, enum Kind kind, const struct Style *s)
         if (percent(85))
             f->id = (uint8_t)pick_id(1);
         break;
-    case EVENT:
+    case CYCLE: case GIVE_UP:
         if (percent(80))
             f->map = (uint8_t)(1u << pick_playing());
         break;
@@ -381,7 +401,14 @@ static void make_frame(struct Frame *f, enum Kind kind, const struct Style *s)
         break;
     case WRITE: case PERVOL:
         if (s < &styles[MANY_LOCKS])
-            pick_sound(f);
+            pick_sound(f, s);
+        break;
+    case FLUSH: case RESET:
+        /* All that a desk plays, so that waiters of several channels are cut at once. */
+        if (s == &styles[CUTS]) {
+            f->key = state.channel[pick_playing()].key;
+            f->map = (uint8_t)channels_of(f->key);
+        }
         break;
     case WAITCYCLE:
         if (percent(70)) {
@@ -395,12 +422,12 @@ static void make_frame(struct Frame *f, enum Kind kind, const struct Style *s)
         break;
     }
     if (kind == FINISH || kind == PERVOL) {
-        if (percent(50))
+        if (percent(s == &styles[CYCLES] ? 85 : 50))
             f->flags |= ADIOF_SYNCCYCLE;
         if (percent(60)) {
             unsigned c = pick_playing();
 
-            f->map = (uint8_t)(1u << c | (percent(30) ? 1u << pick_playing() : 0u));
+            f->map = (uint8_t)(1u << c | (percent(60) ? 1u << pick_playing() : 0u));
             f->key = state.channel[c].key;
         }
     }
@@ -432,13 +459,16 @@ static enum Kind pick_kind(unsigned style)
     const struct Style *s = &styles[style];
     unsigned sum = 0, at, kind = 0;
 
+    /* The driver goes on with what plays, open or not. */
+    if (state.open.count == 0 && style < MANY_LOCKS && state.channel[pick_playing()].writes.count > 0 && percent(40))
+        return percent(50) ? CYCLE : GIVE_UP;
     /* Closed, most calls would be refused with 2. */
     if (state.open.count == 0 && percent(style == REFUSALS ? 30 : 80))
         return OPEN;
     if (count_outstanding() > s->drain && percent(50)) {
-        static const enum Kind drains[6] = {ABORT, EVENT, FLUSH, FREE, CLOSE, RESET};
+        static const enum Kind drains[7] = {ABORT, CYCLE, FLUSH, FREE, CLOSE, RESET, GIVE_UP};
 
-        return style == MANY_WAITING ? ABORT : drains[below(6)];
+        return style == MANY_WAITING ? ABORT : drains[below(style < MANY_LOCKS ? 7 : 6)];
     }
     for (unsigned i = 0; i < KINDS; i++)
         sum += s->weight[i];

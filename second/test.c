@@ -1,5 +1,5 @@
 /* Tests of the arbiter's C functions: the marked examples M1 to M14, what a log cannot
-   reach (refusals 1 and 5, states not settled) and the sound test; then the stereo lists. */
+   reach (refusals 1 and 5, states not settled) and the sound test; then the two events and the stereo lists. */
 #include "arbiter.h"
 #include "stereo.h"
 
@@ -277,7 +277,8 @@ static void test_refusals(void)
     check(same_answer(call(&a, CALL_OPEN, 0, 0, 0, 0, 5, ""), 0, 5, 0, 5, 255), "5, OPEN");
     check(same_answer(call(&a, CALL_CLOSE, 0, 0, 0, 0, 5, ""), 0, 5, 0, 5, 255), "5, CLOSE");
     check(same_answer(call(&a, CALL_ABORT, 0, 0, 0, 0, 5, ""), 0, 5, 0, 5, 255), "5, ABORT");
-    check(same_answer(call(&a, CALL_EVENT, 0, 0, 1, 0, 5, ""), 0, 5, 0, 5, 255), "5, event");
+    check(same_answer(call(&a, CALL_CYCLE_ENDED, 0, 0, 1, 0, 5, ""), 0, 5, 0, 5, 255), "5, F3");
+    check(same_answer(call(&a, CALL_GAVE_UP, 0, 0, 1, 0, 5, ""), 0, 5, 0, 5, 255), "5, F4");
     check(memcmp(&before, &a, sizeof a) == 0 && replies.count == 0
           && record[0].id == 0x55, "5 leaves state and replies");
     a.channel[1].precedence = 1;
@@ -326,6 +327,10 @@ static void test_unsettled(void)
     call(&b, CALL_ABORT, 50, 0, 0, 0, 0, "");
     check(replies.count == 3, "\"not aborted\" settles");
     b = a;
+    check(same_answer(call(&b, CALL_CYCLE_ENDED, 0, 0, 2, 0, 4, ""), 0, 0, 0, 4, 255) && replies.count == 3, "F3 settles");
+    b = a;
+    check(same_answer(call(&b, CALL_GAVE_UP, 0, 0, 2, 0, 4, ""), 0, 0, 0, 4, 255) && replies.count == 3, "F4 settles");
+    b = a;
     check(same_answer(call(&b, ADCMD_ALLOCATE, 0, ADIOF_NOWAIT, 0, 0, 4, "\1"),
                       0, ADIOERR_ALLOCFAILED, 0, 4, 255)
           && replies.count == 4 && same_reply(1, 20, ADCMD_ALLOCATE, 0, 1, 8),
@@ -335,7 +340,8 @@ static void test_unsettled(void)
     check(replies.count == 0 && memcmp(&a, &b, sizeof a) == 0, "OPEN's -11 does not");
     call(&b, 99, 0, IOF_QUICK, 0, 0, 4, "");
     call(&b, CMD_CLEAR, 0, IOF_QUICK, 16, 0, 4, "");
-    call(&b, CALL_EVENT, 0, 0, 16, 0, 4, "");
+    call(&b, CALL_CYCLE_ENDED, 0, 0, 16, 0, 4, "");
+    call(&b, CALL_GAVE_UP, 0, 0, 16, 0, 4, "");
     call(&b, CMD_CLEAR, 20, 0, 0, 0, 4, "");
     check(replies.count == 0 && memcmp(&a, &b, sizeof a) == 0, "refusals do not settle");
     b = a;
@@ -473,6 +479,198 @@ static void test_sound(void)
     SOUND(a.request[4].precedence = 127);
 }
 
+/* ---- The two events: request #102 ---- */
+
+/* A write of so many cycles, period 200 and volume 10. */
+static void put_write(struct Arbiter *a, unsigned id, unsigned map, unsigned cycles)
+{
+    struct Frame f = {CMD_WRITE, 0, 0, 0, 0, 5, 6, {0, 0, 0, 0, 200, 10}};
+
+    f.id = (uint8_t)id;
+    f.map = (uint8_t)map;
+    f.combination[0] = (uint8_t)(cycles >> 8);
+    f.combination[1] = (uint8_t)(cycles & 255);
+    arbiter_call(a, &f, &replies);
+}
+
+/* A synced PERVOL with period 300 and volume 20. */
+static void remember_sound(struct Arbiter *a, unsigned map)
+{
+    struct Frame f = {ADCMD_PERVOL, 40, IOF_QUICK | ADIOF_SYNCCYCLE, 0, 0, 5, 6, {0, 0, 0, 1, 44, 20}};
+
+    f.map = (uint8_t)map;
+    arbiter_call(a, &f, &replies);
+}
+
+static void remember_finish(struct Arbiter *a, unsigned map)
+{
+    call(a, ADCMD_FINISH, 40, IOF_QUICK | ADIOF_SYNCCYCLE, map, 0, 5, "");
+}
+
+/* Key 5 has channels 0 and 1. On channel 0 id 20 plays so many cycles, id 21 stands behind it, and ids 30 and 31
+   wait for its cycle; on channel 1 id 22 plays, and id 29 waits, the oldest of the three. */
+static void playing(struct Arbiter *a, unsigned cycles)
+{
+    arbiter_fresh(a, 4);
+    enter(a, 5);
+    call(a, ADCMD_ALLOCATE, 0, IOF_QUICK, 0, 1, 5, "\3");
+    put_write(a, 20, 1, cycles);
+    put_write(a, 21, 1, 7);
+    put_write(a, 22, 2, 7);
+    call(a, ADCMD_WAITCYCLE, 29, 0, 2, 0, 5, "");
+    call(a, ADCMD_WAITCYCLE, 31, 0, 1, 0, 5, "");
+    call(a, ADCMD_WAITCYCLE, 30, 0, 1, 0, 5, "");
+}
+
+/* F3 on channel 0 answers the bit, whatever it does, and its waiters 0 with the bit, oldest first and before the
+   write. Who waits on another channel goes on waiting. */
+static void cycle_ends(struct Arbiter *a, const char *what)
+{
+    struct Answer got = call(a, CALL_CYCLE_ENDED, 99, 0, 5, 0, 1234, "");
+
+    check(same_answer(got, 0, 0, 1, 1234, 255), what);
+    check(same_reply(0, 31, ADCMD_WAITCYCLE, 0, 1, 5) && same_reply(1, 30, ADCMD_WAITCYCLE, 0, 1, 5)
+          && a->cycles.count == 1 && a->cycles.id[0] == 29, what);
+    check(arbiter_sound(a), what);
+}
+
+/* The front write of channel 0: its id, what is left of its count, period and volume. */
+static int front_is(const struct Arbiter *a, unsigned id, unsigned cycles, unsigned period, unsigned volume)
+{
+    const struct Request *q = &a->request[id];
+
+    return a->channel[0].writes.count > 0 && a->channel[0].writes.id[0] == id && q->cycles == cycles
+        && q->period == period && q->volume == volume;
+}
+
+static int nothing_remembered(const struct Arbiter *a)
+{
+    return !a->channel[0].finish && !a->channel[0].pervol && a->channel[0].period == 0 && a->channel[0].volume == 0;
+}
+
+static void test_cycle_ended(void)
+{
+    static const struct {
+        unsigned cycles, left;
+    } counts[] = {{0, 0}, {2, 1}, {3, 2}, {256, 255}, {257, 256}, {65535, 65534}};
+    struct Arbiter a;
+
+    for (size_t i = 0; i < sizeof counts / sizeof *counts; i++) {
+        playing(&a, counts[i].cycles);
+        cycle_ends(&a, "F3: the write goes on");
+        check(replies.count == 2 && front_is(&a, 20, counts[i].left, 200, 10) && a.channel[0].writes.count == 2,
+              "F3 counts down, and never from 0");
+
+        playing(&a, counts[i].cycles);
+        remember_sound(&a, 1);
+        check(front_is(&a, 20, counts[i].cycles, 200, 10), "a synced PERVOL waits for the cycle's end");
+        cycle_ends(&a, "F3: PERVOL is applied");
+        check(replies.count == 2 && front_is(&a, 20, counts[i].left, 300, 20) && nothing_remembered(&a),
+              "F3 applies PERVOL, which is then no longer remembered, and counts down");
+
+        playing(&a, counts[i].cycles);
+        remember_sound(&a, 1);
+        remember_finish(&a, 1);
+        cycle_ends(&a, "F3: FINISH is applied");
+        check(replies.count == 3 && same_reply(2, 20, CMD_WRITE, IOERR_ABORTED, 0, 5) && front_is(&a, 21, 7, 200, 10)
+              && nothing_remembered(&a), "F3: FINISH ends the write with -2, and the next is as it was sent");
+    }
+
+    playing(&a, 1);
+    cycle_ends(&a, "F3: the last cycle");
+    check(replies.count == 3 && same_reply(2, 20, CMD_WRITE, 0, 1, 5) && front_is(&a, 21, 7, 200, 10),
+          "F3: the last cycle ends the write with 0, and the next is not counted");
+    playing(&a, 1);
+    remember_sound(&a, 1);
+    cycle_ends(&a, "F3: the last cycle, with a PERVOL");
+    check(replies.count == 3 && same_reply(2, 20, CMD_WRITE, 0, 1, 5) && front_is(&a, 21, 7, 200, 10)
+          && nothing_remembered(&a), "F3: in the last cycle the numbers go with the write");
+    playing(&a, 1);
+    remember_finish(&a, 1);
+    cycle_ends(&a, "F3: the last cycle, with a FINISH");
+    check(replies.count == 3 && same_reply(2, 20, CMD_WRITE, IOERR_ABORTED, 0, 5) && front_is(&a, 21, 7, 200, 10)
+          && nothing_remembered(&a), "F3: FINISH also in the last cycle: -2");
+
+    /* A count of 3 is three cycles: the third ends it. */
+    playing(&a, 3);
+    call(&a, CALL_CYCLE_ENDED, 0, 0, 1, 0, 0, "");
+    check(same_answer(call(&a, CALL_CYCLE_ENDED, 0, 0, 1, 0, 0, ""), 0, 0, 1, 0, 255) && replies.count == 0
+          && front_is(&a, 20, 1, 200, 10), "two of three cycles: the bit, though nobody is replied");
+    check(same_answer(call(&a, CALL_CYCLE_ENDED, 0, 0, 1, 0, 0, ""), 0, 0, 1, 0, 255) && replies.count == 1
+          && same_reply(0, 20, CMD_WRITE, 0, 1, 5), "three of three");
+    /* A plain PERVOL beside a remembered one acts at once, and is replaced at the cycle's end. */
+    playing(&a, 0);
+    remember_sound(&a, 1);
+    call(&a, ADCMD_PERVOL, 40, IOF_QUICK, 1, 0, 5, "");
+    check(front_is(&a, 20, 0, 124, 64), "a plain PERVOL acts at once");
+    call(&a, CALL_CYCLE_ENDED, 0, 0, 1, 0, 0, "");
+    check(front_is(&a, 20, 0, 300, 20), "and the remembered one replaces it");
+}
+
+/* F4: the write -2, then its waiters -2, oldest first; the next write moves up. */
+static void test_gave_up(void)
+{
+    static const unsigned counts[3] = {0, 1, 9};
+    struct Arbiter a;
+
+    for (unsigned i = 0; i < 6; i++) {
+        playing(&a, counts[i % 3]);
+        if (i >= 3) {
+            remember_sound(&a, 1);
+            remember_finish(&a, 1);
+        }
+        check(same_answer(call(&a, CALL_GAVE_UP, 99, 0, 5, 0, 1234, ""), 0, 0, 1, 1234, 255), "F4 answers the bit");
+        check(replies.count == 3 && same_reply(0, 20, CMD_WRITE, IOERR_ABORTED, 0, 5)
+              && same_reply(1, 31, ADCMD_WAITCYCLE, IOERR_ABORTED, 0, 5)
+              && same_reply(2, 30, ADCMD_WAITCYCLE, IOERR_ABORTED, 0, 5), "F4: the write, then its waiters");
+        check(front_is(&a, 21, 7, 200, 10) && a.channel[0].writes.count == 1 && nothing_remembered(&a)
+              && a.cycles.count == 1 && a.cycles.id[0] == 29 && arbiter_sound(&a), "F4: the next write moves up");
+    }
+    check(same_answer(call(&a, CALL_GAVE_UP, 0, 0, 1, 0, 0, ""), 0, 0, 1, 0, 255) && replies.count == 1
+          && same_reply(0, 21, CMD_WRITE, IOERR_ABORTED, 0, 5) && a.channel[0].writes.count == 0, "F4 of a write alone");
+    check(same_answer(call(&a, CALL_GAVE_UP, 0, 0, 1, 0, 0, ""), 0, 0, 0, 0, 255) && replies.count == 0, "F4 of no write");
+}
+
+/* What both have in common, and that F5 to FF are commands. */
+static void test_events(void)
+{
+    struct Arbiter a, b;
+
+    for (unsigned op = CALL_CYCLE_ENDED; op <= CALL_GAVE_UP; op++) {
+        playing(&a, 2);
+        remember_finish(&a, 1);
+        call(&a, CMD_STOP, 41, IOF_QUICK, 1, 0, 5, "");
+        b = a;
+        check(same_answer(call(&b, op, 0, 0, 1, 0, 77, ""), 0, 0, 0, 77, 255) && replies.count == 0
+              && memcmp(&a, &b, sizeof a) == 0, "a stopped channel: map 0, and nothing moves");
+        check(same_answer(call(&b, op, 0, 0, 4, 0, 0, ""), 0, 0, 0, 0, 255) && replies.count == 0, "a free channel: map 0");
+        check(same_answer(call(&b, op, 0, 0, 0, 0, 5, ""), 0, 0, 0, 5, 255) && replies.count == 0, "map 0: map 0");
+        check(same_answer(call(&b, op, 0, 0, 16, 0, 5, ""), 0, IOERR_BADADDRESS, 0, 5, 255) && replies.count == 0
+              && same_answer(call(&b, op, 0, 0, 255, 0, 5, ""), 0, IOERR_BADADDRESS, 0, 5, 255), "above 15: -5");
+        check(memcmp(&a, &b, sizeof a) == 0, "none of these moves anything");
+        check(same_answer(call(&b, op, 200, 0, 3, 0, 9, ""), 0, 0, 0, 9, 255) && memcmp(&a, &b, sizeof a) == 0,
+              "the lowest bit, though the next has a write");
+        check(same_answer(call(&b, op, 200, 255, 2, 0, 9, "\1\2\20"), 0, 0, 2, 9, 255),
+              "no id, no flags, no list and no key is read");
+        playing(&b, 1);
+        b.open.count = 0;
+        b.open.key[0] = 0;
+        check(same_answer(call(&b, op, 0, 0, 1, 0, 9, ""), 0, 0, 1, 9, 255) && replies.count == 3
+              && b.channel[0].writes.count == 1, "no open device is needed");
+    }
+    playing(&a, 2);
+    for (unsigned op = CALL_GAVE_UP + 1; op < 256; op++)
+        check(same_answer(call(&a, op, 0, 0, 1, 0, 5, ""), 0, IOERR_NOCMD, 0, 5, 255) && same_reply(0, 0, op, IOERR_NOCMD, 0, 5),
+              "F5 to FF are commands");
+    /* A write of n 0 has one cycle: as before #101, its first F3 ends it. */
+    arbiter_fresh(&a, 4);
+    enter(&a, 5);
+    call(&a, ADCMD_ALLOCATE, 0, IOF_QUICK, 0, 1, 5, "\1");
+    call(&a, CMD_WRITE, 1, 0, 1, 0, 5, "");
+    check(same_answer(call(&a, CALL_CYCLE_ENDED, 0, 0, 1, 0, 0, ""), 0, 0, 1, 0, 255)
+          && same_reply(0, 1, CMD_WRITE, 0, 1, 5) && replies.count == 1, "n 0: one cycle");
+}
+
 /* ---- Stereo: request #108 ---- */
 
 /* The maker writes just this list, and the checker accepts it. */
@@ -538,7 +736,8 @@ static void test_eight(void)
     check(same_answer(call(&a, ADCMD_ALLOCATE, 0, IOF_QUICK, 0, 1, 5, "\360"), 0, 0, 0xF0, 5, 255), "map F0 on eight");
     check(same_answer(call(&a, CMD_WRITE, 1, 0, 0xC0, 0, 5, ""), 1, 0, 0, 5, 255) && a.channel[6].writes.count == 1,
           "the lowest of eight bits");
-    check(same_answer(call(&a, CALL_EVENT, 0, 0, 0x80, 0, 0, ""), 0, 0, 0, 0, 255), "an event on another channel");
+    check(same_answer(call(&a, CALL_CYCLE_ENDED, 0, 0, 0x80, 0, 0, ""), 0, 0, 0, 0, 255), "F3 on another channel");
+    check(same_answer(call(&a, CALL_GAVE_UP, 0, 0, 0x80, 0, 0, ""), 0, 0, 0, 0, 255), "F4 on another channel");
     check(same_answer(call(&a, ADCMD_LOCK, 2, 0, 0xF0, 0, 5, ""), 1, 0, 0, 5, 255), "a lock over the upper four");
     check(arbiter_sound(&a), "eight channels are sound");
     b = a;
@@ -575,6 +774,9 @@ int main(void)
     test_refusals();
     test_unsettled();
     test_sound();
+    test_cycle_ended();
+    test_gave_up();
+    test_events();
     test_stereo();
     printf("test.c: %d passed, %d failed\n", passed, failed);
     return failed != 0;

@@ -32,6 +32,21 @@ for case in cases/*.txt; do
     check "$case"
 done
 
+# Old logs: without F4 and the commands 11, 12 and 14, and with every WRITE of n 0, the output is that of before request #101.
+for out in old/*.out; do
+    name=${out%.out}
+    board=${name#*-}
+    show=
+    case $name in *-shown) show=--show ;; esac
+    if awk -f old/premise.awk "$name.log" | cmp -s - "$name.log" &&
+        ./arbiter2 --channels ${board%%-*} $show <"$name.log" | cmp -s - "$out"; then
+        passed=$((passed + 1))
+    else
+        failed=$((failed + 1))
+        echo "FAILED: $name.log is no old log, or no longer gives its output"
+    fi
+done
+
 # Malformed lines: each is answered 7, and the next line is read as usual.
 bad=A007000000FF
 zeros=$(awk 'BEGIN { for (i = 0; i < 510; i++) printf "0" }')

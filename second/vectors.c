@@ -448,7 +448,37 @@ static int cuts_two(void)                   /* oldest first, and not by channel 
     return falls > 0 && told(ADCMD_WAITCYCLE, IOERR_ABORTED) > 1;
 }
 static int meets_waiters(void) { return told(ADCMD_WAITCYCLE, DONE) > 0; }
-static int drops_memory(void) { return answer.map != 0 && remembered(&after) < remembered(&before); }
+/* The channel whose write an event has met, as it stood before; NULL where there is none. */
+static const struct Channel *met(void)
+{
+    for (unsigned c = 0; c < CHANNELS; c++)
+        if (answer.error == DONE && answer.map == 1u << c)
+            return &before.channel[c];
+    return NULL;
+}
+static int met_cycles(unsigned least, unsigned most)
+{
+    return met() != NULL && before.request[met()->writes.id[0]].cycles >= least
+        && before.request[met()->writes.id[0]].cycles <= most;
+}
+static int goes_on(void) { return met() != NULL && after.request[met()->writes.id[0]].command == CMD_WRITE; }
+static int counted(void) { return met_cycles(2, 65535) && goes_on() && !met()->pervol; }
+static int endless(void) { return met_cycles(0, 0) && goes_on() && !met()->pervol; }
+static int tuned(void) { return goes_on() && met()->pervol; }
+static int last_cycle(void) { return met_cycles(1, 1) && !met()->finish && !met()->pervol; }
+static int last_tuned(void) { return met_cycles(1, 1) && !met()->finish && met()->pervol; }
+static int finished(void) { return met() != NULL && met()->finish && !met_cycles(1, 1); }
+static int last_finished(void) { return met_cycles(1, 1) && met()->finish; }
+static int given_up(void) { return met() != NULL && cuts_waiters(); }
+static int given_up_before(void) { return met() != NULL && met()->writes.count > 1; }
+static int event_stopped(void)
+{
+    for (unsigned c = 0; c < CHANNELS; c++)
+        if ((call.map >> c & 1) != 0)
+            return answer.error == DONE && before.channel[c].stopped && before.channel[c].writes.count > 0;
+    return 0;
+}
+static int drops_memory(void) { return met() != NULL && !goes_on() && remembered(&after) < remembered(&before); }
 static int remembers(void) { return remembered(&after) > remembered(&before); }
 static int tunes_front(void)
 {
@@ -542,10 +572,10 @@ static const struct Wish wishes[] = {
     {"many-granted", 9,
      {ADCMD_FREE, CALL_CLOSE, ADCMD_SETPREC, CMD_FLUSH, CMD_RESET, CMD_STOP, CMD_START,
       CALL_OPEN, ADCMD_ALLOCATE}, two_grants, "one walk grants two or more"},
-    {"events-settle", 4, {CALL_EVENT}, event_ends,
-     "the event ends a write, and the walk follows"},
-    {"empty-events-settle", 4, {CALL_EVENT}, event_idle,
-     "the event finds nothing, and the walk follows"},
+    {"events-settle", 4, {CALL_CYCLE_ENDED, CALL_GAVE_UP}, event_ends,
+     "an event meets a write, and the walk follows"},
+    {"empty-events-settle", 4, {CALL_CYCLE_ENDED, CALL_GAVE_UP}, event_idle,
+     "an event finds nothing, and the walk follows"},
     {"opens-settle", 4, {CALL_OPEN, CALL_CLOSE}, done_settles,
      "OPEN or CLOSE is done, and the walk follows"},
     {"new-keys", 4, {CALL_OPEN, ADCMD_ALLOCATE}, two_new_keys,
@@ -560,10 +590,20 @@ static const struct Wish wishes[] = {
      "refused with 3: nothing is settled"},
     {"high-ids", 2, {CALL_ABORT, ADCMD_LOCK}, id_high, "refused with 4: nothing is settled"},
     {"cuts-tell", 8, {CMD_RESET, CMD_FLUSH, ADCMD_FREE, ADCMD_FINISH, CALL_CLOSE, CALL_OPEN, ADCMD_ALLOCATE, CALL_ABORT}, cuts_waiters,
-     "a front write ends otherwise than by the event: who waits for its cycle is replied -2"},
+     "a front write ends otherwise than at its cycle's end: who waits for its cycle is replied -2"},
     {"cuts-by-age", 3, {CMD_FLUSH, ADCMD_FREE, ADCMD_FINISH}, cuts_two, "who waits is told by age, and not by channel"},
-    {"events-tell", 3, {CALL_EVENT}, meets_waiters, "the event answers who waits, then the write"},
-    {"events-forget", 2, {CALL_EVENT}, drops_memory, "what is remembered is dropped with the write"},
+    {"cycles-tell", 3, {CALL_CYCLE_ENDED}, meets_waiters, "a cycle's end answers who waits, then goes to the write"},
+    {"cycles-counted", 2, {CALL_CYCLE_ENDED}, counted, "a cycle's end counts down"},
+    {"cycles-uncounted", 1, {CALL_CYCLE_ENDED}, endless, "an endless write is not counted down"},
+    {"cycles-tuned", 2, {CALL_CYCLE_ENDED}, tuned, "a remembered PERVOL is applied, and the write goes on"},
+    {"last-cycles", 1, {CALL_CYCLE_ENDED}, last_cycle, "the last cycle ends the write with 0"},
+    {"last-cycles-tuned", 1, {CALL_CYCLE_ENDED}, last_tuned, "the same with a PERVOL remembered"},
+    {"cycles-finished", 2, {CALL_CYCLE_ENDED}, finished, "a remembered FINISH ends the write with -2"},
+    {"last-cycles-finished", 1, {CALL_CYCLE_ENDED}, last_finished, "the same in the last cycle"},
+    {"given-up", 2, {CALL_GAVE_UP}, given_up, "the driver gave up: the write -2, then who waits for its cycle"},
+    {"given-up-before-others", 1, {CALL_GAVE_UP}, given_up_before, "the next write moves up"},
+    {"events-stopped", 2, {CALL_CYCLE_ENDED, CALL_GAVE_UP}, event_stopped, "an event on a stopped channel with a write"},
+    {"events-forget", 2, {CALL_CYCLE_ENDED, CALL_GAVE_UP}, drops_memory, "what is remembered goes with the write"},
     {"fronts-aborted", 2, {CALL_ABORT}, front_aborted, "ABORT of the front write: then who waits for it"},
     {"waiters-aborted", 2, {CALL_ABORT}, waiter_aborted, "ABORT of a WAITCYCLE"},
     {"later", 4, {ADCMD_FINISH, ADCMD_PERVOL}, remembers, "a synced FINISH or PERVOL is remembered"},
@@ -573,15 +613,15 @@ static const struct Wish wishes[] = {
     {"walk-cuts-its-own", 2, {ADCMD_WAITCYCLE}, own_cut,
      "WAITCYCLE is answered as outstanding, and ended by a steal of its own call"},
     {"bad-numbers", 4, {CMD_WRITE, ADCMD_PERVOL}, bad_length, "refused with -4 for its numbers: nothing is settled"},
-    {"no-commands", 2, {15, 0xF4}, no_command, "refused with -3: nothing is settled"},
+    {"no-commands", 2, {15, 0xF5}, no_command, "refused with -3: nothing is settled"},
     {"bad-lengths", 2, {ADCMD_ALLOCATE, CALL_OPEN}, bad_length,
      "refused with -4: nothing is settled"},
-    {"bad-addresses", 4, {ADCMD_ALLOCATE, CALL_OPEN, CMD_STOP, CALL_EVENT}, bad_address,
+    {"bad-addresses", 5, {ADCMD_ALLOCATE, CALL_OPEN, CMD_STOP, CALL_CYCLE_ENDED, CALL_GAVE_UP}, bad_address,
      "refused with -5: nothing is settled"},
     {"no-more-opens", 2, {CALL_OPEN}, open_end, "OPEN at 32 entries: -1"},
     {"short-lists", 2, {CMD_READ, CALL_OPEN}, short_list, "a reply list of 63 records: 5"},
     {"unsound-states", SPOILS,
-     {CMD_READ, CALL_OPEN, CALL_ABORT, ADCMD_ALLOCATE, CALL_CLOSE, CALL_EVENT}, unsound,
+     {CMD_READ, CALL_OPEN, CALL_ABORT, ADCMD_ALLOCATE, CALL_CLOSE, CALL_CYCLE_ENDED, CALL_GAVE_UP}, unsound,
      "a state that is not sound: 1"}
 };
 
@@ -716,10 +756,10 @@ static void put_state(const struct Arbiter *a)
 
 static void put_call(void)
 {
-    static const char *const named[4] = {"OPEN", "CLOSE", "ABORT", "EVENT"};
+    static const char *const named[5] = {"OPEN", "CLOSE", "ABORT", "(EVENT CYCLE·ENDED)", "(EVENT GAVE·UP)"};
 
     printf("(asks ");
-    if (call.operation >= CALL_OPEN && call.operation <= CALL_EVENT)
+    if (call.operation >= CALL_OPEN && call.operation <= CALL_GAVE_UP)
         printf("%s", named[call.operation - CALL_OPEN]);
     else
         printf("(COMMAND %u)", call.operation);
@@ -751,11 +791,11 @@ static void put_remark(void)
         "", "RESET", "READ", "WRITE", "UPDATE", "CLEAR", "STOP", "START", "FLUSH", "FREE",
         "SETPREC", "FINISH", "PERVOL", "LOCK", "WAITCYCLE"
     };
-    static const char *const other[4] = {"OPEN", "CLOSE", "ABORT", "event"};
+    static const char *const other[5] = {"OPEN", "CLOSE", "ABORT", "a cycle ended", "the driver gave up"};
     unsigned n = call.operation;
 
     printf("    -- ");
-    if (n >= CALL_OPEN && n <= CALL_EVENT)
+    if (n >= CALL_OPEN && n <= CALL_GAVE_UP)
         printf("%s", other[n - CALL_OPEN]);
     else if (n >= CMD_RESET && n <= ADCMD_WAITCYCLE)
         printf("%s", command[n]);

@@ -20,7 +20,7 @@ cat <<'HEAD'
 use mathlib.Core.Path.{_≡_, refl}
 use mathlib.Core.Bool.{true, false}
 use mathlib.Core.List.{List, [], _∷_}
-use Rattle.machine.specs.State.{OPEN, CLOSE, ABORT, EVENT, COMMAND, free}
+use Rattle.machine.specs.State.{OPEN, CLOSE, ABORT, EVENT, CYCLE·ENDED, GAVE·UP, COMMAND, free}
 use Rattle.machine.specs.Text.{bytes, page}
 use Rattle.machine.specs.Log.{log}
 use Rattle.machine.specs.Drawn.{Talk, given, written}
@@ -30,7 +30,7 @@ use Rattle.machine.specs.Machine.{machine}
 abbrev pub Answers : Talk → Type 0
 Answers t = log (page (given t)) ≡ page (written t)
 
--- ---- Logs: second/generate, one of each style and two of the mix
+-- ---- Logs: second/generate, one of each short style, and two of the mix and of the cycles
 HEAD
 
 # log NAME SEED STYLE
@@ -51,8 +51,9 @@ log of-lists 11 lists
 log of-bytes 12 bytes
 log of-ties 14 ties
 log of-opens 15 opens
-log of-cuts 16 cuts
-log of-cuts-again 17 cuts
+log of-cuts 39 cuts
+log of-cycles 48 cycles
+log of-cycles-again 1 cycles
 
 printf '\n%s\n' '-- ---- Calls on a board of four channels'
 ./vectors calls 1 || exit 1

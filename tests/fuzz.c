@@ -27,11 +27,12 @@ struct Call {
 /* ---- What was tried */
 
 enum Count {
-    CALLS, SOUND, ACCEPTED, REFUSED, DAMAGED_SOUND, UNSOUND, UNDECODED, UNANSWERED, REPLIED, FRESH, COUNTS
+    CALLS, SOUND, ACCEPTED, REFUSED, DAMAGED_SOUND, UNSOUND, UNDECODED, UNANSWERED, REPLIED, CYCLES, GIVEN_UP, FRESH, COUNTS
 };
 static const char *const count_name[COUNTS] = {
     "calls", "sound", "sound: accepted", "sound: refused", "sound: state or table was damaged", "not sound",
-    "no state: a length or a mark", "no room for an answer", "replies", "fresh devices"
+    "no state: a length or a mark", "no room for an answer", "replies", "cycles ended", "writes given up",
+    "fresh devices"
 };
 static unsigned long count[COUNTS];
 static unsigned long answered[2][256], replied[256];        /* by error; answers: done, outstanding */
@@ -143,6 +144,8 @@ static void tell_apart(const struct Call *before, const struct Call *after, size
         count[DAMAGED_SOUND] += (unsigned)damaged;
         count[refusal(QAMHUDEER_ERROR(error)) ? REFUSED : ACCEPTED]++;
         count[REPLIED] += (unsigned long)result;
+        count[CYCLES] += before->op == QAMHUDEER_CYCLE_ENDED && error == 0 && after->piece[ANSWER].byte[QAMHUDEER_ANSWER_MAP] != 0;
+        count[GIVEN_UP] += before->op == QAMHUDEER_GAVE_UP && error == 0 && after->piece[ANSWER].byte[QAMHUDEER_ANSWER_MAP] != 0;
         for (size_t i = 0; i < result; i++)
             replied[after->piece[REPLIES].byte[i * QAMHUDEER_REPLY_SIZE + QAMHUDEER_REPLY_ERROR]]++;
     }
@@ -223,12 +226,12 @@ static void damage_length(struct Call *c)
 
 static void damage_numbers(struct Call *c)
 {
-    static const uint8_t ops[16] = {0xF0, 0xF1, 0xF2, 0xF3, 1, 2, 3, 6, 8, 9, 10, 13, 32, 32, 11, 0xF4};
+    static const uint8_t ops[20] = {0xF0, 0xF1, 0xF2, 0xF3, 0xF3, 0xF4, 0xF4, 0xF5, 1, 2, 3, 6, 8, 9, 10, 11, 12, 13, 14, 32};
     unsigned value = below(256), odds = below(10);
 
     switch (odds) {
     case 0: c->op = (uint8_t)value; break;
-    case 1: case 2: case 3: c->op = ops[value % 16]; break;
+    case 1: case 2: case 3: c->op = ops[value % 20]; break;
     case 4: c->id = (uint8_t)value; break;
     case 5: c->flags = (uint8_t)value; break;
     case 6: c->map = (uint8_t)(percent(70) ? value % 16 : value); break;

@@ -16,7 +16,7 @@
 . "$(dirname "$0")/begin.sh"
 . tests/trial.sh
 
-styles='mix locks nowait queues full aborts precedences refusals malformed lists bytes ties opens'
+styles='mix locks nowait queues full aborts precedences refusals malformed lists bytes ties opens cuts cycles'
 styles="$styles many-locks many-steals many-entries many-waiting"
 lines=150
 tries=8
@@ -68,7 +68,7 @@ reaches() {
             want = "answer 0,answer 1,answer 2,answer 3,answer 4,answer 5,answer -1,answer -3,answer -4,answer -5,answer -10,answer -11"
             want = want ",outstanding 0,reply 0,reply -2,reply -3,reply -4,reply -5,reply -10,reply -11,reply -12"
             want = want ",sound: accepted,sound: refused,sound: state or table was damaged,not sound,no state: a length or a mark"
-            want = want ",no room for an answer,fresh devices"
+            want = want ",no room for an answer,cycles ended,writes given up,fresh devices"
             count = split(want, wanted, ",")
             for (i = 1; i <= count; i++)
                 if (!sum[wanted[i]]) {
@@ -120,6 +120,14 @@ play_wrong() {
     wrong "any bytes behind a queue are sound" $arbiter 'return all_zero(&list->id[list->count], REQUESTS - list->count);' 'return 1;'
     wrong "an id in two places is sound" $arbiter 'id >= REQUESTS || met[id] ||' 'id >= REQUESTS ||'
     wrong "any order of the waiting is sound" $arbiter 'precedence < q->precedence' 'precedence < -128'
+    wrong "an endless write is counted down" $arbiter 'else if (front->cycles > 1)' 'else'
+    wrong "the last cycle comes before FINISH" $arbiter 'if (channel->finish) {' 'if (channel->finish && front->cycles != 1) {'
+    wrong "a remembered PERVOL is dropped" $arbiter 'front->period = channel->period;' ';'
+    wrong "a remembered PERVOL stays" $arbiter 'forget(channel);' ';'
+    wrong "a cycle ends while the channel is stopped" $arbiter 'if (in_progress(&a->channel[c])) {' 'if (a->channel[c].writes.count > 0) {'
+    wrong "the bit is answered only where something was replied" $arbiter 'return answer(DONE, met, f->key);' 'return answer(DONE, r->count > 0 ? met : 0, f->key);'
+    wrong "F4 answers waiters 0" $arbiter 'end_waiters(a, 1u << c, IOERR_ABORTED, r);' 'end_waiters(a, 1u << c, DONE, r);'
+    wrong "F4 needs an open device" $arbiter 'return event(a, f, r);' 'return f->operation == CALL_GAVE_UP && a->open.count == 0 ? refuse(f, REFUSED_CLOSED) : event(a, f, r);'
     wrong "257 combinations are one" tests/fuzz.c '(n < 255 ? n : 255)' 'n'
     wrong "a table of 65 entries is a table" tests/states.c 'table->length != QAMHUDEER_TABLE_SIZE' 'table->length < QAMHUDEER_TABLE_SIZE'
     wrong "the sixteenth combination is lost" tests/states.c 'memcpy(b + 7, q->combination, COMBINATIONS);' 'memcpy(b + 7, q->combination, COMBINATIONS - 1);'

@@ -83,6 +83,31 @@ static void boards(void)
     same("five channels", QAMHUDEER_UNSOUND, answer[QAMHUDEER_ANSWER_ERROR]);
 }
 
+/* What the comments say of the two events: a write of two cycles, with another behind it and a WAITCYCLE. */
+static void events(void)
+{
+    static uint8_t state[QAMHUDEER_STATE_SIZE], table[QAMHUDEER_TABLE_SIZE], replies[QAMHUDEER_REPLIES_SIZE], answer[QAMHUDEER_ANSWER_SIZE];
+    static const uint8_t combos[1] = {1}, twice[QAMHUDEER_NUMBERS_SIZE] = {0, 2, 0, 1, 44, 50};
+
+    same("fresh", 0, qamhudeer_fresh(4, state, sizeof state, table, sizeof table));
+    CALL(QAMHUDEER_OPEN, 0, 0, 0, 258, combos, 1);
+    CALL(CMD_WRITE, 3, 1, 0, 258, twice, sizeof twice);
+    CALL(CMD_WRITE, 4, 1, 0, 258, twice, sizeof twice);
+    same("the first of two cycles", 0, CALL(QAMHUDEER_CYCLE_ENDED, 0, 1, 0, 0, combos, 0));
+    same("its bit", 1, answer[QAMHUDEER_ANSWER_MAP]);
+    same("the last", 1, CALL(QAMHUDEER_CYCLE_ENDED, 0, 1, 0, 0, combos, 0));
+    same("the write", 3, replies[QAMHUDEER_REPLY_ID]);
+    same("played", 0, replies[QAMHUDEER_REPLY_ERROR]);
+    CALL(ADCMD_WAITCYCLE, 7, 1, 0, 258, combos, 0);
+    same("given up, with its waiter", 2, CALL(QAMHUDEER_GAVE_UP, 0, 1, 0, 0, combos, 0));
+    same("its bit", 1, answer[QAMHUDEER_ANSWER_MAP]);
+    same("the next write", 4, replies[QAMHUDEER_REPLY_ID]);
+    same("given up", 256 + IOERR_ABORTED, replies[QAMHUDEER_REPLY_ERROR]);
+    same("then who waits", 7, replies[QAMHUDEER_REPLY_SIZE + QAMHUDEER_REPLY_ID]);
+    same("nothing to give up", 0, CALL(QAMHUDEER_GAVE_UP, 0, 1, 0, 0, combos, 0));
+    same("no bit", 0, answer[QAMHUDEER_ANSWER_MAP]);
+}
+
 /* What is refused changes nothing but the answer. */
 static void refusals(void)
 {
@@ -172,6 +197,7 @@ int main(void)
     same("a reply list of 64", QAMHUDEER_REPLIES_SIZE, 64 * QAMHUDEER_REPLY_SIZE);
     places();
     boards();
+    events();
     refusals();
     port();
     return wrong;

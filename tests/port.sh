@@ -13,7 +13,7 @@
 . "$(dirname "$0")/begin.sh"
 . tests/trial.sh
 
-styles='mix locks queues full malformed lists bytes many-waiting'
+styles='mix locks queues full malformed lists bytes cycles many-waiting'
 kinds='long join cut end'
 lines=60
 tries=3

@@ -323,6 +323,8 @@ static void unsettle(uint8_t *state, uint8_t *table, unsigned board)
         entry[13] ^= 1;                                     /* FINISH remembered, or not */
     else if (entry[0] == CMD_WRITE && value < 160)
         set_pervol(entry + 14, value);
+    else if (entry[0] == CMD_WRITE && value < 220)
+        put_key(entry + 7, (uint16_t)below(3));             /* endless, or nearly at its end */
     else if (entry[0] == CMD_WRITE)
         entry[7 + value % 6] = (uint8_t)below(256);         /* one of its numbers */
     else if (entry[0] == ADCMD_ALLOCATE && value < 128)

@@ -9,7 +9,7 @@ use lib.Dec.{T, T-not, eqb}
 use lib.ListN.{length, getD, replicate, replicate-append-replicate}
 use borrow.Author.Tests.{eqb-true, eqb-false}
 use Rattle.machine.specs.Lists.{if_then_else_, among}
-use Rattle.machine.specs.State.{State as StateM, Op as OpM, OPEN, CLOSE, ABORT, EVENT, COMMAND, frees, freshOn}
+use Rattle.machine.specs.State.{State as StateM, Op as OpM, OPEN, CLOSE, ABORT, EVENT, CYCLE·ENDED, GAVE·UP, COMMAND, frees, freshOn}
 use Rattle.machine.specs.Log.{opOf}
 use Rattle.machine.specs.Call.{call}
 use Rattle.machine_laws.proofs.Sound.{parts}
@@ -198,16 +198,17 @@ fresh-after w {tb = tb} {st′ = st′} {tb′ = tb′} c k h g =
 
 -- ---- the operation that the machine is asked for is that of the number
 
-abbrev pick : Bool → Bool → Bool → Bool → ℕ → OpM
-pick p q r s b = if p then OPEN else if q then CLOSE else if r then ABORT else if s then EVENT else COMMAND b
+abbrev pick : Bool → Bool → Bool → Bool → Bool → ℕ → OpM
+pick p q r s u b = if p then OPEN else if q then CLOSE else if r then ABORT else if s then EVENT CYCLE·ENDED else if u then EVENT GAVE·UP else COMMAND b
 
-pick-asked : (p q r s : Bool) (b : ℕ) → opIn (opFor (pick p q r s b)) b ≡ pick p q r s b
-pick-asked true q r s b = refl
-pick-asked false true r s b = refl
-pick-asked false false true s b = refl
-pick-asked false false false true b = refl
-pick-asked false false false false b = refl
+pick-asked : (p q r s u : Bool) (b : ℕ) → opIn (opFor (pick p q r s u b)) b ≡ pick p q r s u b
+pick-asked true q r s u b = refl
+pick-asked false true r s u b = refl
+pick-asked false false true s u b = refl
+pick-asked false false false true u b = refl
+pick-asked false false false false true b = refl
+pick-asked false false false false false b = refl
 
 pub op-asked : (b : ℕ) → opIn (opFor (opOf b)) b ≡ opOf b
 unfolding opOf
-op-asked b = pick-asked (eqb b 0xF0) (eqb b 0xF1) (eqb b 0xF2) (eqb b 0xF3) b
+op-asked b = pick-asked (eqb b 0xF0) (eqb b 0xF1) (eqb b 0xF2) (eqb b 0xF3) (eqb b 0xF4) b

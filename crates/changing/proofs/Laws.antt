@@ -1,16 +1,16 @@
 -- What an accepted command gives the function that performs it. Assumes nothing.
 use Prim.Native.Nat.{ℕ, _+_, _≤_, _<_}
 use mathlib.Core.Path.{_≡_, ap, sym, _∙_}
-use mathlib.Core.Bool.{Bool, true, false, not}
+use mathlib.Core.Bool.{true, false, not}
 use mathlib.Core.Logic.{_⊎_, inl, inr}
-use mathlib.Core.List.{List, [], _∷_, _++_, map}
+use mathlib.Core.List.{List, [], _∷_, map}
 use native.Mathlib.Omega.{arith}
 use lib.Dec.{T, ltb, lt→ltb}
 use lib.ListN.{length, length-append, length-map}
-use Rattle.machine.specs.Lists.{if_then_else_, all, keep, among, distinct}
-use Rattle.machine.specs.State.{Write, Channel as ChannelM, Lock, State as StateM, Call}
-use Rattle.machine.specs.Maps.{odd, half, minus}
-use Rattle.machine.specs.Granting.{aborted, abortedIn, onChannels, cutReplies, dropped}
+use Rattle.machine.specs.Lists.{all, among, distinct}
+use Rattle.machine.specs.State.{Lock, State as StateM, Call}
+use Rattle.machine.specs.Maps.{minus}
+use Rattle.machine.specs.Granting.{dropped}
 use Rattle.machine.specs.Commands.{reset, same, setStop, flushed, setPrec, cleared, isEmpty, freeingReplies, eachChange, doFree, doRead, doWrite, doWaitcycle, doLock}
 use Rattle.machine.specs.Sound.{writesOf, ids}
 use Rattle.machine.specs.Kinds.{kind}
@@ -22,35 +22,11 @@ use Rattle.store.specs.declared.State.{State}
 use Rattle.store.specs.Store.{stateIn}
 use Rattle.store.specs.Work.{Ready}
 use Rattle.store.proofs.Store.{held-parts}
+use Rattle.granting.proofs.Few.{dropped-few}
 use Rattle.answers.specs.declared.Request.{Request}
 use Rattle.changing.specs.Changing.{Accepted, Among}
 
 -- ---- room: with its own id idle, at most 63 others can be replied
-
-pub aborted-few : (m : ℕ) (cs : List ChannelM) → length (abortedIn m cs) ≤ length (writesOf cs)
-unfolding abortedIn writesOf aborted
-aborted-few m [] = omega arith
-aborted-few m (c ∷ cs) = go (odd m) (aborted-few (half m) cs)
-  where
-    go : (b : Bool) → length (abortedIn (half m) cs) ≤ length (writesOf cs)
-        → length ((if b then map (λ (w : Write). record { id = w .id; command = 3; error = 254; map = 0; key = c .key }) (c .writes) else []) ++ abortedIn (half m) cs)
-        ≤ length (map (λ (w : Write). w .id) (c .writes) ++ writesOf cs)
-    go true ih = simp (length-append, length-map) (omega arith)
-    go false ih = rw (length-append (map (λ (w : Write). w .id) (c .writes)) (writesOf cs)) (omega arith)
-
--- those who wait for a cycle are told once each
-pub cut-few : (m : ℕ) (s : StateM) → length (cutReplies m s) ≤ length (s .waiters)
-unfolding cutReplies
-cut-few m s =
-    let k = keep-length (onChannels (length (s .channels)) m) (s .waiters) in
-    simp length-map k
-
-pub dropped-few : (m : ℕ) (s : StateM) → length (dropped m s) ≤ length (writesOf (s .channels)) + length (s .waiters)
-unfolding dropped
-dropped-few m s =
-    let a = aborted-few m (s .channels) in
-    let k = cut-few m s in
-    simp length-append (omega arith)
 
 lock-without : ℕ → ℕ → Lock → Lock
 lock-without n m l = record { id = l .id; key = l .key; map = minus n (l .map) m }

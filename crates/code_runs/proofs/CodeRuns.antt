@@ -63,7 +63,7 @@ unfolding counted cyclesIn
 bytes-counted OPEN c h = tt
 bytes-counted CLOSE c h = tt
 bytes-counted ABORT c h = tt
-bytes-counted EVENT c h = tt
+bytes-counted (EVENT v) c h = tt
 bytes-counted (COMMAND n) c h = or-right (not (eqb n CMD·WRITE)) (leb (cyclesIn (c .combos)) CYCLES) (le→leb (cyclesIn (c .combos)) CYCLES (go (c .combos) h))
   where
     go : (ms : List ℕ) → ((i : ℕ) → getD ms i 0 < 256) → cyclesIn ms ≤ CYCLES

@@ -4,7 +4,7 @@ use Prim.Native.Nat.{ℕ}
 use mathlib.Core.Path.{_≡_, refl}
 use mathlib.Core.Bool.{false}
 use mathlib.Core.List.{List, [], _∷_}
-use Rattle.machine.specs.State.{OPEN, CLOSE, EVENT, COMMAND, State as StateM, free}
+use Rattle.machine.specs.State.{OPEN, CLOSE, EVENT, CYCLE·ENDED, COMMAND, State as StateM, free}
 use Rattle.machine.specs.Machine.{machine}
 use Rattle.machine.specs.Walks.{plays}
 use Rattle.memory.specs.Splice.{splice}
@@ -40,7 +40,7 @@ abbrev quiet : List Step
 quiet =
     our (ask (COMMAND 3) 9 128 128 1 numbers)
     ∷ our (ask (COMMAND 14) 11 128 128 1 [])
-    ∷ our (ask EVENT 0 64 128 0 [])
+    ∷ our (ask (EVENT CYCLE·ENDED) 0 64 128 0 [])
     ∷ our (ask (COMMAND 6) 5 192 0 1 [])
     ∷ []
 
@@ -51,7 +51,7 @@ busy =
     ∷ our (ask (COMMAND 14) 11 128 128 1 [])
     ∷ their (ask (COMMAND 32) 31 0 138 0 (32 ∷ []))
     ∷ their (ask (COMMAND 32) 32 0 138 0 (64 ∷ []))
-    ∷ our (ask EVENT 0 64 128 0 [])
+    ∷ our (ask (EVENT CYCLE·ENDED) 0 64 128 0 [])
     ∷ their (ask CLOSE 0 0 0 8 [])
     ∷ our (ask (COMMAND 6) 5 192 0 1 [])
     ∷ []

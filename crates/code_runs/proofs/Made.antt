@@ -10,7 +10,7 @@ use native.Mathlib.Nat.{zero-add}
 use lib.Dec.{T, leb, leb→le}
 use lib.ListN.{length, replicate, length-replicate}
 use Rattle.machine.specs.Lists.{all}
-use Rattle.machine.specs.State.{Call, Op as OpM, OPEN, CLOSE, ABORT, EVENT, COMMAND, Outcome as OutcomeM, State as StateM}
+use Rattle.machine.specs.State.{Call, Op as OpM, OPEN, CLOSE, ABORT, EVENT, CYCLE·ENDED, GAVE·UP, COMMAND, Outcome as OutcomeM, State as StateM}
 use Rattle.machine.specs.Call.{call, inRange}
 use Rattle.machine.specs.Sound.{sound}
 use Rattle.machine.proofs.Tests.{and-left, and-right}
@@ -24,7 +24,7 @@ use Rattle.board.proofs.Laws.{held-of, stateIn-of}
 use Rattle.board.specs.declared.Outcome.{Outcome}
 use Rattle.answers.specs.Answers.{answerOf}
 use Rattle.refusals.specs.declared.Op.{Op}
-use Rattle.refusals.specs.declared.Op.the-variants.{Open, Close, Abort, Event, Command}
+use Rattle.refusals.specs.declared.Op.the-variants.{Open, Close, Abort, CycleEnded, GaveUp, Command}
 use Rattle.refusals.specs.Refusals.{opIn}
 use Rattle.two_runs.specs.TwoRuns.{Party, Step, our, their, Keeps as KeepsM, Run as RunM, calls, counted, inBytes, lends, own, said}
 use Rattle.code_runs.specs.CodeRuns.{Turn, asked, Took, Move, ours, others, Chained, Keeps, Full, Run, ownCalls}
@@ -36,21 +36,23 @@ abbrev pub opOut : OpM → Op
 opOut OPEN = Open
 opOut CLOSE = Close
 opOut ABORT = Abort
-opOut EVENT = Event
+opOut (EVENT CYCLE·ENDED) = CycleEnded
+opOut (EVENT GAVE·UP) = GaveUp
 opOut (COMMAND n) = Command
 
 abbrev pub numberOut : OpM → ℕ
 numberOut OPEN = 0
 numberOut CLOSE = 0
 numberOut ABORT = 0
-numberOut EVENT = 0
+numberOut (EVENT v) = 0
 numberOut (COMMAND n) = n
 
 op-out : (o : OpM) → opIn (opOut o) (numberOut o) ≡ o
 op-out OPEN = refl
 op-out CLOSE = refl
 op-out ABORT = refl
-op-out EVENT = refl
+op-out (EVENT CYCLE·ENDED) = refl
+op-out (EVENT GAVE·UP) = refl
 op-out (COMMAND n) = refl
 
 -- a reply list of n records, all 0

@@ -9,7 +9,7 @@ use mathlib.Core.Bool.{false, _||_}
 use mathlib.Core.List.{List, [], _∷_, _++_}
 use lib.Dec.{eqb}
 use lib.ListN.{replicate}
-use Rattle.machine.specs.State.{Call, Op, OPEN, CLOSE, EVENT, COMMAND, State as StateM, free}
+use Rattle.machine.specs.State.{Call, Op, OPEN, CLOSE, EVENT, CYCLE·ENDED, COMMAND, State as StateM, free}
 use Rattle.machine.specs.Machine.{machine}
 use Rattle.machine.specs.Walks.{plays}
 use Rattle.memory.specs.Splice.{block, splice}
@@ -57,7 +57,7 @@ abbrev quiet : List Step
 quiet =
     our (ask (COMMAND 3) 9 2 128 1 numbers)
     ∷ our (ask (COMMAND 14) 11 2 128 1 [])
-    ∷ our (ask EVENT 0 1 128 0 [])
+    ∷ our (ask (EVENT CYCLE·ENDED) 0 1 128 0 [])
     ∷ our (ask (COMMAND 6) 5 3 0 1 [])
     ∷ []
 
@@ -68,7 +68,7 @@ busy =
     ∷ their (ask (COMMAND 32) 31 0 138 0 (8 ∷ []))
     ∷ our (ask (COMMAND 14) 11 2 128 1 [])
     ∷ their (ask (COMMAND 32) 32 0 138 0 (1 ∷ []))
-    ∷ our (ask EVENT 0 1 128 0 [])
+    ∷ our (ask (EVENT CYCLE·ENDED) 0 1 128 0 [])
     ∷ their (ask CLOSE 0 0 0 8 [])
     ∷ our (ask (COMMAND 6) 5 3 0 1 [])
     ∷ []

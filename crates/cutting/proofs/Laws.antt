@@ -2,17 +2,15 @@
 -- what stands behind them is left. Assumes nothing.
 use Prim.Native.Nat.{ℕ, suc, _+_, _*_, _^_, _≤_, _<_}
 use mathlib.Core.Path.{_≡_, refl, ap, ap₂, sym, subst, _∙_}
-use mathlib.Core.Bool.{Bool, true, false, _&&_}
+use mathlib.Core.Bool.{false, _&&_}
 use mathlib.Core.List.{List, [], _∷_, _++_, map}
 use native.Mathlib.Omega.{arith}
 use lib.ListN.{length, take}
-use Rattle.reply.proofs.Laws.{length-sent}
 use Rattle.machine.specs.Numbers.{synced}
-use Rattle.machine.specs.Lists.{if_then_else_}
-use Rattle.machine.specs.State.{Write, Channel as ChannelM, State as StateM, Reply, withChannels}
+use Rattle.machine.specs.State.{Write, Channel as ChannelM, Reply}
 use Rattle.machine.specs.Maps.{odd, half, bit, change}
-use Rattle.machine.specs.Granting.{abortedIn, cut, cutReplies}
-use Rattle.machine.specs.Commands.{matching, done, each, playing, inProgress, back, frontOnly, frontGone, doFinish}
+use Rattle.machine.specs.Granting.{abortedIn, cutReplies}
+use Rattle.machine.specs.Commands.{matching, done, each, playing, inProgress, back, frontOnly, frontGone, cutFronts, frontReplies, doFinish}
 use Rattle.machine.specs.Sound.{writesOf}
 use Rattle.machine.proofs.Tests.{if-elim}
 use Rattle.machine_laws.proofs.Lists.{Sub, end, skip, take as both, sub-refl, sub-nil, sub-append, sub-map, sub-length}
@@ -36,8 +34,9 @@ use Rattle.answers.specs.declared.Outcome.{Outcome}
 use Rattle.answers.specs.Answers.{callOf, answerOf, Told}
 use Rattle.sweep.specs.Sweep.{errorAt}
 use Rattle.sweep.proofs.Matching.{match-is}
-use Rattle.sweep.proofs.Steps.{Ends, changedTo, cut-did, told-each}
-use Rattle.cutting.specs.Cutting.{finishReplies}
+use Rattle.sweep.proofs.Steps.{Ends, end-room, changedTo, cut-did, told-each}
+use Rattle.cutting.specs.declared.Cut.{Cut}
+use Rattle.cutting.specs.Cutting.{CutsFronts, finishReplies}
 
 -- ---- the front write and those behind it
 
@@ -76,6 +75,50 @@ in-progress-lt m (c ∷ cs) =
     let ih = in-progress-lt (half m) cs in
     if-elim (λ (x : ℕ). x + 2 * inProgress (half m) cs < 2 ^ suc (length cs)) (odd m && playing c) (λ _. omega arith) (λ _. omega arith)
 
+-- ---- the front writes of the channels that a map names
+
+module _ {st : State} {tb l : List ℕ} {n m : ℕ} (b : m < 256) {fs : List Channel} (u : fs ≡ changeEach (changedOf FrontOnly) m (st .channels))
+    (p : Ready st tb l n (length (frontReplies m (stateIn st tb)))) where
+  abbrev cs : List ChannelM
+  cs = stateIn st tb .channels
+
+  fronts-are : fs ≡ map channelOf (change frontOnly m cs)
+  fronts-are = u ∙ held-changed (p .held) FrontOnly m
+
+  fronts-writable : Writables fs
+  fronts-writable =
+      let s = stateIn st tb in
+      let q = held-parts (p .held) in
+      let f = ids-few s q in
+      let o = sub-fronts m cs in
+      let k = sub-length o in
+      subst Writables (sym fronts-are) (writables-of (change frontOnly m cs) (small-sub o (write-ids s q)) (omega arith))
+
+  fronts-lent : writesIn m (heldIn tb fs) ≡ writesIn m (map frontOnly cs)
+  fronts-lent = ap (λ (x : List Channel). writesIn m (heldIn tb x)) fronts-are ∙ writes-of tb m (change frontOnly m cs) ∙ writes-changed frontOnly m cs
+
+  fronts-aborted : abortedIn m (heldIn tb fs) ≡ abortedIn m (map frontOnly cs)
+  fronts-aborted = ap (λ (x : List Channel). abortedIn m (heldIn tb x)) fronts-are ∙ aborted-of tb m (change frontOnly m cs) ∙ aborted-changed frontOnly m cs
+
+  -- what `drop_named` replies is what the machine replies
+  replies-are : abortedIn m (heldIn tb fs) ++ cutReplies m (stateIn st tb) ≡ frontReplies m (stateIn st tb)
+  replies-are = ap (λ (x : List Reply). x ++ cutReplies m (stateIn st tb)) fronts-aborted
+
+  fits : n + length (abortedIn m (heldIn tb fs) ++ cutReplies m (stateIn st tb)) ≤ 64
+  fits = rw replies-are (p .fits)
+
+  pub cut-asks : Dropping m fs (st .waiters) tb l n
+  cut-asks = dropping (p .held) frontGone frontOnly front-splits m b fronts-writable fronts-lent (p .room) fits
+
+  pub fronts-cut : {q : Dropped} {tb₁ l₁ : List ℕ} → Drops m fs (st .waiters) tb l n q tb₁ l₁ → {ds : List Channel} → ds ≡ changeEach (changedOf FrontGone) m (st .channels)
+      → CutsFronts m st tb l n (record { state = changedTo st ds (q .waiters); n = q .n }) tb₁ l₁
+  fronts-cut {q} {tb₁} {l₁} w v =
+      cut-did (p .held) FrontGone m v
+      (subst (λ (rs : List Reply). Cuts frontGone m (stateIn st tb) rs l n q tb₁ l₁) replies-are
+      (cuts (p .held) frontGone frontOnly front-splits m b fronts-writable fronts-lent (p .room) fits w))
+
+-- ---- FINISH
+
 module _ {st : State} {tb : List ℕ} (h : Held st tb) {ok on : ℕ} (r : Request) (e : ok ≡ matchingEach (r .key) (r .map) (st .channels))
     (o : on ≡ mapWhere (named Plays) ok (st .channels)) where
   on-is : on ≡ inProgress (matching (r .key) (r .map) (stateIn st tb .channels)) (stateIn st tb .channels)
@@ -88,69 +131,25 @@ module _ {st : State} {tb : List ℕ} (h : Held st tb) {ok on : ℕ} (r : Reques
       let s = stateIn st tb in
       rw on-is (subst (λ (n : ℕ). inProgress (matching (r .key) (r .map) (s .channels)) (s .channels) < 2 ^ n) (held-eight h) (in-progress-lt (matching (r .key) (r .map) (s .channels)) (s .channels)))
 
--- ---- FINISH
-
 module _ {st : State} {tb l : List ℕ} {ok on : ℕ} (r : Request) (e : ok ≡ matchingEach (r .key) (r .map) (st .channels))
-    (o : on ≡ mapWhere (named Plays) ok (st .channels)) {fs : List Channel} (u : fs ≡ changeEach (changedOf FrontOnly) on (st .channels))
-    (p : Ready st tb l 0 (length (finishReplies r (stateIn st tb)) + 1)) where
-  abbrev cs : List ChannelM
-  cs = stateIn st tb .channels
-
-  fronts-are : fs ≡ map channelOf (change frontOnly on cs)
-  fronts-are = u ∙ held-changed (p .held) FrontOnly on
-
-  fronts-writable : Writables fs
-  fronts-writable =
-      let s = stateIn st tb in
-      let q = held-parts (p .held) in
-      let f = ids-few s q in
-      let b = sub-fronts on cs in
-      let n = sub-length b in
-      subst Writables (sym fronts-are) (writables-of (change frontOnly on cs) (small-sub b (write-ids s q)) (omega arith))
-
-  fronts-lent : writesIn on (heldIn tb fs) ≡ writesIn on (map frontOnly cs)
-  fronts-lent = ap (λ (x : List Channel). writesIn on (heldIn tb x)) fronts-are ∙ writes-of tb on (change frontOnly on cs) ∙ writes-changed frontOnly on cs
-
-  fronts-aborted : abortedIn on (heldIn tb fs) ≡ abortedIn on (map frontOnly cs)
-  fronts-aborted = ap (λ (x : List Channel). abortedIn on (heldIn tb x)) fronts-are ∙ aborted-of tb on (change frontOnly on cs) ∙ aborted-changed frontOnly on cs
-
-  -- what `drop_named` replies is what the machine replies
-  replies-are : abortedIn on (heldIn tb fs) ++ cutReplies on (stateIn st tb) ≡ finishReplies r (stateIn st tb)
-  replies-are =
-      ap (λ (x : List Reply). x ++ cutReplies on (stateIn st tb)) fronts-aborted
-      ∙ ap (λ (m : ℕ). abortedIn m (map frontOnly cs) ++ cutReplies m (stateIn st tb)) (on-is (p .held) r e o)
-
-  fits : 0 + length (abortedIn on (heldIn tb fs) ++ cutReplies on (stateIn st tb)) ≤ 64
-  fits =
+    (o : on ≡ mapWhere (named Plays) ok (st .channels)) (p : Ready st tb l 0 (length (finishReplies r (stateIn st tb)) + 1)) where
+  pub finish-ready : Ready st tb l 0 (length (frontReplies on (stateIn st tb)))
+  finish-ready =
       let f = p .fits in
-      rw replies-are (omega arith)
+      record { held = p .held; room = p .room; fits = rw (on-is (p .held) r e o) (omega arith) }
 
-  pub finish-asks : Dropping on fs (st .waiters) tb l 0
-  finish-asks = dropping (p .held) frontGone frontOnly front-splits on (on-small (p .held) r e o) fronts-writable fronts-lent (p .room) fits
+  module _ {d : Cut} {tb₁ l₁ : List ℕ} (w : CutsFronts on st tb l 0 d tb₁ l₁) where
+    finish-cuts : Did (cutFronts (inProgress (matching (r .key) (r .map) (stateIn st tb .channels)) (stateIn st tb .channels)) (stateIn st tb)) (finishReplies r (stateIn st tb)) l 0 (d .state) tb₁ l₁ (d .n)
+    finish-cuts = subst (λ (m : ℕ). CutsFronts m st tb l 0 d tb₁ l₁) (on-is (p .held) r e o) w
 
-  module _ {q : Dropped} {tb₁ l₁ : List ℕ} (w : Drops on fs (st .waiters) tb l 0 q tb₁ l₁) where
-    finish-cuts : Cuts frontGone on (stateIn st tb) (finishReplies r (stateIn st tb)) l 0 q tb₁ l₁
-    finish-cuts =
-        subst (λ (rs : List Reply). Cuts frontGone on (stateIn st tb) rs l 0 q tb₁ l₁) replies-are
-        (cuts (p .held) frontGone frontOnly front-splits on (on-small (p .held) r e o) fronts-writable fronts-lent (p .room) fits w)
+    pub finish-room : d .n * 6 + 6 ≤ length l₁
+    finish-room = end-room (p .room) (let k = p .fits in omega arith) finish-cuts
 
-    pub finish-room : q .n * 6 + 6 ≤ length l₁
-    finish-room =
-        let f = p .fits in
-        let k = p .room in
-        let c = finish-cuts .count in
-        let z = ap length (finish-cuts .list) ∙ length-sent l 0 (finishReplies r (stateIn st tb)) (omega arith) in
-        omega arith
-
-    pub told-finish : r .map < 256 → r .command ≡ 11 → synced (r .flags) ≡ false → {ds : List Channel} → ds ≡ changeEach (changedOf FrontGone) on (st .channels)
-        → {x : Answer} {d : Outcome} {l₂ : List ℕ} → x ≡ answerOf (done (errorAt ok (r .map)) ok (r .key) 255)
-        → Ends r x (changedTo st ds (q .waiters)) (q .n) l₁ d l₂ → Told (doFinish (callOf r []) (stateIn st tb)) l d tb₁ l₂
+    pub told-finish : r .map < 256 → r .command ≡ 11 → synced (r .flags) ≡ false → {x : Answer} {c : Outcome} {l₂ : List ℕ}
+        → x ≡ answerOf (done (errorAt ok (r .map)) ok (r .key) 255) → Ends r x (d .state) (d .n) l₁ c l₂ → Told (doFinish (callOf r []) (stateIn st tb)) l c tb₁ l₂
     unfolding doFinish
-    told-finish b n y {ds} v {x} {d} {l₂} a f =
+    told-finish b n y {x} {c} {l₂} a f =
         let s = stateIn st tb in
-        let m = inProgress (matching (r .key) (r .map) cs) cs in
-        let g = told-each r (p .held) b e (p .room) (let k = p .fits in omega arith)
-        (subst (λ (z : ℕ). Did (withChannels (change frontGone z cs) (cut z s)) (finishReplies r s) l 0 (changedTo st ds (q .waiters)) tb₁ l₁ (q .n))
-        (on-is (p .held) r e o) (cut-did (p .held) FrontGone on v finish-cuts))
-        a f in
-        rw y (subst (λ (z : ℕ). Told (each z (callOf r []) (finishReplies r s) (withChannels (change frontGone m cs) (cut m s)) s) l d tb₁ l₂) n g)
+        let m = inProgress (matching (r .key) (r .map) (s .channels)) (s .channels) in
+        let g = told-each r (p .held) b e (p .room) (let k = p .fits in omega arith) finish-cuts a f in
+        rw y (subst (λ (z : ℕ). Told (each z (callOf r []) (finishReplies r s) (cutFronts m s) s) l c tb₁ l₂) n g)

@@ -39,7 +39,7 @@ use Rattle.answers.specs.declared.Outcome.{Outcome}
 use Rattle.answers.specs.Answers.{Told}
 use Rattle.answers.proofs.Laws.{told-as}
 use Rattle.refusals.specs.declared.Op.{Op}
-use Rattle.refusals.specs.declared.Op.the-variants.{Open, Close, Abort, Event, Command}
+use Rattle.refusals.specs.declared.Op.the-variants.{Open, Close, Abort, CycleEnded, GaveUp, Command}
 use Rattle.refusals.specs.Refusals.{opIn, askedOf}
 use Rattle.steps.specs.Steps.{numberOf}
 use Rattle.operations.specs.Operations.{act, Allowed}
@@ -74,7 +74,7 @@ unfolding refusal
 zero-accepted OPEN c s q = first-nonzero _ (unfold all in tt) q
 zero-accepted CLOSE c s q = first-nonzero _ (unfold all in tt) q
 zero-accepted ABORT c s q = first-nonzero _ (unfold all in tt) q
-zero-accepted EVENT c s q = first-nonzero _ (unfold all in tt) q
+zero-accepted (EVENT e) c s q = first-nonzero _ (unfold all in tt) q
 zero-accepted (COMMAND n) c s q = first-nonzero _ (unfold all in tt) q
 
 -- a refusal with a number above 5 comes after the test of the reply list
@@ -89,7 +89,7 @@ late-room o c s e q h = nltb→le (c .room) 64 (go o q)
     go OPEN z = second-past _ _ _ e z h
     go CLOSE z = second-past _ _ _ e z h
     go ABORT z = second-past _ _ _ e z h
-    go EVENT z = second-past _ _ _ e z h
+    go (EVENT v) z = second-past _ _ _ e z h
     go (COMMAND n) z = second-past _ _ _ e z h
 
 accepted-room : (o : OpM) (c : Call) (s : StateM) → refusal o c s ≡ accepted → 64 ≤ c .room
@@ -100,7 +100,7 @@ accepted-room o c s q = nltb→le (c .room) 64 (go o q)
     go OPEN z = first-none _ z .1 .0
     go CLOSE z = first-none _ z .1 .0
     go ABORT z = first-none _ z .1 .0
-    go EVENT z = first-none _ z .1 .0
+    go (EVENT v) z = first-none _ z .1 .0
     go (COMMAND n) z = first-none _ z .1 .0
 
 -- ---- a call that is refused
@@ -111,7 +111,8 @@ unfolding refuse silent finished
 refuse-due Open e r ms len s = refl
 refuse-due Close e r ms len s = refl
 refuse-due Abort e r ms len s = refl
-refuse-due Event e r ms len s = refl
+refuse-due CycleEnded e r ms len s = refl
+refuse-due GaveUp e r ms len s = refl
 refuse-due Command e r ms len s =
     by-test (leb e 5) (λ t. rw (test-true (leb e 5) t, le-ltb 5 e (leb→le e 5 t))) (λ t. rw (test-false (leb e 5) t, lt-ltb 5 e (nleb→lt e 5 t)))
 
@@ -157,7 +158,7 @@ act-sound OPEN c s p r y e =
     (first-none _ e .1 .1 .1 .1 .0)
 act-sound CLOSE c s p r y e = close-sound c s p
 act-sound ABORT c s p r y e = abort-sound c s p
-act-sound EVENT c s p r y e = event-sound c s p
+act-sound (EVENT v) c s p r y e = event-sound v c s p
 act-sound (COMMAND k) c s p r y e =
     let n = first-none _ e in
     perform-sound (kind k) c s p r (id-small (c .id) (n .1 .1 .0)) (n .1 .1 .1 .0) (n .1 .1 .1 .1 .1 .1 .0) (n .1 .1 .1 .1 .1 .1 .1 .0)
@@ -167,7 +168,7 @@ act-wide : (o : OpM) (c : Call) (s : StateM) → Wide s (act o c s .next)
 act-wide OPEN c s = open-wide c s
 act-wide CLOSE c s = close-wide c s
 act-wide ABORT c s = abort-wide c s
-act-wide EVENT c s = event-wide c s
+act-wide (EVENT v) c s = event-wide v c s
 act-wide (COMMAND n) c s = perform-wide (kind n) c s
 
 -- an operation and then settling, but for an OPEN answered -11
@@ -177,7 +178,8 @@ unfolding accept openSettling
 accepts Open n c s = refl
 accepts Close n c s = refl
 accepts Abort n c s = refl
-accepts Event n c s = refl
+accepts CycleEnded n c s = refl
+accepts GaveUp n c s = refl
 accepts Command n c s = refl
 
 accepted-call : (s : StateM) (c : Call) → refusal (c .op) c s ≡ accepted → call s c ≡ accept (c .op) c s

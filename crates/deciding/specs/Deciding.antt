@@ -17,7 +17,7 @@ use Rattle.store.specs.declared.State.{State}
 use Rattle.store.specs.Store.{stateIn as wideIn, Held as WideHeld}
 use Rattle.answers.specs.declared.Request.{Request}
 use Rattle.refusals.specs.declared.Op.{Op}
-use Rattle.refusals.specs.declared.Op.the-variants.{Open, Close, Abort, Event, Command}
+use Rattle.refusals.specs.declared.Op.the-variants.{Open, Close, Abort, CycleEnded, GaveUp, Command}
 use Rattle.refusals.specs.Refusals.{opIn, askedOf}
 
 -- "After every call, except .. an OPEN answered -11, walk from the head."
@@ -25,7 +25,8 @@ abbrev pub restsAt : Op → ℕ → Bool
 restsAt Open e = eqb e ALLOCFAILED
 restsAt Close e = false
 restsAt Abort e = false
-restsAt Event e = false
+restsAt CycleEnded e = false
+restsAt GaveUp e = false
 restsAt Command e = false
 
 abbrev pub decisionOf : ℕ → Refusal

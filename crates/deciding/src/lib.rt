@@ -19,7 +19,8 @@ fn rests(op: Op, a: Answer) -> bool
         Op::Open => a.error == 245,
         Op::Close => false,
         Op::Abort => false,
-        Op::Event => false,
+        Op::CycleEnded => false,
+        Op::GaveUp => false,
         Op::Command => false,
     }
 }

@@ -1,31 +1,50 @@
--- The words in which the end of a write is promised.
+-- The words in which the end of a cycle is promised.
 -- Assumes nothing.
 --
---   endReply i j k          the reply to the write j at the front of channel i, whose key is k
---   endReplies i j k s      the same behind those to who waits for a cycle of the channel
---   EndsFront i j k r ..    the promise of `end_front`: the answer, the state without that write and who waited, the replies
+--   Led i s                 channel i plays the write `first`, and `rest` stands behind it
+--   endReply i e m s        the reply to the front write of channel i, with the error e and the map m
+--   EndsWrite i e m s ..    the promise of `end_write`: the state without that write, its reply
+--   withCycle i s           the state after a cycle of the front write of channel i
+--   cycleReplies i s        the reply to that write where it ends
+--   EndsCycle i s ..        the promise of `end_cycle`: that state, that reply
 use Prim.Native.Nat.{ℕ, _^_}
 use mathlib.Core.Path.{_≡_}
-use mathlib.Core.List.{List, [], _∷_, _++_, map}
-use Rattle.machine.specs.Lists.{keep}
-use Rattle.machine.specs.State.{Reply, State as StateM}
-use Rattle.machine.specs.Granting.{onChannels, cut}
-use Rattle.machine.specs.Commands.{done, met}
+use mathlib.Core.Bool.{true}
+use mathlib.Core.List.{List, [], _∷_}
+use lib.ListN.{getD, set}
+use Rattle.machine.specs.Numbers.{CMD·WRITE}
+use Rattle.machine.specs.State.{Write, Reply, State as StateM, free, withChannels}
+use Rattle.machine.specs.Commands.{front, playing, frontCycled, lastReplies}
 use Rattle.store.specs.declared.State.{State}
 use Rattle.store.specs.Store.{stateIn}
 use Rattle.store.specs.Work.{Did}
-use Rattle.answers.specs.declared.Request.{Request}
-use Rattle.answers.specs.declared.Outcome.{Outcome}
-use Rattle.answers.specs.Answers.{answerOf}
 use Rattle.play.specs.Play.{withFront}
+use Rattle.ending.specs.declared.Ended.{Ended}
 
-abbrev pub endReply : ℕ → ℕ → ℕ → Reply
-endReply i j k = record { id = j; command = 3; error = 0; map = 2 ^ i; key = k }
+pub record Led (i : ℕ) (s : StateM) : Type 0 where
+  pub first : Write
+  pub rest : List Write
+  pub queue : getD (s .channels) i free .writes ≡ first ∷ rest
+  pub plays : playing (getD (s .channels) i free) ≡ true
 
-abbrev pub endReplies : ℕ → ℕ → ℕ → StateM → List Reply
-endReplies i j k s = map met (keep (onChannels 8 (2 ^ i)) (s .waiters)) ++ endReply i j k ∷ []
+abbrev pub endReply : ℕ → ℕ → ℕ → StateM → Reply
+endReply i e m s =
+    record {
+      id = front (getD (s .channels) i free .writes);
+      command = CMD·WRITE;
+      error = e;
+      map = m;
+      key = getD (s .channels) i free .key;
+    }
 
-abbrev pub EndsFront : ℕ → ℕ → ℕ → Request → State → List ℕ → List ℕ → Outcome → List ℕ → List ℕ → Type 0
-EndsFront i j k r s tb l d tb′ l′ =
-    (d .answer ≡ answerOf (done 0 (2 ^ i) (r .key) 255))
-    × Did (withFront i (cut (2 ^ i) (stateIn s tb))) (endReplies i j k (stateIn s tb)) l 0 (d .state) tb′ l′ (d .n)
+abbrev pub EndsWrite : ℕ → ℕ → ℕ → State → List ℕ → List ℕ → ℕ → Ended → List ℕ → List ℕ → Type 0
+EndsWrite i e m s tb l n d tb′ l′ = Did (withFront i (stateIn s tb)) (endReply i e m (stateIn s tb) ∷ []) l n (d .state) tb′ l′ (d .n)
+
+abbrev pub withCycle : ℕ → StateM → StateM
+withCycle i s = withChannels (set (s .channels) i (frontCycled (getD (s .channels) i free))) s
+
+abbrev pub cycleReplies : ℕ → StateM → List Reply
+cycleReplies i s = lastReplies (2 ^ i) (getD (s .channels) i free .key) (getD (s .channels) i free .writes)
+
+abbrev pub EndsCycle : ℕ → State → List ℕ → List ℕ → ℕ → Ended → List ℕ → List ℕ → Type 0
+EndsCycle i s tb l n d tb′ l′ = Did (withCycle i (stateIn s tb)) (cycleReplies i (stateIn s tb)) l n (d .state) tb′ l′ (d .n)

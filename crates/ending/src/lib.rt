@@ -1,88 +1,88 @@
-// The write-end event, on the lowest channel that the map names: those who wait for a cycle are answered, then the front write ends.
+// The end of a cycle of a channel's front write, once those who wait for it are answered: the write is cut, or is over, or goes on.
 // Assumes nothing.
-use answers::Outcome;
-use answers::Request;
-use channel::Channel;
-use fates::End;
+use cycles::Turn;
 use reply::Reply;
+use retuning::Tune;
 use store::State;
+use table::Head;
 ghost use mathlib.Core.Path.{_≡_};
-ghost use mathlib.Core.List.{[]};
 ghost use Prim.Native.Nat.{_<_};
-ghost use lib.ListN.{getD};
-ghost use Rattle.machine.specs.State.{free};
-ghost use Rattle.machine.specs.Commands.{done, doEvent};
-ghost use Rattle.channel.specs.Channel.{channelOf};
+ghost use lib.ListN.{length, getD};
+ghost use Rattle.memory.specs.Splice.{block};
+ghost use Rattle.table.specs.Entry.{listIn};
+ghost use Rattle.store.specs.Store.{stateIn};
 ghost use Rattle.store.specs.Work.{Ready};
-ghost use Rattle.answers.specs.Answers.{callOf, Does};
-ghost use Rattle.play.specs.Play.{frontOf};
-ghost use Rattle.ending.specs.Ending.{EndsFront};
+ghost use Rattle.cycles.specs.Cycles.{turnIn};
+ghost use Rattle.ending.specs.Ending.{Led, EndsWrite, EndsCycle};
 
-pub fn event(r: Request, s: State, table: &mut [u8], replies: &mut [u8]) -> Outcome
-    requires { ⌜ Ready s (now table) (now replies) 0 1 ⌝ }
-    ensures { λ d. ⌜ Does (doEvent (callOf r [])) s (now (table .entry)) (now (replies .entry)) d (now (table .exit)) (now (replies .exit)) ⌝ }
-{
-    let i = channel::lowest(r.map);
-    if 8 <= i {
-        let no = answers::done(0, 0, r.key, 255);
-        return Outcome {
-            answer: no,
-            state: s,
-            n: 0,
-        };
-    }
-    let cs = s.channels;
-    let c = cs[i];
-    let id = play::front(c);
-    if id == 255 {
-        let no = answers::done(0, 0, r.key, 255);
-        return Outcome {
-            answer: no,
-            state: s,
-            n: 0,
-        };
-    }
-    end_front(r, s, table, replies, i, c, id)
+// The state after it, and how many replies there are.
+pub struct Ended {
+    pub state: State,
+    pub n: usize,
 }
 
-// Those who wait for a cycle of channel i are answered, and its front write ends.
-fn end_front(
-    r: Request,
+// What becomes of the write of an id.
+fn turn_at(table: &[u8], id: u8) -> Turn
+    requires { ⌜ (id < 64) × (length (now table) ≡ 1472) × (getD (block 23 (now table) id) 6 0 ≡ 12) ⌝ }
+    ensures { λ t. ⌜ t ≡ turnIn (listIn (block 23 (now (table .entry)) id)) ⌝ }
+{
+    let mut b = [0u8; Head::NUMBERS];
+    memory::copy(&mut b, 0, table::combos(table, id));
+    cycles::turn_of(b)
+}
+
+// The front write of channel i ends: it is replied, and its id is idle.
+fn end_write(
     s: State,
     table: &mut [u8],
     replies: &mut [u8],
+    n: usize,
     i: usize,
-    c: Channel,
-    id: u8,
-) -> Outcome
-    requires { ⌜ Ready s (now table) (now replies) 0 1 × (i < 8) × (c ≡ getD (s .channels) i (channelOf free)) × (id ≡ frontOf c) × (id < 255) ⌝ }
-    ensures { λ d. ⌜ EndsFront i id (c .key) r s (now (table .entry)) (now (replies .entry)) d (now (table .exit)) (now (replies .exit)) ⌝ }
+    error: u8,
+    map: u8,
+) -> Ended
+    requires { ⌜ Ready s (now table) (now replies) n 1 × (i < 8) × Led i (stateIn s (now table)) ⌝ }
+    ensures { λ d. ⌜ EndsWrite i error map s (now (table .entry)) (now (replies .entry)) n d (now (table .exit)) (now (replies .exit)) ⌝ }
 {
-    let b = play::bit(i);
-    let w = s.waiters;
-    let f = locks::sift(w, table, replies, 0, b, End::Met);
-    let n = reply::put(
+    let cs = s.channels;
+    let c = cs[i];
+    let q = c.writes;
+    let id = q.at(0);
+    let at = reply::put(
         replies,
-        f.n,
+        n,
         Reply {
             id,
             command: 3,
-            error: 0,
-            map: b,
+            error,
+            map,
             key: c.key,
         },
     );
     table::clear(table, id);
+    let left = q.remove(0);
+    let d = c.with_writes(left);
+    let t = play::put_channel(s, i, d);
+    Ended { state: t, n: at }
+}
+
+// FINISH that is remembered ends the write with -2, its last cycle with 0; else it goes on, with PERVOL applied and a cycle less.
+pub fn end_cycle(s: State, table: &mut [u8], replies: &mut [u8], n: usize, i: usize) -> Ended
+    requires { ⌜ Ready s (now table) (now replies) n 1 × (i < 8) × Led i (stateIn s (now table)) ⌝ }
+    ensures { λ d. ⌜ EndsCycle i s (now (table .entry)) (now (replies .entry)) n d (now (table .exit)) (now (replies .exit)) ⌝ }
+{
+    let cs = s.channels;
+    let c = cs[i];
     let q = c.writes;
-    let q2 = q.remove(0);
-    let d = c.with_writes(q2);
-    let mut t = play::put_channel(s, i, d);
-    let left = f.left;
-    t.waiters = left;
-    let a = answers::done(0, b, r.key, 255);
-    Outcome {
-        answer: a,
-        state: t,
-        n,
+    let t = turn_at(table, q.at(0));
+    let b = play::bit(i);
+    match t {
+        Turn::Cut => end_write(s, table, replies, n, i, 254, 0),
+        Turn::Over => end_write(s, table, replies, n, i, 0, b),
+        Turn::On => {
+            let none = [0u8; Head::NUMBERS];
+            tuning::tune_fronts(s, table, b, none, Tune::Next);
+            Ended { state: s, n }
+        }
     }
 }

@@ -1,8 +1,8 @@
 -- What becomes of a lock when the channels m are freed and when a held request wants them; of a WAITCYCLE when a write on one of them
--- is cut and at the event. Assumes nothing.
+-- is cut and when a cycle of it ends. Assumes nothing.
 --
---   how               Freed: the channels m are freed; Stolen: a held request wants them; Cut: their front writes end otherwise than by
---                     the event; Met: the event comes
+--   how               Freed: the channels m are freed; Stolen: a held request wants them; Cut: their front writes end otherwise than at
+--                     a cycle's end; Met: a cycle of theirs ends
 --   commandOf how     whom that concerns: locks, or WAITCYCLEs
 --   endsAt how m x    whether one with the map x ends
 --   mapAt how m x     the map that it is replied with then, and has where it stays

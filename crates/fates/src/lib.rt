@@ -1,5 +1,5 @@
-// What becomes of a lock when channels are freed and when a held request wants them; of a WAITCYCLE when a write is cut and at the
-// event. Assumes nothing.
+// What becomes of a lock when channels are freed and when a held request wants them; of a WAITCYCLE when a write is cut and when a
+// cycle of it ends. Assumes nothing.
 use store::State;
 ghost use mathlib.Core.Path.{_≡_};
 ghost use Prim.Native.Nat.{_<_};

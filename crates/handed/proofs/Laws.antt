@@ -11,7 +11,7 @@ use Rattle.machine.specs.Log.{opOf}
 use Rattle.image.specs.Image.{markOf}
 use Rattle.image.proofs.Laws.{splice-whole}
 use Rattle.answers.specs.declared.Answer.{Answer}
-use Rattle.refusals.specs.declared.Op.the-variants.{Open, Close, Abort, Event, Command}
+use Rattle.refusals.specs.declared.Op.the-variants.{Open, Close, Abort, CycleEnded, GaveUp, Command}
 use Rattle.handed.specs.Handed.{opFor, answerBytes}
 
 -- ---- the operation
@@ -29,13 +29,18 @@ module _ (b : ℕ) where
   unfolding opOf
   op-abort h = rw (ne-eqb b 0xF0 (λ z. omega arith), ne-eqb b 0xF1 (λ z. omega arith), eq-eqb b 0xF2 h)
 
-  pub op-event : b ≡ 0xF3 → Event ≡ opFor (opOf b)
+  pub op-cycle : b ≡ 0xF3 → CycleEnded ≡ opFor (opOf b)
   unfolding opOf
-  op-event h = rw (ne-eqb b 0xF0 (λ z. omega arith), ne-eqb b 0xF1 (λ z. omega arith), ne-eqb b 0xF2 (λ z. omega arith), eq-eqb b 0xF3 h)
+  op-cycle h = rw (ne-eqb b 0xF0 (λ z. omega arith), ne-eqb b 0xF1 (λ z. omega arith), ne-eqb b 0xF2 (λ z. omega arith), eq-eqb b 0xF3 h)
 
-  pub op-command : (b ≡ 0xF0 → ⊥) → (b ≡ 0xF1 → ⊥) → (b ≡ 0xF2 → ⊥) → (b ≡ 0xF3 → ⊥) → Command ≡ opFor (opOf b)
+  pub op-up : b ≡ 0xF4 → GaveUp ≡ opFor (opOf b)
   unfolding opOf
-  op-command n₀ n₁ n₂ n₃ = rw (ne-eqb b 0xF0 n₀, ne-eqb b 0xF1 n₁, ne-eqb b 0xF2 n₂, ne-eqb b 0xF3 n₃)
+  op-up h =
+      rw (ne-eqb b 0xF0 (λ z. omega arith), ne-eqb b 0xF1 (λ z. omega arith), ne-eqb b 0xF2 (λ z. omega arith), ne-eqb b 0xF3 (λ z. omega arith), eq-eqb b 0xF4 h)
+
+  pub op-command : (b ≡ 0xF0 → ⊥) → (b ≡ 0xF1 → ⊥) → (b ≡ 0xF2 → ⊥) → (b ≡ 0xF3 → ⊥) → (b ≡ 0xF4 → ⊥) → Command ≡ opFor (opOf b)
+  unfolding opOf
+  op-command n₀ n₁ n₂ n₃ n₄ = rw (ne-eqb b 0xF0 n₀, ne-eqb b 0xF1 n₁, ne-eqb b 0xF2 n₂, ne-eqb b 0xF3 n₃, ne-eqb b 0xF4 n₄)
 
 -- ---- the answer
 

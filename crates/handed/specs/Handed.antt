@@ -6,18 +6,19 @@
 --   answerBytes a              an answer: outstanding (1) or done (0), error, map, key (high byte first), extra
 use Prim.Native.Nat.{ℕ, _+_, _/_, _%_}
 use mathlib.Core.List.{List, [], _∷_}
-use Rattle.machine.specs.State.{Op as OpM, OPEN, CLOSE, ABORT, EVENT, COMMAND}
+use Rattle.machine.specs.State.{Op as OpM, OPEN, CLOSE, ABORT, EVENT, CYCLE·ENDED, GAVE·UP, COMMAND}
 use Rattle.image.specs.Image.{markOf}
 use Rattle.answers.specs.declared.Request.{Request}
 use Rattle.answers.specs.declared.Answer.{Answer}
 use Rattle.refusals.specs.declared.Op.{Op}
-use Rattle.refusals.specs.declared.Op.the-variants.{Open, Close, Abort, Event, Command}
+use Rattle.refusals.specs.declared.Op.the-variants.{Open, Close, Abort, CycleEnded, GaveUp, Command}
 
 abbrev pub opFor : OpM → Op
 opFor OPEN = Open
 opFor CLOSE = Close
 opFor ABORT = Abort
-opFor EVENT = Event
+opFor (EVENT CYCLE·ENDED) = CycleEnded
+opFor (EVENT GAVE·UP) = GaveUp
 opFor (COMMAND n) = Command
 
 abbrev pub requestOf : ℕ → ℕ → ℕ → ℕ → ℕ → ℕ → Request

@@ -8,7 +8,7 @@ ghost use Rattle.machine.specs.Log.{opOf};
 ghost use Rattle.machine.specs.Lists.{if_then_else_};
 ghost use Rattle.handed.specs.Handed.{opFor, answerBytes};
 
-// Operations F0 to F3 are OPEN, CLOSE, ABORT and the event; any other number is that of a command.
+// Operations F0 to F4 are OPEN, CLOSE, ABORT and the events; any other number is that of a command.
 pub fn op_of(b: u8) -> Op
     ensures { λ r. ⌜ r ≡ opFor (opOf b) ⌝ }
 {
@@ -16,7 +16,8 @@ pub fn op_of(b: u8) -> Op
         0xF0 => Op::Open,
         0xF1 => Op::Close,
         0xF2 => Op::Abort,
-        0xF3 => Op::Event,
+        0xF3 => Op::CycleEnded,
+        0xF4 => Op::GaveUp,
         _ => Op::Command,
     }
 }

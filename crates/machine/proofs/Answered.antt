@@ -9,7 +9,7 @@ use lib.Dec.{T, eqb, leb}
 use lib.ListN.{length}
 use Rattle.machine.specs.Numbers.{nowait, synced, NOALLOCATION, NONE, NOROOM, CMD·READ}
 use Rattle.machine.specs.Lists.{if_then_else_}
-use Rattle.machine.specs.State.{State, Reply, Answer, Outcome, Call, Op, OPEN, CLOSE, ABORT, EVENT, COMMAND}
+use Rattle.machine.specs.State.{State, Reply, Answer, Outcome, Call, Op, Event, OPEN, CLOSE, ABORT, EVENT, COMMAND}
 use Rattle.machine.specs.Maps.{lowest, at}
 use Rattle.machine.specs.Choosing.{Look, fails, held, grants, look}
 use Rattle.machine.specs.Granting.{newKey, keyFor}
@@ -110,11 +110,11 @@ opening-answered (held m) c s = record { outstanding = λ q. absurd (true≢fals
 opening-answered (grants m) c s =
     record { outstanding = λ q. absurd (true≢false (sym q)); key = granted-key (c .key) s; last = refl; map = tt }
 
-event-answered : (b : Bool) (c : Call) (s t u : State) (m : ℕ) (rs ts : List Reply)
-    → Answered EVENT c s ((if b then silent (done 0 m (c .key) NONE) rs t else silent (done 0 0 (c .key) NONE) ts u) .answer)
+event-answered : (v : Event) (b : Bool) (c : Call) (s t u : State) (m : ℕ) (rs ts : List Reply)
+    → Answered (EVENT v) c s ((if b then silent (done 0 m (c .key) NONE) rs t else silent (done 0 0 (c .key) NONE) ts u) .answer)
 unfolding silent done LastByte MapOf
-event-answered true c s t u m rs ts = record { outstanding = λ q. absurd (true≢false (sym q)); key = inl refl; last = refl; map = tt }
-event-answered false c s t u m rs ts = record { outstanding = λ q. absurd (true≢false (sym q)); key = inl refl; last = refl; map = tt }
+event-answered v true c s t u m rs ts = record { outstanding = λ q. absurd (true≢false (sym q)); key = inl refl; last = refl; map = tt }
+event-answered v false c s t u m rs ts = record { outstanding = λ q. absurd (true≢false (sym q)); key = inl refl; last = refl; map = tt }
 
 mark : (b : Bool) → (_≡_ {A = ℕ} (if b then 0 else 1) 0) ⊎ (_≡_ {A = ℕ} (if b then 0 else 1) 1)
 mark true = inl refl
@@ -131,7 +131,7 @@ accept-answered ABORT c s =
       last = inr (refl, mark (eqb (length (abortedBy (c .id) s)) 0));
       map = refl;
     }
-accept-answered EVENT c s = event-answered (playing (at (lowest (length (s .channels)) (c .map)) (s .channels))) c s _ _ _ _ _
+accept-answered (EVENT v) c s = event-answered v (playing (at (lowest (length (s .channels)) (c .map)) (s .channels))) c s _ _ _ _ _
 accept-answered (COMMAND n) c s = perform-answered n c s (kind n) (reading n (kind n) refl)
 
 refuse-answered : (o : Op) (e : ℕ) (c : Call) (s : State) → Answered o c s (refuse o e c s .answer)
@@ -139,7 +139,7 @@ unfolding refuse silent finished done LastByte MapOf
 refuse-answered OPEN e c s = record { outstanding = λ q. absurd (true≢false (sym q)); key = inl refl; last = refl; map = tt }
 refuse-answered CLOSE e c s = record { outstanding = λ q. absurd (true≢false (sym q)); key = inl refl; last = refl; map = refl }
 refuse-answered ABORT e c s = record { outstanding = λ q. absurd (true≢false (sym q)); key = inl refl; last = inl refl; map = refl }
-refuse-answered EVENT e c s = record { outstanding = λ q. absurd (true≢false (sym q)); key = inl refl; last = refl; map = tt }
+refuse-answered (EVENT v) e c s = record { outstanding = λ q. absurd (true≢false (sym q)); key = inl refl; last = refl; map = tt }
 refuse-answered (COMMAND n) e c s =
     if-elim (λ (o : Outcome). Answered (COMMAND n) c s (o .answer)) (leb e NOROOM) (λ _. given n c s e 0) (λ _. given n c s e 0)
 

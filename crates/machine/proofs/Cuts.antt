@@ -10,7 +10,7 @@ use mathlib.Core.Path.{_≡_, refl}
 use mathlib.Core.Bool.{Bool, true, false}
 use mathlib.Core.List.{List, [], _∷_}
 use mathlib.Core.Option.{none, some}
-use Rattle.machine.specs.State.{Write, Channel, Lock, State, Call, Op, EVENT, COMMAND, free}
+use Rattle.machine.specs.State.{Write, Channel, Lock, State, Call, Op, EVENT, CYCLE·ENDED, COMMAND, free}
 use Rattle.machine.specs.Maps.{at}
 use Rattle.machine.specs.Commands.{cyclesIn, periodIn, volumeIn}
 use Rattle.machine.specs.Sound.{sound}
@@ -20,16 +20,16 @@ use Rattle.machine.specs.Machine.{machine}
 
 -- ---- the states and the calls
 
-abbrev on : Bool → List Write → List Lock → State
+abbrev pub on : Bool → List Write → List Lock → State
 on b ws vs = stands (chan 1 128 false b ws ∷ free ∷ free ∷ free ∷ []) [] vs [] (1 ∷ []) 1
 
-abbrev two : List Write
+abbrev pub two : List Write
 two = plays 2 3 200 10 ∷ plays 3 1 300 20 ∷ []
 
-abbrev asks : Op → ℕ → List ℕ → Call
+abbrev pub asks : Op → ℕ → List ℕ → Call
 asks op f ms = record { op = op; id = 9; flags = f; map = 1; prec = 128; key = 1; combos = ms; room = 64 }
 
-abbrev left : State → Call → List Write
+abbrev pub left : State → Call → List Write
 left s c = at 1 (call s c .next .channels) .writes
 
 -- ---- "A write now carries a cycle count (0 is endless), period and volume"
@@ -78,8 +78,8 @@ pub finish-later : (left (on false two []) (asks (COMMAND 11) 32 []) ≡ cuts 2 
 unfolding machine
 finish-later = (refl, refl, refl)
 
--- "dropped when that write ends, as it still does at each event": nothing passes to the next write
-pub event-forgets : left (on false (both 2 3 200 10 256 7 ∷ plays 3 1 300 20 ∷ []) []) (asks EVENT 0 []) ≡ plays 3 1 300 20 ∷ []
+-- "dropped when that write ends": nothing passes to the next write
+pub event-forgets : left (on false (both 2 3 200 10 256 7 ∷ plays 3 1 300 20 ∷ []) []) (asks (EVENT CYCLE·ENDED) 0 []) ≡ plays 3 1 300 20 ∷ []
 unfolding machine
 event-forgets = refl
 

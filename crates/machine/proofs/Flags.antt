@@ -25,7 +25,7 @@ unfolding refusal badList badMaps badMap badNumbers
 refusal-flagged OPEN f c s = refl
 refusal-flagged CLOSE f c s = refl
 refusal-flagged ABORT f c s = refl
-refusal-flagged EVENT f c s = refl
+refusal-flagged (EVENT v) f c s = refl
 refusal-flagged (COMMAND n) f c s = refl
 
 module _ (f : ℕ) (c : Call) (q : quick f ≡ quick (c .flags)) (w : nowait f ≡ nowait (c .flags)) (y : synced f ≡ synced (c .flags)) where
@@ -38,7 +38,7 @@ module _ (f : ℕ) (c : Call) (q : quick f ≡ quick (c .flags)) (w : nowait f �
   refuse-flagged OPEN e s = refl
   refuse-flagged CLOSE e s = refl
   refuse-flagged ABORT e s = refl
-  refuse-flagged EVENT e s = refl
+  refuse-flagged (EVENT v) e s = refl
   refuse-flagged (COMMAND n) e s = rw (finished-flagged n _ _ s) refl
 
   allocating-flagged : (l : Look) (s : State) → allocating l (withFlags f c) s ≡ allocating l c s
@@ -77,7 +77,7 @@ module _ (f : ℕ) (c : Call) (q : quick f ≡ quick (c .flags)) (w : nowait f �
   accept-flagged OPEN s = rw (opening-flagged (look (c .prec) (c .combos) (s .channels)) s) refl
   accept-flagged CLOSE s = refl
   accept-flagged ABORT s = refl
-  accept-flagged EVENT s = refl
+  accept-flagged (EVENT v) s = refl
   accept-flagged (COMMAND n) s = rw (perform-flagged (kind n) s) refl
 
   answering-flagged : (r : Refusal) (s : State) → answering r (withFlags f c) s ≡ answering r c s

@@ -81,7 +81,7 @@ unfolding refusal steps
 refused-by-its-steps OPEN c s e q = first-among _ e q
 refused-by-its-steps CLOSE c s e q = first-among _ e q
 refused-by-its-steps ABORT c s e q = first-among _ e q
-refused-by-its-steps EVENT c s e q = first-among _ e q
+refused-by-its-steps (EVENT v) c s e q = first-among _ e q
 refused-by-its-steps (COMMAND n) c s e q = first-among _ e q
 
 -- ---- what each test says
@@ -249,7 +249,7 @@ accepted-exactly ABORT c s = (
       (not-not (sound s) .0 (n .0), enough (c .room) REQUESTS .0 (n .1 .0), enough 63 (c .id) .0 (n .1 .1 .0)),
   λ p. none-first _ (not-not (sound s) .1 (p .0), (enough (c .room) REQUESTS .1 (p .1), (enough 63 (c .id) .1 (p .2), tt))),
 )
-accepted-exactly EVENT c s = (
+accepted-exactly (EVENT v) c s = (
   λ e. let n = first-none _ e in
       (not-not (sound s) .0 (n .0), enough (c .room) REQUESTS .0 (n .1 .0), mapped c s .0 (n .1 .1 .0)),
   λ p. none-first _ (not-not (sound s) .1 (p .0), (enough (c .room) REQUESTS .1 (p .1), (mapped c s .1 (p .2), tt))),

@@ -17,7 +17,7 @@ use Rattle.machine.specs.Commands.{pending}
 unfoldable pub LastByte : Op → Answer → Type 0
 LastByte OPEN a = a .extra ≡ NONE
 LastByte CLOSE a = a .extra ≡ NONE
-LastByte EVENT a = a .extra ≡ NONE
+LastByte (EVENT v) a = a .extra ≡ NONE
 LastByte ABORT a = (a .extra ≡ NONE) ⊎ ((a .error ≡ 0) × ((a .extra ≡ 0) ⊎ (a .extra ≡ 1)))
 LastByte (COMMAND n) a = (a .extra ≡ NONE) ⊎ ((n ≡ CMD·READ) × (a .error ≡ 0))
 
@@ -26,7 +26,7 @@ unfoldable pub MapOf : Op → Answer → Type 0
 MapOf OPEN a = Unit {0}
 MapOf CLOSE a = a .map ≡ 0
 MapOf ABORT a = a .map ≡ 0
-MapOf EVENT a = Unit {0}
+MapOf (EVENT v) a = Unit {0}
 MapOf (COMMAND n) a = Unit {0}
 
 pub record Answered (o : Op) (c : Call) (s : State) (a : Answer) : Type 0 where

@@ -27,7 +27,7 @@ unfoldable pub steps : Op → List ℕ
 steps OPEN = UNSOUND ∷ NOROOM ∷ BADLENGTH ∷ BADADDRESS ∷ OPENFAIL ∷ []
 steps CLOSE = UNSOUND ∷ NOROOM ∷ NOTOPEN ∷ []
 steps ABORT = UNSOUND ∷ NOROOM ∷ BADID ∷ []
-steps EVENT = UNSOUND ∷ NOROOM ∷ BADADDRESS ∷ []
+steps (EVENT v) = UNSOUND ∷ NOROOM ∷ BADADDRESS ∷ []
 steps (COMMAND n) = UNSOUND ∷ NOROOM ∷ BADID ∷ INUSE ∷ NOTOPEN ∷ NOCMD ∷ BADLENGTH ∷ BADADDRESS ∷ BADLENGTH ∷ []
 
 -- "at most 16 combinations", each on the board
@@ -54,7 +54,7 @@ unfoldable pub Passes : Op → Call → State → Type 0
 Passes OPEN c s = T (sound s) × (REQUESTS ≤ c .room) × Listed c s × (length (s .opens) < ENTRIES)
 Passes CLOSE c s = T (sound s) × (REQUESTS ≤ c .room) × T (among (c .key) (s .opens))
 Passes ABORT c s = T (sound s) × (REQUESTS ≤ c .room) × (c .id ≤ 63)
-Passes EVENT c s = T (sound s) × (REQUESTS ≤ c .room) × Mapped c s
+Passes (EVENT v) c s = T (sound s) × (REQUESTS ≤ c .room) × Mapped c s
 Passes (COMMAND n) c s =
     T (sound s) × (REQUESTS ≤ c .room) × (c .id ≤ 63) × T (not (among (c .id) (ids s))) × (0 < length (s .opens)) × T (among n listed)
     × Reads n c s × Carries n c

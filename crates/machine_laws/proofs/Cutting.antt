@@ -14,11 +14,11 @@ use lib.Dec.{T, T-not, not-T, eqb, eqb→eq}
 use lib.ListN.{length, length-map}
 use Rattle.machine.specs.Numbers.{quick, nowait, synced, ALLOCFAILED}
 use Rattle.machine.specs.Lists.{if_then_else_, all, keep, among}
-use Rattle.machine.specs.State.{Write, Channel, Lock, State, withChannels, Reply, Answer, Outcome, Call, Op, OPEN, CLOSE, ABORT, EVENT, COMMAND}
+use Rattle.machine.specs.State.{Write, Channel, Lock, State, withChannels, Reply, Answer, Outcome, Call, Op, OPEN, CLOSE, ABORT, Event, CYCLE·ENDED, GAVE·UP, EVENT, COMMAND}
 use Rattle.machine.specs.Maps.{odd, half, bit, lowest, named, change, at}
 use Rattle.machine.specs.Choosing.{Look, fails, held, grants, look}
 use Rattle.machine.specs.Granting.{keyFor, abortedIn, onChannels, givenUp, cut, cutReplies, dropped, granted}
-use Rattle.machine.specs.Commands.{matches, matching, mismatch, finished, silent, each, eachChange, freeing, freeingReplies, cleared, ended, isEmpty, front, playing, inProgress, frontOnly, frontGone, onFront, rememberFinish, met, owned, without, ledBy, abortedBy, abortedWrites, abortedWaits, leaving, doFree, doFinish, doPervol, doLock, doRead, doWrite, doWaitcycle, doEvent, doClose, doAbort}
+use Rattle.machine.specs.Commands.{matches, matching, mismatch, finished, silent, each, eachChange, freeing, freeingReplies, cleared, ended, isEmpty, front, playing, inProgress, frontOnly, frontGone, cutFronts, frontReplies, lastReplies, eventReplies, happened, onFront, rememberFinish, met, owned, without, ledBy, abortedBy, abortedWrites, abortedWaits, leaving, doFree, doFinish, doPervol, doLock, doRead, doWrite, doWaitcycle, doEvent, doClose, doAbort}
 use Rattle.machine.specs.Allocating.{waits, allocating, doAllocate, opening, doOpen}
 use Rattle.machine.specs.Settling.{Found, nobody, somebody, Walk, Settled, replied, walk, walked, goOn, rounds, settle}
 use Rattle.machine.specs.Sound.{sound, soundWaiter, writesOf, ids}
@@ -190,7 +190,8 @@ unfoldable pub cutBy : Op → Call → State → ℕ
 cutBy OPEN c s = lookCut (look (c .prec) (c .combos) (s .channels))
 cutBy CLOSE c s = owned (c .key) (s .channels)
 cutBy ABORT c s = ledBy (c .id) (s .channels)
-cutBy EVENT c s = 0
+cutBy (EVENT CYCLE·ENDED) c s = 0
+cutBy (EVENT GAVE·UP) c s = let m = lowest (length (s .channels)) (c .map) in if playing (at m (s .channels)) then m else 0
 cutBy (COMMAND n) c s = kindCut (kind n) c s
 
 -- the WAITCYCLEs of the channels of m are gone, and their replies of -2 are among the replies, oldest first
@@ -323,16 +324,30 @@ abort-cuts c s =
           (keep-all (λ w. not (onChannels (length (s .channels)) m w)) (keep (λ w. not (eqb (c .id) (w .id))) (s .waiters)));
     }
 
+-- #102: "the front write ends with -2, and its waiters too"
+gave-up-cuts : (c : Call) (s : State) → CutsAlone (cutBy (EVENT GAVE·UP) c s) s (doEvent GAVE·UP c s)
+unfolding cutBy doEvent eventReplies happened silent
+gave-up-cuts c s =
+    by-test (playing h)
+    (λ t. rw (test-true (playing h) t) (cuts-alone m s _ (sub-right (abortedIn m (map frontOnly (s .channels))) (sub-refl (cutReplies m s))) refl))
+    (λ t. rw (test-false (playing h) t) (nothing-cut s _ (sub-refl (s .waiters))))
+  where
+    m : ℕ
+    m = lowest (length (s .channels)) (c .map)
+
+    h : Channel
+    h = at m (s .channels)
+
 -- "The event answers waiters 0 with that bit, oldest first, before the write": the same with another reply
 pub event-meets : (c : Call) (s : State) → T (playing (at (lowest (length (s .channels)) (c .map)) (s .channels)))
-    → Sub (map met (keep (onChannels (length (s .channels)) (lowest (length (s .channels)) (c .map))) (s .waiters))) (doEvent c s .replies)
-    × T (all (λ w. not (onChannels (length (s .channels)) (lowest (length (s .channels)) (c .map)) w)) (doEvent c s .next .waiters))
-unfolding doEvent cut silent
+    → Sub (map met (keep (onChannels (length (s .channels)) (lowest (length (s .channels)) (c .map))) (s .waiters))) (doEvent CYCLE·ENDED c s .replies)
+    × T (all (λ w. not (onChannels (length (s .channels)) (lowest (length (s .channels)) (c .map)) w)) (doEvent CYCLE·ENDED c s .next .waiters))
+unfolding doEvent eventReplies happened cut silent
 event-meets c s t =
     let m = lowest (length (s .channels)) (c .map) in
     let on = onChannels (length (s .channels)) m in
     rw (test-true (playing (at m (s .channels))) t)
-    (sub-left (_ ∷ []) (sub-refl (map met (keep on (s .waiters)))), keep-all (λ w. not (on w)) (s .waiters))
+    (sub-left (lastReplies m (at m (s .channels) .key) (at m (s .channels) .writes)) (sub-refl (map met (keep on (s .waiters)))), keep-all (λ w. not (on w)) (s .waiters))
 
 -- the same of a grant, settling's too
 pub grant-cuts : (m key prec : ℕ) (s : State) → Sub (cutReplies m s) (dropped m s) × (granted m key prec s .waiters ≡ cut m s .waiters)
@@ -374,7 +389,8 @@ accept-cuts OPEN c s =
     (λ _. settling-cuts (lookCut l) s (opening l c s) (opening-cuts l c s .cuts))
 accept-cuts CLOSE c s = settling-cuts (owned (c .key) (s .channels)) s (doClose c s) (close-cuts c s .cuts)
 accept-cuts ABORT c s = settling-cuts (ledBy (c .id) (s .channels)) s (doAbort c s) (abort-cuts c s)
-accept-cuts EVENT c s = cuts-none s (settling (doEvent c s))
+accept-cuts (EVENT CYCLE·ENDED) c s = cuts-none s (settling (doEvent CYCLE·ENDED c s))
+accept-cuts (EVENT GAVE·UP) c s = settling-cuts _ s (doEvent GAVE·UP c s) (unfold cutBy in gave-up-cuts c s .cuts)
 accept-cuts (COMMAND n) c s = settling-cuts (kindCut (kind n) c s) s (perform (kind n) c s) (perform-cuts (kind n) c s .cuts)
 
 -- "A front write that ends otherwise has its channel's waiters replied -2, map 0, oldest first": after the whole call none is left
@@ -412,11 +428,12 @@ alone-told i m s o h =
     let d = count-sub i (sub-map (λ (w : Lock). w .id) (h .kept)) in
     omega arith
 
-event-told : (i : ℕ) (c : Call) (s : State) → ToldOut i s (doEvent c s)
-unfolding doEvent silent cut
-event-told i c s =
+event-told : (i : ℕ) (v : Event) (c : Call) (s : State) → ToldOut i s (doEvent v c s)
+event-told i GAVE·UP c s = alone-told i _ s (doEvent GAVE·UP c s) (gave-up-cuts c s)
+event-told i CYCLE·ENDED c s =
+    unfold doEvent eventReplies happened silent cut in
     if-elim (ToldOut i s) (playing h)
-    (λ _. let a = heard-append i (map met (keep on (s .waiters))) (record { id = front (h .writes); command = 3; error = 0; map = m; key = h .key } ∷ []) in
+    (λ _. let a = heard-append i (map met (keep on (s .waiters))) (lastReplies m (h .key) (h .writes)) in
     let b = heard-of i met (λ (w : Lock). w .id) (λ w. unfold met in refl) (keep on (s .waiters)) in
     let d = count-keep i (λ (w : Lock). w .id) on (s .waiters) in
     omega arith)
@@ -487,7 +504,7 @@ accept-told i OPEN c s =
     if-elim (ToldOut i s) (eqb (opening l c s .answer .error) ALLOCFAILED) (λ _. h) (λ _. settling-told i s (opening l c s) h)
 accept-told i CLOSE c s = settling-told i s (doClose c s) (alone-told i (owned (c .key) (s .channels)) s (doClose c s) (close-cuts c s))
 accept-told i ABORT c s = settling-told i s (doAbort c s) (abort-told i c s)
-accept-told i EVENT c s = settling-told i s (doEvent c s) (event-told i c s)
+accept-told i (EVENT v) c s = settling-told i s (doEvent v c s) (event-told i v c s)
 accept-told i (COMMAND n) c s =
     settling-told i s (perform (kind n) c s)
     (alone-told i (kindCut (kind n) c s) s (perform (kind n) c s) (perform-cuts (kind n) c s))

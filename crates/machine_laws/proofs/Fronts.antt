@@ -13,11 +13,11 @@ use lib.Dec.{T, T-not, not-T, eqb, eqb→eq}
 use lib.ListN.{length, length-map}
 use Rattle.machine.specs.Numbers.{nowait, synced, ALLOCFAILED}
 use Rattle.machine.specs.Lists.{if_then_else_, all, keep}
-use Rattle.machine.specs.State.{Write, Channel, Lock, State, Outcome, Call, Op, OPEN, CLOSE, ABORT, EVENT, COMMAND}
+use Rattle.machine.specs.State.{Write, Channel, Lock, State, Outcome, Call, Op, OPEN, CLOSE, ABORT, Event, CYCLE·ENDED, GAVE·UP, EVENT, COMMAND}
 use Rattle.machine.specs.Maps.{odd, half, bit, meets, lowest, named, change, at}
 use Rattle.machine.specs.Choosing.{Look, fails, held, grants, look}
 use Rattle.machine.specs.Granting.{keyFor, onChannels, cut, taken, granted}
-use Rattle.machine.specs.Commands.{matches, matching, mismatch, finished, silent, reset, freed, setPrec, flushed, setStop, setLock, same, setWrites, each, eachChange, freeing, front, playing, writeOf, inProgress, frontGone, onFirst, onFront, rememberFinish, rememberTone, setTone, periodIn, volumeIn, owned, without, leads, ledBy, leaving, doFree, doFinish, doPervol, doLock, doRead, doWrite, doWaitcycle, doEvent, doClose, doAbort}
+use Rattle.machine.specs.Commands.{matches, matching, mismatch, finished, silent, reset, freed, setPrec, flushed, setStop, setLock, same, setWrites, each, eachChange, freeing, front, playing, writeOf, inProgress, frontGone, frontCycled, happened, onFirst, onFront, rememberFinish, rememberTone, setTone, periodIn, volumeIn, owned, without, leads, ledBy, leaving, doFree, doFinish, doPervol, doLock, doRead, doWrite, doWaitcycle, doEvent, doClose, doAbort}
 use Rattle.machine.specs.Allocating.{waits, allocating, doAllocate, opening, doOpen}
 use Rattle.machine.specs.Settling.{Found, nobody, somebody, Walk, Settled, walk, walked, goOn, rounds, settle}
 use Rattle.machine.specs.Sound.{sound, soundWaiter}
@@ -235,11 +235,16 @@ close-fronts : (c : Call) (s : State) → Fronted s (doClose c s)
 unfolding doClose silent
 close-fronts c s = freeing-fronts (owned (c .key) (s .channels)) s
 
-event-fronts : (c : Call) (s : State) → Fronted s (doEvent c s)
-unfolding doEvent cut silent
-event-fronts c s =
+happened-fronts : (v : Event) (m : ℕ) (s : State) → AllFronts (s .channels) (happened v m s .channels) (happened v m s .waiters)
+unfolding happened cut
+happened-fronts CYCLE·ENDED m s = cut-fronts frontCycled m (s .channels) (s .waiters)
+happened-fronts GAVE·UP m s = cut-fronts frontGone m (s .channels) (s .waiters)
+
+event-fronts : (v : Event) (c : Call) (s : State) → Fronted s (doEvent v c s)
+unfolding doEvent silent
+event-fronts v c s =
     let m = lowest (length (s .channels)) (c .map) in
-    if-elim (Fronted s) (playing (at m (s .channels))) (λ _. cut-fronts frontGone m (s .channels) (s .waiters)) (λ _. fronts-refl (s .channels) (s .waiters))
+    if-elim (Fronted s) (playing (at m (s .channels))) (λ _. happened-fronts v m s) (λ _. fronts-refl (s .channels) (s .waiters))
 
 -- ---- ABORT
 
@@ -328,7 +333,7 @@ accept-fronts OPEN c s p =
     (λ _. settling-fronts s (opening l c s) (unfold doOpen in open-wide c s) (opening-fronts l c s))
 accept-fronts CLOSE c s p = settling-fronts s (doClose c s) (close-wide c s) (close-fronts c s)
 accept-fronts ABORT c s p = settling-fronts s (doAbort c s) (abort-wide c s) (abort-fronts c s)
-accept-fronts EVENT c s p = settling-fronts s (doEvent c s) (event-wide c s) (event-fronts c s)
+accept-fronts (EVENT v) c s p = settling-fronts s (doEvent v c s) (event-wide v c s) (event-fronts v c s)
 accept-fronts (COMMAND n) c s p = settling-fronts s (perform (kind n) c s) (perform-wide (kind n) c s) (perform-fronts (kind n) c s p)
 
 -- after any call of a sound state, the channel of each who waits for a cycle has in front the write that it had there before

@@ -9,7 +9,7 @@ use lib.Dec.{T, eqb, ltb}
 use lib.ListN.{length}
 use Rattle.machine.specs.Numbers.{NOROOM}
 use Rattle.machine.specs.Lists.{if_then_else_, any, among}
-use Rattle.machine.specs.State.{State as StateM, Call, Op as OpM, OPEN, CLOSE, ABORT, EVENT, COMMAND}
+use Rattle.machine.specs.State.{State as StateM, Call, Op as OpM, Event, OPEN, CLOSE, ABORT, EVENT, CYCLE·ENDED, GAVE·UP, COMMAND}
 use Rattle.machine.specs.Sound.{sound, soundTone, ids}
 use Rattle.machine.specs.Kinds.{kind, unknown, allocates, carries}
 use Rattle.machine.specs.Refusals.{refused, first, badList, badMaps, badMap, badNumbers, refusal}
@@ -20,7 +20,7 @@ use Rattle.board.specs.Board.{topOf, stateIn, Held}
 use Rattle.board.proofs.Laws.{top-pow, held-parts, held-width, held-sized, held-opens-count}
 use Rattle.answers.specs.declared.Request.{Request}
 use Rattle.refusals.specs.declared.Op.{Op}
-use Rattle.refusals.specs.declared.Op.the-variants.{Open, Close, Abort, Event, Command}
+use Rattle.refusals.specs.declared.Op.the-variants.{Open, Close, Abort, CycleEnded, GaveUp, Command}
 use Rattle.refusals.specs.Refusals.{opIn, askedOf, openTests, closeTests, abortTests, commandTests, Refuses}
 use Rattle.steps.specs.Steps.{numberOf, high, used, wrongNumbers, eventTests}
 use Rattle.steps.proofs.Laws.{used-among}
@@ -41,7 +41,7 @@ module _ (c : Call) (s : StateM) (ok : T (sound s)) where
   short-list OPEN h = rw (test-true (sound s) ok, lt-ltb _ _ h)
   short-list CLOSE h = rw (test-true (sound s) ok, lt-ltb _ _ h)
   short-list ABORT h = rw (test-true (sound s) ok, lt-ltb _ _ h)
-  short-list EVENT h = rw (test-true (sound s) ok, lt-ltb _ _ h)
+  short-list (EVENT v) h = rw (test-true (sound s) ok, lt-ltb _ _ h)
   short-list (COMMAND n) h = rw (test-true (sound s) ok, lt-ltb _ _ h)
 
   module _ (h : 64 ≤ c .room) where
@@ -58,9 +58,9 @@ module _ (c : Call) (s : StateM) (ok : T (sound s)) where
       unfolding refusal first badList
       open-left = rw (test-true (sound s) ok, le-ltb _ _ h, maps-below bound c s wide)
 
-      event-left : refusal EVENT c s ≡ first (eventTests bound (c .map))
+      event-left : (v : Event) → refusal (EVENT v) c s ≡ first (eventTests bound (c .map))
       unfolding refusal first
-      event-left = rw (test-true (sound s) ok, le-ltb _ _ h, map-below bound c s wide)
+      event-left v = rw (test-true (sound s) ok, le-ltb _ _ h, map-below bound c s wide)
 
       command-left : (n : ℕ) (u : Bool) → (c .id < 64 → u ≡ among (c .id) (ids s))
           → refusal (COMMAND n) c s
@@ -109,8 +109,13 @@ module _ {r : Request} {b : Board} {ms tb : List ℕ} {len : ℕ} (h : Held b tb
   pub abort-told : e ≡ numberOf (first (abortTests (r .id))) → Refuses Abort r b ms tb len e
   abort-told q = record { number = q ∙ sym (ap numberOf (abort-left (askedOf Abort r ms len) (stateIn b tb) (h .sane) (room-six len l))) }
 
-  pub event-told : e ≡ numberOf (first (eventTests (top + 1) (r .map))) → Refuses Event r b ms tb len e
-  event-told q = record { number = q ∙ sym (ap numberOf (event-left (askedOf Event r ms len) (stateIn b tb) (h .sane) (room-six len l) (top + 1) (bound-is h t))) }
+  pub cycle-told : e ≡ numberOf (first (eventTests (top + 1) (r .map))) → Refuses CycleEnded r b ms tb len e
+  cycle-told q =
+      record { number = q ∙ sym (ap numberOf (event-left (askedOf CycleEnded r ms len) (stateIn b tb) (h .sane) (room-six len l) (top + 1) (bound-is h t) CYCLE·ENDED)) }
+
+  pub up-told : e ≡ numberOf (first (eventTests (top + 1) (r .map))) → Refuses GaveUp r b ms tb len e
+  up-told q =
+      record { number = q ∙ sym (ap numberOf (event-left (askedOf GaveUp r ms len) (stateIn b tb) (h .sane) (room-six len l) (top + 1) (bound-is h t) GAVE·UP)) }
 
   pub command-told : e ≡ numberOf (first (commandTests (top + 1) r ms tb (b .state .opens .n))) → Refuses Command r b ms tb len e
   command-told q =

@@ -14,7 +14,7 @@ use lib.Dec.{eqb, leb, ltb}
 use lib.ListN.{length}
 use Rattle.machine.specs.Numbers.{OPENFAIL, NOCMD, BADLENGTH, BADADDRESS, NOTOPEN, INUSE, BADID, COMBOS, ENTRIES}
 use Rattle.machine.specs.Lists.{if_then_else_, any, among}
-use Rattle.machine.specs.State.{Call, Op as OpM, OPEN, CLOSE, ABORT, EVENT, COMMAND}
+use Rattle.machine.specs.State.{Call, Op as OpM, OPEN, CLOSE, ABORT, EVENT, CYCLE·ENDED, GAVE·UP, COMMAND}
 use Rattle.machine.specs.Kinds.{kind, unknown, allocates, carries}
 use Rattle.machine.specs.Refusals.{refusal}
 use Rattle.board.specs.declared.Board.{Board}
@@ -22,13 +22,14 @@ use Rattle.board.specs.Board.{stateIn}
 use Rattle.answers.specs.declared.Request.{Request}
 use Rattle.steps.specs.Steps.{numberOf, high, used, wrongNumbers}
 use Rattle.refusals.specs.declared.Op.{Op}
-use Rattle.refusals.specs.declared.Op.the-variants.{Open, Close, Abort, Event, Command}
+use Rattle.refusals.specs.declared.Op.the-variants.{Open, Close, Abort, CycleEnded, GaveUp, Command}
 
 abbrev pub opIn : Op → ℕ → OpM
 opIn Open n = OPEN
 opIn Close n = CLOSE
 opIn Abort n = ABORT
-opIn Event n = EVENT
+opIn CycleEnded n = EVENT CYCLE·ENDED
+opIn GaveUp n = EVENT GAVE·UP
 opIn Command n = COMMAND n
 
 abbrev pub askedOf : Op → Request → List ℕ → ℕ → Call

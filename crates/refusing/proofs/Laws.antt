@@ -18,7 +18,7 @@ use Rattle.answers.specs.declared.Outcome.{Outcome}
 use Rattle.answers.specs.Answers.{answerOf, answerIn, ownReply}
 use Rattle.answers.proofs.Laws.{Finished}
 use Rattle.refusals.specs.declared.Op.{Op}
-use Rattle.refusals.specs.declared.Op.the-variants.{Open, Close, Abort, Event, Command}
+use Rattle.refusals.specs.declared.Op.the-variants.{Open, Close, Abort, CycleEnded, GaveUp, Command}
 use Rattle.refusing.specs.Refusing.{isDue, dueReplies, Refused}
 
 pub false-true : false ≡ true → ⊥
@@ -32,7 +32,8 @@ pub due-late : (o : Op) (e : ℕ) → isDue o e ≡ true → 5 < e
 due-late Open e q = absurd (false-true q)
 due-late Close e q = absurd (false-true q)
 due-late Abort e q = absurd (false-true q)
-due-late Event e q = absurd (false-true q)
+due-late CycleEnded e q = absurd (false-true q)
+due-late GaveUp e q = absurd (false-true q)
 due-late Command e q = ltb→lt 5 e (rw q tt)
 
 -- how `refuse` meets its contract

@@ -19,14 +19,15 @@ use Rattle.answers.specs.declared.Request.{Request}
 use Rattle.answers.specs.declared.Outcome.{Outcome}
 use Rattle.answers.specs.Answers.{answerOf, ownReply}
 use Rattle.refusals.specs.declared.Op.{Op}
-use Rattle.refusals.specs.declared.Op.the-variants.{Open, Close, Abort, Event, Command}
+use Rattle.refusals.specs.declared.Op.the-variants.{Open, Close, Abort, CycleEnded, GaveUp, Command}
 
 -- "After 1 to 5 the reply list is too; after -3, -4 and -5 it gains only the command's own reply, if due."
 abbrev pub isDue : Op → ℕ → Bool
 isDue Open e = false
 isDue Close e = false
 isDue Abort e = false
-isDue Event e = false
+isDue CycleEnded e = false
+isDue GaveUp e = false
 isDue Command e = ltb NOROOM e
 
 abbrev pub dueReplies : Op → ℕ → Request → List Reply

@@ -16,7 +16,8 @@ fn due(op: Op, e: u8) -> bool
         Op::Open => false,
         Op::Close => false,
         Op::Abort => false,
-        Op::Event => false,
+        Op::CycleEnded => false,
+        Op::GaveUp => false,
         Op::Command => e > 5,
     }
 }

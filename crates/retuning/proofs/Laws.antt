@@ -5,8 +5,9 @@ use mathlib.Core.Option.{Option, none, some}
 use Rattle.machine.specs.State.{Write}
 use Rattle.machine.specs.Commands.{rememberTone}
 use Rattle.table.specs.Entry.{numberBytes}
+use Rattle.cycles.proofs.Laws.{next-is, next-id}
 use Rattle.retuning.specs.declared.Tune.{Tune}
-use Rattle.retuning.specs.declared.Tune.the-variants.{Set, Later, Finish}
+use Rattle.retuning.specs.declared.Tune.the-variants.{Set, Later, Finish, Next}
 use Rattle.retuning.specs.Retuning.{toneKept, retunedOf, meaning}
 
 -- what was remembered before is written over
@@ -20,9 +21,11 @@ unfolding numberBytes
 retuned-is Set w x = refl
 retuned-is Later w x = kept-is w x (w .pervol) refl
 retuned-is Finish w x = refl
+retuned-is Next w x = next-is w
 
 -- a write keeps its id
 pub meaning-id : (how : Tune) (p v : ℕ) (w : Write) → meaning how p v w .id ≡ w .id
 meaning-id Set p v w = refl
 meaning-id Later p v w = refl
 meaning-id Finish p v w = refl
+meaning-id Next p v w = next-id w

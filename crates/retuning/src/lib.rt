@@ -1,13 +1,15 @@
-// What PERVOL and a synced FINISH make of the numbers of a write, in their twelve bytes. Assumes nothing.
+// What PERVOL, a synced FINISH and the end of a cycle make of the numbers of a write, in their twelve bytes. Assumes nothing.
 use table::Head;
 ghost use mathlib.Core.Path.{_≡_};
 ghost use Rattle.retuning.specs.Retuning.{toneSet, toneKept, finishKept, retunedOf};
 
-// What is done to a write: its period and volume are set, or remembered for its cycle's end; or its finish is.
+// What is done to a write: its period and volume are set, or remembered for its cycle's end; or its finish is; or a cycle of it ended and it
+// goes on.
 pub enum Tune {
     Set,
     Later,
     Finish,
+    Next,
 }
 
 fn set_tone(b: [u8; Head::NUMBERS], new: [u8; Head::NUMBERS]) -> [u8; Head::NUMBERS]
@@ -50,5 +52,6 @@ pub fn retuned(b: [u8; Head::NUMBERS], new: [u8; Head::NUMBERS], how: Tune) -> [
         Tune::Set => set_tone(b, new),
         Tune::Later => keep_tone(b, new),
         Tune::Finish => keep_finish(b),
+        Tune::Next => cycles::next(b),
     }
 }

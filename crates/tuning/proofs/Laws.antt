@@ -1,6 +1,6 @@
 -- The front writes retuned, one entry after the other, give the table of the state in which they are. No struct changes: a write keeps
 -- its id. Assumes nothing.
-use Prim.Native.Nat.{ℕ, _+_, _*_, _≤_, _<_}
+use Prim.Native.Nat.{ℕ, _*_, _≤_, _<_}
 use mathlib.Core.Path.{_≡_, refl, ap, ap₂, sym, subst, _∙_}
 use mathlib.Core.Bool.{Bool, true, false, not, _&&_}
 use mathlib.Core.List.{List, [], _∷_, _++_, map, append-assoc}
@@ -14,7 +14,7 @@ use Rattle.queue.specs.Queue.{pad}
 use Rattle.table.specs.Entry.{headBytes, padded, numberBytes, writeEntry}
 use Rattle.machine.specs.Lists.{if_then_else_}
 use Rattle.machine.specs.State.{Write, Channel as ChannelM, State as StateM, withChannels}
-use Rattle.machine.specs.Maps.{odd, half, bit, change}
+use Rattle.machine.specs.Maps.{odd, half, change}
 use Rattle.machine.specs.Commands.{matching, playing, inProgress, setWrites, onFirst, onFront, periodIn, volumeIn, done, eachChange}
 use Rattle.machine.specs.Sound.{writesOf}
 use Rattle.machine.proofs.Tests.{if-elim}
@@ -27,14 +27,14 @@ use Rattle.fronts.specs.Fronts.{named}
 use Rattle.fronts.proofs.Laws.{in-progress-is}
 use Rattle.store.specs.declared.State.{State}
 use Rattle.store.specs.Store.{Item, writeItem, lockItem, waiterItem, waitItem, writeItems, items, lookup, entries, structOf, tableOf, stateIn, Held, Good, Each}
-use Rattle.store.specs.Work.{Ready, Did}
+use Rattle.store.specs.Work.{Did}
 use Rattle.store.proofs.Table.{Ins, ins-right, ins-at, ins-sub, ins-new, ins-small, good-sub, good-add, block-entries, entry-replaced}
 use Rattle.store.proofs.Store.{good-of, parts-long, block-tableOf, write-long, write-key, write-list, Written, written, write-entries, write-ids, held-parts}
 use Rattle.granting.proofs.Laws.{held-channels, small-left, small-right}
 use Rattle.answers.specs.declared.Request.{Request}
 use Rattle.answers.specs.declared.Answer.{Answer}
 use Rattle.answers.specs.declared.Outcome.{Outcome}
-use Rattle.answers.specs.Answers.{callOf, answerOf, Told}
+use Rattle.answers.specs.Answers.{answerOf, Told}
 use Rattle.sweep.specs.Sweep.{errorAt}
 use Rattle.sweep.proofs.Matching.{match-is}
 use Rattle.sweep.proofs.Steps.{Ends, told-each}
@@ -42,7 +42,7 @@ use Rattle.numbers.specs.Numbers.{carried}
 use Rattle.retuning.specs.declared.Tune.{Tune}
 use Rattle.retuning.specs.Retuning.{retunedOf, meaning}
 use Rattle.retuning.proofs.Laws.{retuned-is, meaning-id}
-use Rattle.tuning.specs.Tuning.{tunedEntry, tunedAt, tuneEach, Tunable, tunedOf}
+use Rattle.tuning.specs.Tuning.{tunedEntry, tunedAt, tuneEach, Tunable, Tunes, tunedOf}
 
 -- ---- a channel in progress
 
@@ -212,18 +212,14 @@ module _ (s : StateM) (p : Parts s) where
         rw (half-bit y n) (fronts-able (half m) cs (e .1) (small-right is (writesOf cs) b)),
       )
 
--- ---- a command
+-- ---- the writes in progress
 
-module _ {st : State} {tb : List ℕ} (r : Request) (h : Held st tb) {ok on : ℕ} (e : ok ≡ matchingEach (r .key) (r .map) (st .channels))
-    (o : on ≡ mapWhere (named Plays) ok (st .channels)) where
+module _ {st : State} {tb : List ℕ} (h : Held st tb) (m : ℕ) {on : ℕ} (o : on ≡ mapWhere (named Plays) m (st .channels)) where
   abbrev s : StateM
   s = stateIn st tb
 
-  abbrev m : ℕ
-  m = matching (r .key) (r .map) (s .channels)
-
   on-is : on ≡ inProgress m (s .channels)
-  on-is = o ∙ ap₂ (mapWhere (named Plays)) (e ∙ match-is h (r .key) (r .map)) (held-channels h) ∙ in-progress-is m (s .channels)
+  on-is = o ∙ ap (mapWhere (named Plays) m) (held-channels h) ∙ in-progress-is m (s .channels)
 
   pub tune-asks : Tunable on (st .channels) tb
   tune-asks =
@@ -231,28 +227,36 @@ module _ {st : State} {tb : List ℕ} (r : Request) (h : Held st tb) {ok on : �
       subst (λ (t : List ℕ). Tunable on (st .channels) t) (sym (h .table))
       (subst (λ (cs : List Channel). Tunable on cs (tableOf s)) (sym (held-channels h)) (subst (λ (y : ℕ). Tunable y (map channelOf (s .channels)) (tableOf s)) (sym on-is) q))
 
-  module _ (how : Tune) (ms : List ℕ) {a tb₁ : List ℕ} (n : a ≡ numberBytes (carried 0 ms)) (t : tb₁ ≡ tuneEach how a on (st .channels) tb) where
-    tuned-did : {l : List ℕ} → Did (withChannels (change (onFront (meaning how (periodIn ms) (volumeIn ms))) m (s .channels)) s) [] l 0 st tb₁ l 0
-    tuned-did {l} =
-        let q = sym (same-structs how (carried 0 ms) m (s .channels)) in
-        record {
-          struct = h .struct
-              ∙ (λ i. record {
-                channels = q i;
-                locks = structOf s .locks;
-                waiters = structOf s .waiters;
-                waiting = structOf s .waiting;
-                opens = structOf s .opens;
-                last = s .last;
-              });
-          table = t ∙ ap₂ (λ (y : List ℕ) (k : ℕ). tuneEach how y k (st .channels) tb) n on-is
-              ∙ ap₂ (tuneEach how (numberBytes (carried 0 ms)) (inProgress m (s .channels))) (held-channels h) (h .table)
-              ∙ tuned-table how (carried 0 ms) m s (good-of s (held-parts h));
-          list = sym (splice-none l 0);
-          count = refl;
-        }
+  pub tunes : (how : Tune) {a tb₁ : List ℕ} → tb₁ ≡ tuneEach how a on (st .channels) tb → Tunes how a m st tb tb₁
+  tunes how t x n =
+      let q = sym (same-structs how x m (s .channels)) in (
+        h .struct
+            ∙ (λ i. record {
+              channels = q i;
+              locks = structOf s .locks;
+              waiters = structOf s .waiters;
+              waiting = structOf s .waiting;
+              opens = structOf s .opens;
+              last = s .last;
+            }),
+        t ∙ ap₂ (λ (y : List ℕ) (k : ℕ). tuneEach how y k (st .channels) tb) n on-is
+            ∙ ap₂ (tuneEach how (numberBytes x) (inProgress m (s .channels))) (held-channels h) (h .table)
+            ∙ tuned-table how x m s (good-of s (held-parts h)),
+      )
 
-    pub told-tune : {l l₂ : List ℕ} {x : Answer} {d : Outcome} → r .map < 256 → 384 ≤ length l → x ≡ answerOf (done (errorAt ok (r .map)) ok (r .key) 255)
-        → Ends r x st 0 l d l₂ → Told (tunedOf r how ms s) l d tb₁ l₂
-    unfolding eachChange
-    told-tune b room v f = told-each r h b e room (omega arith) tuned-did v f
+-- ---- a command
+
+module _ {st : State} {tb : List ℕ} (r : Request) (h : Held st tb) {ok : ℕ} (e : ok ≡ matchingEach (r .key) (r .map) (st .channels)) (how : Tune) (ms : List ℕ)
+    {a tb₁ : List ℕ} (n : a ≡ numberBytes (carried 0 ms)) (t : Tunes how a ok st tb tb₁) where
+  tuned-did : {l : List ℕ}
+      → Did (withChannels (change (onFront (meaning how (periodIn ms) (volumeIn ms))) (matching (r .key) (r .map) (stateIn st tb .channels)) (stateIn st tb .channels)) (stateIn st tb)) [] l 0 st tb₁ l 0
+  tuned-did {l} =
+      let u = t (carried 0 ms) n in
+      let s = stateIn st tb in
+      subst (λ (m : ℕ). Did (withChannels (change (onFront (meaning how (periodIn ms) (volumeIn ms))) m (s .channels)) s) [] l 0 st tb₁ l 0) (e ∙ match-is h (r .key) (r .map))
+      (record { struct = u .0; table = u .1; list = sym (splice-none l 0); count = refl })
+
+  pub told-tune : {l l₂ : List ℕ} {x : Answer} {d : Outcome} → r .map < 256 → 384 ≤ length l → x ≡ answerOf (done (errorAt ok (r .map)) ok (r .key) 255)
+      → Ends r x st 0 l d l₂ → Told (tunedOf r how ms (stateIn st tb)) l d tb₁ l₂
+  unfolding eachChange
+  told-tune b room v f = told-each r h b e room (omega arith) tuned-did v f

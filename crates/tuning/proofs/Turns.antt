@@ -18,7 +18,8 @@ use Rattle.channel.specs.declared.Channel.{Channel}
 use Rattle.channel.proofs.Turns.{half-pow}
 use Rattle.table.specs.Entry.{headBytes, padded, keyIn, listIn}
 use Rattle.retuning.specs.declared.Tune.{Tune}
-use Rattle.retuning.specs.declared.Tune.the-variants.{Set, Later, Finish}
+use Rattle.retuning.specs.declared.Tune.the-variants.{Set, Later, Finish, Next}
+use Rattle.cycles.proofs.Laws.{next-long}
 use Rattle.retuning.specs.Retuning.{retunedOf}
 use Rattle.tuning.specs.Tuning.{tunedEntry, tunedAt, frontOf, tuneEach, Tunable}
 
@@ -35,7 +36,7 @@ pub list-long : (tb : List ℕ) (i : ℕ) → i < 64 → length tb ≡ 1472 → 
 list-long tb i h t n = length-list (block 23 tb i) (length-block tb i h t) n
 
 -- twelve bytes copied over twelve are those bytes
-copied : (l : List ℕ) → length l ≡ 12 → splice (replicate 12 0) 0 l ≡ l
+pub copied : (l : List ℕ) → length l ≡ 12 → splice (replicate 12 0) 0 l ≡ l
 unfolding splice
 copied l h = rw h (append-nil l)
 
@@ -51,6 +52,7 @@ retuned-long : (how : Tune) (b a : List ℕ) → length (retunedOf how b a) ≡ 
 retuned-long Set b a = simp length-set
 retuned-long Later b a = simp length-set
 retuned-long Finish b a = simp length-set
+retuned-long Next b a = next-long b
 
 entry-long : (how : Tune) (a e : List ℕ) → length (listIn e) ≡ 12 → length (tunedEntry how a e) ≡ 23
 unfolding tunedEntry

@@ -1,4 +1,4 @@
--- What PERVOL and a synced FINISH do to the table, and what they promise.
+-- What PERVOL, a synced FINISH and the end of a cycle do to the table, and what they promise.
 -- Assumes nothing.
 --
 --   tunedEntry how a e     the entry of a write, its numbers retuned with those that a has
@@ -6,21 +6,26 @@
 --   frontOf c              the id in front of a channel's queue
 --   tuneEach how a m cs tb   the table with the entries of the front writes of the channels that m names so, one after the other
 --   Tunable m cs tb        each such front is one of the table's ids, and its entry has the numbers of a write
+--   Tunes how a m s tb tb′   the promise of `tune_fronts`: the struct and the new table stand for the state in which the write in progress
+--                          at each channel that m names is retuned, with the numbers that a has
 --   tunedOf r how ms       the machine's rule: the write in progress at each channel that matches retuned, with the numbers that ms
 --                          carries
 use Prim.Native.Nat.{ℕ, _*_, _<_}
 use mathlib.Core.Path.{_≡_}
-use mathlib.Core.Bool.{Bool, true, false}
+use mathlib.Core.Bool.{true, false}
 use mathlib.Core.List.{List, [], _∷_, _++_}
 use lib.ListN.{getD}
 use Rattle.memory.specs.Splice.{splice, block}
-use Rattle.table.specs.Entry.{headBytes, padded, keyIn, listIn}
+use Rattle.table.specs.Entry.{headBytes, padded, keyIn, listIn, numberBytes}
 use Rattle.machine.specs.Numbers.{CMD·WRITE}
 use Rattle.machine.specs.Lists.{if_then_else_}
-use Rattle.machine.specs.State.{State as StateM, Outcome as OutcomeM}
-use Rattle.machine.specs.Maps.{odd, half}
+use Rattle.machine.specs.State.{Write, State as StateM, Outcome as OutcomeM, withChannels}
+use Rattle.machine.specs.Maps.{odd, half, change}
 use Rattle.machine.specs.Commands.{periodIn, volumeIn, onFront, eachChange}
 use Rattle.channel.specs.declared.Channel.{Channel}
+use Rattle.store.specs.declared.State.{State}
+use Rattle.store.specs.Store.{stateIn}
+use Rattle.store.specs.Work.{Stands}
 use Rattle.retuning.specs.declared.Tune.{Tune}
 use Rattle.retuning.specs.Retuning.{retunedOf, meaning}
 use Rattle.answers.specs.declared.Request.{Request}
@@ -43,6 +48,11 @@ tuneEach how a m (c ∷ cs) tb = tuneEach how a (half m) cs (if odd m then tuned
 abbrev pub Tunable : ℕ → List Channel → List ℕ → Type 0
 Tunable m [] tb = Unit {0}
 Tunable m (c ∷ cs) tb = (odd m ≡ true → (frontOf c < 64) × (getD (block 23 tb (frontOf c)) 6 0 ≡ 12)) × Tunable (half m) cs tb
+
+abbrev pub Tunes : Tune → List ℕ → ℕ → State → List ℕ → List ℕ → Type 0
+Tunes how a m s tb tb′ =
+    (x : Write) → a ≡ numberBytes x
+    → Stands (withChannels (change (onFront (meaning how (x .period) (x .volume))) m (stateIn s tb .channels)) (stateIn s tb)) s tb′
 
 abbrev pub tunedOf : Request → Tune → List ℕ → StateM → OutcomeM
 tunedOf r how ms = eachChange (r .command) (onFront (meaning how (periodIn ms) (volumeIn ms))) false (callOf r [])

@@ -1,5 +1,5 @@
-// PERVOL, and FINISH with SYNCCYCLE: the numbers of the write in progress at each channel that matches, or what it remembers. No
-// channel and no reply but the command's own. Assumes nothing.
+// The numbers of the write in progress at each channel that a map names, or what it remembers: where a cycle ended and it goes on, by
+// PERVOL, and by FINISH with SYNCCYCLE. No channel and no reply but the command's own. Assumes nothing.
 use answers::Outcome;
 use answers::Request;
 use channel::Channel;
@@ -12,9 +12,10 @@ ghost use mathlib.Core.Logic.{_⊎_};
 ghost use Prim.Native.Nat.{_<_};
 ghost use lib.ListN.{length, getD};
 ghost use Rattle.memory.specs.Splice.{block};
+ghost use Rattle.store.specs.Store.{Held};
 ghost use Rattle.store.specs.Work.{Ready};
 ghost use Rattle.answers.specs.Answers.{Does};
-ghost use Rattle.tuning.specs.Tuning.{tunedAt, tuneEach, Tunable, tunedOf};
+ghost use Rattle.tuning.specs.Tuning.{tunedAt, tuneEach, Tunable, Tunes, tunedOf};
 
 // The write of an id.
 fn tune(table: &mut [u8], id: u8, new: [u8; Head::NUMBERS], how: Tune)
@@ -56,6 +57,16 @@ fn tune_named(cs: [Channel; 8], table: &mut [u8], map: u8, new: [u8; Head::NUMBE
     }
 }
 
+// The write in progress at each channel that the map names, where there is one.
+pub fn tune_fronts(s: State, table: &mut [u8], map: u8, new: [u8; Head::NUMBERS], how: Tune)
+    requires { ⌜ Held s (now table) ⌝ }
+    ensures { λ _. ⌜ Tunes how new map s (now (table .entry)) (now (table .exit)) ⌝ }
+{
+    let cs = s.channels;
+    let on = fronts::which(cs, Front::Plays, map);
+    tune_named(cs, table, on, new, how);
+}
+
 pub fn tune_each(
     r: Request,
     s: State,
@@ -69,9 +80,8 @@ pub fn tune_each(
 {
     let cs = s.channels;
     let ok = channel::matching(cs, r.key, r.map);
-    let on = fronts::which(cs, Front::Plays, ok);
     let new = numbers::of(combos);
-    tune_named(cs, table, on, new, how);
+    tune_fronts(s, table, ok, new, how);
     let a = sweep::verdict(r, ok);
     answers::finished(r, a, s, replies, 0)
 }

@@ -172,7 +172,7 @@ abbrev pub Harmless : Op → Type 0
 Harmless OPEN = ⊥
 Harmless CLOSE = ⊥
 Harmless ABORT = ⊥
-Harmless EVENT = ⊥
+Harmless (EVENT v) = ⊥
 Harmless (COMMAND n) = T (not (allocates (kind n)))
 
 small : (s : State) (c : Call) (n : ℕ) → T (not (allocates (kind n))) → refusal (COMMAND n) c s ≡ accepted → c .map < 2 ^ length (s .channels)
@@ -195,7 +195,7 @@ unfolding accept
 accept-same s c OPEN h t r k e = absurd h
 accept-same s c CLOSE h t r k e = absurd h
 accept-same s c ABORT h t r k e = absurd h
-accept-same s c EVENT h t r k e = absurd h
+accept-same s c (EVENT v) h t r k e = absurd h
 accept-same s c (COMMAND n) h t r k e = settling-same s (perform (kind n) c s) r (perform-same c s k (kind n) h (parts s t .locksOK) (small s c n h e))
 
 pub moves-nothing : (s : State) (c : Call) → Harmless (c .op) → T (sound s) → AtRest s → Absent (c .key) (s .channels) → call s c .next ≡ s

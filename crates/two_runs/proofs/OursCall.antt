@@ -10,7 +10,7 @@ use native.Mathlib.Omega.{arith}
 use lib.Dec.{T, eqb, eqb→eq, leb, leb→le, ltb}
 use lib.ListN.{length, length-map}
 use Rattle.machine.specs.Lists.{all, if_then_else_, among}
-use Rattle.machine.specs.State.{ABORT, CLOSE, COMMAND, Call, EVENT, OPEN, Op, State}
+use Rattle.machine.specs.State.{ABORT, CLOSE, COMMAND, Call, EVENT, Event, OPEN, Op, State}
 use Rattle.machine.specs.Maps.{at, lowest}
 use Rattle.machine.specs.Commands.{doAbort, doEvent, done, finished, flushed, reset, same, setStop, silent}
 use Rattle.machine.specs.Call.{accept, answering, call, perform, settling}
@@ -103,7 +103,7 @@ module _ (p : Party) (s : State) (r : Ready p s) where
   refusal-same OPEN c t = absurd (t .sends)
   refusal-same CLOSE c t = absurd (t .sends)
   refusal-same ABORT c t = rw sound-same
-  refusal-same EVENT c t = rw (sound-same, badMap-same c)
+  refusal-same (EVENT v) c t = rw (sound-same, badMap-same c)
   refusal-same (COMMAND k) c t =
       rw (
         sound-same,
@@ -138,7 +138,7 @@ module _ (p : Party) (s : State) (r : Ready p s) where
       let d = allowed-kind p s k c t e in
       perform-tame p (r .real) (kind k) c s (eqb→eq (c .key) (p .key) (and-left a b (t .party))) (and-right a b (t .party)) d (command-known k c e) (command-map k c d e) (ready-loop p s r)
 
-  event-on : (c : Call) → Ours p s EVENT c → T (holds p (at (lowest (length (s .channels)) (c .map)) (s .channels)))
+  event-on : {v : Event} (c : Call) → Ours p s (EVENT v) c → T (holds p (at (lowest (length (s .channels)) (c .map)) (s .channels)))
   unfolding ofParty onK
   event-on c t = and-right (not (badMap c s)) (holds p (at (lowest (length (s .channels)) (c .map)) (s .channels))) (t .party)
 
@@ -151,8 +151,8 @@ module _ (p : Party) (s : State) (r : Ready p s) where
   accept-own ABORT c t e =
       settling-own p (r .real) (doAbort c s) (doAbort c (project p s)) (abort-loop p (r .real) c s (ready-loop p s r))
       (abort-own p (r .real) c s (t .party) (ready-loop p s r))
-  accept-own EVENT c t e =
-      settling-own p (r .real) (doEvent c s) (doEvent c (project p s)) (event-loop p (r .real) c s (ready-loop p s r) (event-on c t)) (event-own p (r .real) c s (ready-loop p s r) (event-on c t))
+  accept-own (EVENT v) c t e =
+      settling-own p (r .real) (doEvent v c s) (doEvent v c (project p s)) (event-loop p (r .real) c s (ready-loop p s r) (event-on c t) v) (event-own p (r .real) c s (ready-loop p s r) (event-on c t) v)
   accept-own (COMMAND k) c t e =
       let tame = command-tame k c t e in
       settling-own p (r .real) (perform (kind k) c s) (perform (kind k) c (project p s)) (tame .loop) (tame .alike)
@@ -164,7 +164,7 @@ module _ (p : Party) (s : State) (r : Ready p s) where
   refuse-own OPEN x c t = absurd (t .sends)
   refuse-own CLOSE x c t = absurd (t .sends)
   refuse-own ABORT x c t = silent-own p (r .real) _ [] [] s _ (none-own p (r .real)) refl
-  refuse-own EVENT x c t = silent-own p (r .real) _ [] [] s _ (none-own p (r .real)) refl
+  refuse-own (EVENT v) x c t = silent-own p (r .real) _ [] [] s _ (none-own p (r .real)) refl
   refuse-own (COMMAND k) x c t = go (leb x 5)
     where
       m : T (p .mine (c .id))
@@ -192,7 +192,7 @@ module _ (p : Party) (s : State) (r : Ready p s) where
   accept-loop OPEN c t e = absurd (t .sends)
   accept-loop CLOSE c t e = absurd (t .sends)
   accept-loop ABORT c t e = settle-calm p (doAbort c s .next) (abort-loop p (r .real) c s (ready-loop p s r)) .loop
-  accept-loop EVENT c t e = settle-calm p (doEvent c s .next) (event-loop p (r .real) c s (ready-loop p s r) (event-on c t)) .loop
+  accept-loop (EVENT v) c t e = settle-calm p (doEvent v c s .next) (event-loop p (r .real) c s (ready-loop p s r) (event-on c t) v) .loop
   accept-loop (COMMAND k) c t e = settle-calm p (perform (kind k) c s .next) (command-tame k c t e .loop) .loop
 
   pub ours-loop : (c : Call) → Ours p s (c .op) c → Loop p (call s c .next)

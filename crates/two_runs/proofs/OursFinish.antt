@@ -4,22 +4,21 @@
 use Prim.Native.Nat.{ℕ}
 use mathlib.Core.Path.{_∙_, _≡_, ap, ap₂, refl}
 use mathlib.Core.Bool.{Bool, _&&_, _||_, false, not, true}
-use mathlib.Core.List.{List, [], _++_, _∷_, map}
+use mathlib.Core.List.{List, [], _∷_, map}
 use lib.Dec.{T, eqb, leb}
 use Rattle.machine.specs.Numbers.{synced}
-use Rattle.machine.specs.State.{Call, Channel, Outcome, State, Write, withChannels}
-use Rattle.machine.specs.Maps.{bit, change, half, named, odd}
-use Rattle.machine.specs.Granting.{abortedIn, cut, cutReplies}
-use Rattle.machine.specs.Commands.{doFinish, doPervol, each, eachChange, finished, frontGone, frontOnly, inProgress, matching, onFront, periodIn, playing, rememberFinish, rememberTone, setTone, volumeIn}
+use Rattle.machine.specs.State.{Call, Channel, Outcome, State, Write}
+use Rattle.machine.specs.Maps.{bit, half, named, odd}
+use Rattle.machine.specs.Commands.{doFinish, doPervol, each, eachChange, cutFronts, finished, frontReplies, inProgress, matching, onFront, periodIn, playing, rememberFinish, rememberTone, setTone, volumeIn}
 use Rattle.machine.proofs.Tests.{and-left, and-right, by-test, if-elim, or-named, test-false, test-true}
 use Rattle.machine_laws.proofs.KeepingCalls.{inProgress-named}
-use Rattle.two_runs.specs.TwoRuns.{Party, holds, mask, ownReplies}
+use Rattle.two_runs.specs.TwoRuns.{Party, holds, mask}
 use Rattle.two_runs.proofs.Part.{fitting, ourWrite, project, projectOut}
 use Rattle.two_runs.proofs.Settle.{Loop}
-use Rattle.two_runs.proofs.TheirsFinish.{fronts-fit, onFront-all, onFront-key}
-use Rattle.two_runs.proofs.OursPart.{Tame, abortedIn-own, cut-state, cutReplies-own, finished-own, fit-own, mask-own, matching-mask, matching-own, mismatch-mask, own-append-both, own-floor, own-writes}
+use Rattle.two_runs.proofs.TheirsFinish.{onFront-all, onFront-key}
+use Rattle.two_runs.proofs.OursPart.{Tame, finished-own, fit-own, mask-own, matching-mask, matching-own, mismatch-mask, own-floor, own-writes}
 use Rattle.two_runs.proofs.OursEach.{each-tame}
-use Rattle.two_runs.proofs.OursEvent.{gone-loop}
+use Rattle.two_runs.proofs.OursFronts.{gone-loop, gone-says, gone-state}
 
 module _ (p : Party) (real : T (not (eqb (p .key) 0))) where
   -- ---- in progress in the part is what is so in the state, of channels with K
@@ -34,21 +33,6 @@ module _ (p : Party) (real : T (not (eqb (p .key) 0))) where
       go : (b : Bool) → (T b → T (holds p c)) → (b && playing (mask p c)) ≡ (b && playing c)
       go true h = ap playing (mask-own p real c (h tt))
       go false h = refl
-
-  -- ---- the front writes alone
-
-  front-mask : (c : Channel) → frontOnly (mask p c) ≡ mask p (frontOnly c)
-  unfolding mask
-  front-mask c = by-test (holds p c) (λ h. simp (test-true (holds p c) h)) (λ h. simp (test-false (holds p c) h))
-
-  fronts-mask : (cs : List Channel) → map frontOnly (map (mask p) cs) ≡ map (mask p) (map frontOnly cs)
-  fronts-mask [] = refl
-  fronts-mask (c ∷ cs) = ap₂ _∷_ (front-mask c) (fronts-mask cs)
-
-  fronts-held : (m : ℕ) (cs : List Channel) → named (holds p) m (map frontOnly cs) ≡ named (holds p) m cs
-  unfolding named
-  fronts-held m [] = refl
-  fronts-held m (c ∷ cs) = ap (λ (b : Bool). (not (odd m) || holds p c) && b) (fronts-held (half m) cs)
 
   -- ---- FINISH, PERVOL
 
@@ -82,27 +66,19 @@ module _ (p : Party) (real : T (not (eqb (p .key) 0))) where
     unfolding m x
     same-map = ap (λ (y : ℕ). inProgress y (map (mask p) (s .channels))) (matching-mask p real (c .key) k (c .map) (s .channels)) ∙ progress-mask x (s .channels) matched
 
-    says : abortedIn m (map frontOnly (map (mask p) (s .channels))) ++ cutReplies m (project p s) ≡ ownReplies p (abortedIn m (map frontOnly (s .channels)) ++ cutReplies m s)
-    says =
-        own-append-both p real (abortedIn m (map frontOnly (s .channels))) (cutReplies m s) _ _
-        (ap (abortedIn m) (fronts-mask (s .channels))
-        ∙ abortedIn-own p real m (map frontOnly (s .channels)) (rw (fronts-held m (s .channels)) off) (fronts-fit p (s .channels) (lp .fit)))
-        (cutReplies-own p real m s (lp .waitersOK))
-
-    finish-now : each 11 c (abortedIn m (map frontOnly (map (mask p) (s .channels))) ++ cutReplies m (project p s)) (withChannels (change frontGone m (map (mask p) (s .channels))) (cut m (project p s))) (project p s)
-        ≡ projectOut p (each 11 c (abortedIn m (map frontOnly (s .channels)) ++ cutReplies m s) (withChannels (change frontGone m (s .channels)) (cut m s)) s)
-    unfolding each project
-    finish-now =
-        rw (matching-mask p real (c .key) k (c .map) (s .channels), mismatch-mask p real (c .key) k (c .map) (s .channels))
-        (finished-own p real 11 c _ _ _ _ _ mine (unfold project in says) (unfold project in cut-state p real frontGone (λ d. refl) m s off))
-
     -- a FINISH at once of a state, by the map of what it ends
     ends : ℕ → State → Outcome
-    ends y u = each 11 c (abortedIn y (map frontOnly (u .channels)) ++ cutReplies y u) (withChannels (change frontGone y (u .channels)) (cut y u)) u
+    ends y u = each 11 c (frontReplies y u) (cutFronts y u) u
+
+    finish-now : ends m (project p s) ≡ projectOut p (ends m s)
+    unfolding ends each project
+    finish-now =
+        rw (matching-mask p real (c .key) k (c .map) (s .channels), mismatch-mask p real (c .key) k (c .map) (s .channels))
+        (finished-own p real 11 c _ _ _ _ _ mine (unfold project in gone-says p real m s off lp) (unfold project in gone-state p real m s off))
 
     finish-own : ends (inProgress (matching (c .key) (c .map) (project p s .channels)) (project p s .channels)) (project p s) ≡ projectOut p (ends m s)
-    unfolding ends project
-    finish-own = ap (λ (y : ℕ). ends y (project p s)) same-map ∙ (unfold ends project in finish-now)
+    unfolding project
+    finish-own = ap (λ (y : ℕ). ends y (project p s)) same-map ∙ finish-now
 
     pub finish-tame : Tame p real s (doFinish c s) (doFinish c (project p s))
     unfolding doFinish ends m x

@@ -9,7 +9,7 @@ use lib.Dec.{T, eqb, leb, leb→le}
 use lib.ListN.{length}
 use Rattle.machine.specs.Numbers.{ALLOCFAILED}
 use Rattle.machine.specs.Lists.{all, keep}
-use Rattle.machine.specs.State.{Channel, ABORT, CLOSE, COMMAND, Call, EVENT, OPEN, Op, Outcome, State}
+use Rattle.machine.specs.State.{Channel, ABORT, CLOSE, COMMAND, Call, EVENT, Event, OPEN, Op, Outcome, State}
 use Rattle.machine.specs.Maps.{at, change, half, lowest, odd}
 use Rattle.machine.specs.Choosing.{look}
 use Rattle.machine.specs.Commands.{doAbort, doClose, doEvent, doRead, done, each, eachChange, matches, matching, flushed, reset, same, setPrec, setStop, silent}
@@ -74,10 +74,10 @@ module _ (p : Party) (c : Call) (s : State) (u : T (not (p .mine (c .id)))) (lp 
 -- ---- every operation
 
 -- an event that is not refused and not on a channel of K's
-event-off : (p : Party) (s : State) (c : Call) → T (avoids p EVENT c s) → refusal EVENT c s ≡ accepted
+event-off : (p : Party) (s : State) (v : Event) (c : Call) → T (avoids p (EVENT v) c s) → refusal (EVENT v) c s ≡ accepted
     → T (not (holds p (at (lowest (length (s .channels)) (c .map)) (s .channels))))
 unfolding avoids onK refusal
-event-off p s c t e = go (badMap c s) (holds p (at (lowest (length (s .channels)) (c .map)) (s .channels))) t (first-none _ e .1 .1 .0)
+event-off p s v c t e = go (badMap c s) (holds p (at (lowest (length (s .channels)) (c .map)) (s .channels))) t (first-none _ e .1 .1 .0)
   where
     go : (b d : Bool) → T (not (not b && d)) → T (not b) → T (not d)
     go true d u v = absurd v
@@ -98,7 +98,7 @@ accept-mild p s OPEN c r t e =
     if-elim (Mild p s) (eqb (opening l c s .answer .error) ALLOCFAILED) (λ _. m) (λ _. settling-mild p s (opening l c s) m)
 accept-mild p s CLOSE c r t e = settling-mild p s (doClose c s) (close-mild p c s (ready-loop p s r) (t .apart))
 accept-mild p s ABORT c r t e = settling-mild p s (doAbort c s) (abort-mild p c s (t .apart) (ready-loop p s r))
-accept-mild p s EVENT c r t e = settling-mild p s (doEvent c s) (event-mild p c s (ready-loop p s r) (event-off p s c (t .apart) e))
+accept-mild p s (EVENT v) c r t e = settling-mild p s (doEvent v c s) (event-mild p v c s (ready-loop p s r) (event-off p s v c (t .apart) e))
 accept-mild p s (COMMAND k) c r t e =
     let a = peeks (kind k) || not (eqb (c .key) (p .key)) in
     let b = not (p .mine (c .id)) in
@@ -112,7 +112,7 @@ unfolding refuse silent ownReplies keep avoids
 refuse-mild p e s OPEN c lp t = record { quiet = refl; still = refl; loop = lp }
 refuse-mild p e s CLOSE c lp t = record { quiet = refl; still = refl; loop = lp }
 refuse-mild p e s ABORT c lp t = record { quiet = refl; still = refl; loop = lp }
-refuse-mild p e s EVENT c lp t = record { quiet = refl; still = refl; loop = lp }
+refuse-mild p e s (EVENT v) c lp t = record { quiet = refl; still = refl; loop = lp }
 refuse-mild p e s (COMMAND k) c lp t =
     if-elim (Mild p s) (leb e 5) (λ _. record { quiet = refl; still = refl; loop = lp })
     (λ _. finished-mild p c s (and-right (peeks (kind k) || not (eqb (c .key) (p .key))) (not (p .mine (c .id))) (t .apart)) lp k (done e 0 (c .key) 255))

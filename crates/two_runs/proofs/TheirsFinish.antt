@@ -3,24 +3,20 @@
 -- Assumes nothing.
 use Prim.Native.Nat.{ℕ}
 use mathlib.Core.Path.{_≡_, refl}
-use mathlib.Core.Bool.{Bool, _||_, false, not, true}
-use mathlib.Core.List.{List, [], _++_, _∷_, map}
-use lib.Dec.{T, eqb, leb}
-use lib.ListN.{take}
+use mathlib.Core.Bool.{Bool, false, not}
+use mathlib.Core.List.{List, [], _∷_}
+use lib.Dec.{T, eqb}
 use Rattle.machine.specs.Numbers.{synced}
 use Rattle.machine.specs.Lists.{all}
 use Rattle.machine.specs.State.{Call, Channel, State, Write}
-use Rattle.machine.specs.Maps.{half, named, odd}
-use Rattle.machine.specs.Granting.{abortedIn, cutReplies}
-use Rattle.machine.specs.Commands.{doFinish, doPervol, each, eachChange, finished, frontGone, frontOnly, inProgress, matching, onFirst, onFront, periodIn, playing, rememberFinish, rememberTone, setTone, volumeIn}
-use Rattle.machine.proofs.Tests.{and-both, and-left, and-right, by-test, if-elim, test-false, test-true}
+use Rattle.machine.specs.Commands.{doFinish, doPervol, each, eachChange, finished, frontReplies, inProgress, matching, onFirst, onFront, periodIn, playing, rememberFinish, rememberTone, setTone, volumeIn}
+use Rattle.machine.proofs.Tests.{and-both, and-left, and-right, if-elim}
 use Rattle.machine_laws.proofs.KeepingCalls.{inProgress-named}
 use Rattle.two_runs.specs.TwoRuns.{Party, holds}
-use Rattle.two_runs.proofs.Part.{fitting, ourWrite, theirWrite}
-use Rattle.two_runs.proofs.Away.{abortedIn-quiet, own-append}
-use Rattle.two_runs.proofs.Settle.{Loop, cut-quiet}
-use Rattle.two_runs.proofs.TheirsEach.{Mild, cut-loop, cut-part, eachChange-mild, finished-quiet, matching-away}
-use Rattle.two_runs.proofs.TheirsEvent.{back-not}
+use Rattle.two_runs.proofs.Part.{theirWrite}
+use Rattle.two_runs.proofs.Settle.{Loop}
+use Rattle.two_runs.proofs.TheirsEach.{Mild, eachChange-mild, finished-quiet, matching-away}
+use Rattle.two_runs.proofs.TheirsFronts.{fronts-loop, fronts-quiet, fronts-still}
 
 -- ---- the front write changed under its id
 
@@ -38,39 +34,6 @@ module _ (q : Write → Bool) (g : Write → Write) (same : (w : Write) → T (q
   unfolding onFront
   onFront-all c t = if-elim (λ (d : Channel). T (all q (d .writes))) (playing c) (λ _. first-all (c .writes) t) (λ _. t)
 
--- ---- the front writes alone
-
-pub take-all : (q : Write → Bool) (ws : List Write) → T (all q ws) → T (all q (take 1 ws))
-unfolding all
-take-all q [] t = tt
-take-all q (w ∷ ws) t = and-both (q w) true (and-left (q w) (all q ws) t) tt
-
-module _ (p : Party) where
-  front-fit : (c : Channel) → T (fitting p c) → T (fitting p (frontOnly c))
-  unfolding fitting
-  front-fit c f =
-      by-test (holds p c)
-      (λ h. let g = rw (test-true (holds p c) h) at f in
-      rw (test-true (holds p c) h)
-      (and-both (leb (p .floor) (c .prec)) (all (ourWrite p) (take 1 (c .writes))) (and-left (leb (p .floor) (c .prec)) (all (ourWrite p) (c .writes)) g)
-      (take-all (ourWrite p) (c .writes) (and-right (leb (p .floor) (c .prec)) (all (ourWrite p) (c .writes)) g))))
-      (λ h. rw (test-false (holds p c) h) (take-all (theirWrite p) (c .writes) (rw (test-false (holds p c) h) at f)))
-
-  pub fronts-fit : (cs : List Channel) → T (all (fitting p) cs) → T (all (fitting p) (map frontOnly cs))
-  unfolding all
-  fronts-fit [] t = tt
-  fronts-fit (c ∷ cs) t =
-      and-both (fitting p (frontOnly c)) (all (fitting p) (map frontOnly cs)) (front-fit c (and-left (fitting p c) (all (fitting p) cs) t))
-      (fronts-fit cs (and-right (fitting p c) (all (fitting p) cs) t))
-
-  fronts-named : (m : ℕ) (cs : List Channel) → T (named (λ c. not (holds p c)) m cs) → T (named (λ c. not (holds p c)) m (map frontOnly cs))
-  unfolding named
-  fronts-named m [] t = tt
-  fronts-named m (c ∷ cs) t =
-      and-both (not (odd m) || not (holds p c)) (named (λ d. not (holds p d)) (half m) (map frontOnly cs))
-      (and-left (not (odd m) || not (holds p c)) (named (λ d. not (holds p d)) (half m) cs) t)
-      (fronts-named (half m) cs (and-right (not (odd m) || not (holds p c)) (named (λ d. not (holds p d)) (half m) cs) t))
-
 -- ---- FINISH, PERVOL
 
 module _ (p : Party) (c : Call) (s : State) (t : T (not (eqb (c .key) (p .key)))) (u : T (not (p .mine (c .id)))) (lp : Loop p s) where
@@ -83,13 +46,11 @@ module _ (p : Party) (c : Call) (s : State) (t : T (not (eqb (c .key) (p .key)))
       let x = matching (c .key) (c .map) (s .channels) in
       let m = inProgress x (s .channels) in
       let off = inProgress-named (λ d. not (holds p d)) x (s .channels) (matching-away p (c .key) (c .map) (s .channels) t) in
-      let writes = abortedIn m (map frontOnly (s .channels)) in
       if-elim (Mild p s) (synced (c .flags)) (λ _. onFront-mild 11 rememberFinish (λ w v. v))
       (λ _. record {
-        quiet = finished-quiet p 11 c _ (writes ++ cutReplies m s) _ u
-            (own-append p writes (cutReplies m s) (abortedIn-quiet p m (map frontOnly (s .channels)) (fronts-named p m (s .channels) off) (fronts-fit p (s .channels) (lp .fit))) (cut-quiet p m s off (lp .waitersOK)));
-        still = unfold finished in cut-part p frontGone (λ d. refl) (λ d. back-not p (d .writes)) m s off lp;
-        loop = unfold finished in cut-loop p frontGone (λ d. refl) (λ d. back-not p (d .writes)) m s off lp;
+        quiet = finished-quiet p 11 c _ (frontReplies m s) _ u (fronts-quiet p m s off lp);
+        still = unfold finished in fronts-still p m s off lp;
+        loop = unfold finished in fronts-loop p m s off lp;
       })
 
   pub pervol-mild : Mild p s (doPervol c s)

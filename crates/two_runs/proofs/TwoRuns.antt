@@ -13,7 +13,7 @@ use lib.ListN.{length, length-map}
 use borrow.Author.Tests.{lt-ltb}
 use Rattle.machine.specs.Numbers.{REQUESTS, CYCLES}
 use Rattle.machine.specs.Lists.{all, if_then_else_}
-use Rattle.machine.specs.State.{ABORT, CLOSE, COMMAND, Call, Channel, EVENT, Lock, OPEN, Op, State}
+use Rattle.machine.specs.State.{ABORT, CLOSE, COMMAND, Call, Channel, EVENT, Event, Lock, OPEN, Op, State}
 use Rattle.machine.specs.Maps.{bit, half, lowest, odd}
 use Rattle.machine.specs.Choosing.{Look, fails, grants, held, look}
 use Rattle.machine.specs.Commands.{cyclesIn, doAbort, doClose, doEvent, doFinish, doFree, doLock, doPervol, doRead, doWaitcycle, doWrite, each, eachChange, finished, silent}
@@ -48,7 +48,7 @@ module _ (c : Call) (full : T (lends c)) where
   filled-refusal OPEN s = rw room-enough
   filled-refusal CLOSE s = rw room-enough
   filled-refusal ABORT s = rw room-enough
-  filled-refusal EVENT s = rw room-enough
+  filled-refusal (EVENT v) s = rw room-enough
   filled-refusal (COMMAND n) s = rw room-enough
 
   filled-look : (l : Look) (s : State) → allocating l (filled c) s ≡ allocating l c s
@@ -87,7 +87,7 @@ module _ (c : Call) (full : T (lends c)) where
   filled-accept OPEN s = ap openSettling (filled-open (look (c .prec) (c .combos) (s .channels)) s)
   filled-accept CLOSE s = refl
   filled-accept ABORT s = refl
-  filled-accept EVENT s = refl
+  filled-accept (EVENT v) s = refl
   filled-accept (COMMAND n) s = ap settling (filled-perform (kind n) s)
 
   filled-refuse : (o : Op) (e : ℕ) (s : State) → refuse o e (filled c) s ≡ refuse o e c s
@@ -95,7 +95,7 @@ module _ (c : Call) (full : T (lends c)) where
   filled-refuse OPEN e s = refl
   filled-refuse CLOSE e s = refl
   filled-refuse ABORT e s = refl
-  filled-refuse EVENT e s = refl
+  filled-refuse (EVENT v) e s = refl
   filled-refuse (COMMAND n) e s = refl
 
   filled-same : (s : State) → call s (filled c) ≡ call s c
@@ -137,17 +137,17 @@ module _ (c : Call) (full : T (lends c)) (s : State) where
   Fits OPEN = Unit {0}
   Fits CLOSE = Unit {0}
   Fits ABORT = Unit {0}
-  Fits EVENT = (length (s .channels) ≤ 8) × T (not (badMap c s))
+  Fits (EVENT v) = (length (s .channels) ≤ 8) × T (not (badMap c s))
   Fits (COMMAND n) = Unit {0}
 
   -- what is kept of it
-  event-kept : (noted EVENT c .map ≡ lowest 8 (c .map)) × (noted EVENT c .key ≡ c .key)
+  event-kept : (v : Event) → (noted (EVENT v) c .map ≡ lowest 8 (c .map)) × (noted (EVENT v) c .key ≡ c .key)
   unfolding noted
-  event-kept = (refl, refl)
+  event-kept v = (refl, refl)
 
-  event-refusal : Fits EVENT → refusal EVENT (noted EVENT c) s ≡ refusal EVENT c s
+  event-refusal : (v : Event) → Fits (EVENT v) → refusal (EVENT v) (noted (EVENT v) c) s ≡ refusal (EVENT v) c s
   unfolding refusal noted badMap
-  event-refusal f =
+  event-refusal v f =
       let n = 2 ^ length (s .channels) in
       let l = ltb→lt (c .map) n (not-not-T (ltb (c .map) n) (f .1)) in
       rw (room-enough c full, lt-ltb (c .map) n l, lt-ltb (lowest 8 (c .map)) n (omega (arith, lowest-least 8 (c .map))))
@@ -156,27 +156,27 @@ module _ (c : Call) (full : T (lends c)) (s : State) where
       not-not-T true t = tt
       not-not-T false t = t
 
-  event-accept : Fits EVENT → accept EVENT (noted EVENT c) s ≡ accept EVENT c s
+  event-accept : (v : Event) → Fits (EVENT v) → accept (EVENT v) (noted (EVENT v) c) s ≡ accept (EVENT v) c s
   unfolding accept noted doEvent silent
-  event-accept f = rw (lowest-twice (length (s .channels)) 8 (c .map) (f .0))
+  event-accept v f = rw (lowest-twice (length (s .channels)) 8 (c .map) (f .0))
 
-  event-refuse : (e : ℕ) → refuse EVENT e (noted EVENT c) s ≡ refuse EVENT e c s
+  event-refuse : (v : Event) (e : ℕ) → refuse (EVENT v) e (noted (EVENT v) c) s ≡ refuse (EVENT v) e c s
   unfolding refuse noted silent
-  event-refuse e = refl
+  event-refuse v e = refl
 
-  event-same : c .op ≡ EVENT → Fits EVENT → call s (noted EVENT c) ≡ call s c
+  event-same : (v : Event) → c .op ≡ EVENT v → Fits (EVENT v) → call s (noted (EVENT v) c) ≡ call s c
   unfolding call noted
-  event-same q f = ap (λ (r : Refusal). answering r (noted EVENT c) s) (event-refusal f ∙ ap (λ (o : Op). refusal o c s) (sym q)) ∙ go (refusal (c .op) c s)
+  event-same v q f = ap (λ (r : Refusal). answering r (noted (EVENT v) c) s) (event-refusal v f ∙ ap (λ (o : Op). refusal o c s) (sym q)) ∙ go (refusal (c .op) c s)
     where
-      go : (r : Refusal) → answering r (noted EVENT c) s ≡ answering r c s
-      go accepted = unfold answering noted in (event-accept f ∙ ap (λ (o : Op). accept o c s) (sym q))
-      go (refused e) = unfold answering noted in (event-refuse e ∙ ap (λ (o : Op). refuse o e c s) (sym q))
+      go : (r : Refusal) → answering r (noted (EVENT v) c) s ≡ answering r c s
+      go accepted = unfold answering noted in (event-accept v f ∙ ap (λ (o : Op). accept o c s) (sym q))
+      go (refused e) = unfold answering noted in (event-refuse v e ∙ ap (λ (o : Op). refuse o e c s) (sym q))
 
   noted-same : (o : Op) → c .op ≡ o → Fits o → call s (noted o c) ≡ call s c
   noted-same OPEN q f = unfold noted in filled-same c full s
   noted-same CLOSE q f = unfold noted in filled-same c full s
   noted-same ABORT q f = unfold noted in filled-same c full s
-  noted-same EVENT q f = event-same q f
+  noted-same (EVENT v) q f = event-same v q f
   noted-same (COMMAND n) q f = unfold noted in filled-same c full s
 
   pub said-same : Fits (c .op) → call s (said c) ≡ call s c
@@ -189,7 +189,7 @@ unfolding ofParty onK project badMap
 ours-fits p s c t full OPEN u = tt
 ours-fits p s c t full CLOSE u = tt
 ours-fits p s c t full ABORT u = tt
-ours-fits p s c t full EVENT u =
+ours-fits p s c t full (EVENT v) u =
     let e = length-map (s .channels) (mask p) in
     let b = not (ltb (c .map) (2 ^ length (s .channels))) in
     (omega (arith, e, leb→le (length (s .channels)) 8 (parts s t .most)), rw e (and-left (not b) _ u))
@@ -284,7 +284,7 @@ unfolding ofK ofParty
 party-of p OPEN c s t = t
 party-of p CLOSE c s t = t
 party-of p ABORT c s t = and-right (eqb (c .key) (p .key)) (p .mine (c .id)) t
-party-of p EVENT c s t = t
+party-of p (EVENT v) c s t = t
 party-of p (COMMAND n) c s t = t
 
 also : (o : Op) → T (maySend o) → T (mayAlso o || maySend o)
@@ -292,7 +292,7 @@ unfolding maySend mayAlso
 also OPEN t = t
 also CLOSE t = t
 also ABORT t = t
-also EVENT t = t
+also (EVENT v) t = t
 also (COMMAND n) t = go (eqb n 9) t
   where
     go : (b : Bool) → T (not (eqb n 32) && not b) → T (b || (not (eqb n 32) && not b))

@@ -183,9 +183,9 @@ accept-wide k OPEN c s p r e =
     go false x = x
 accept-wide k CLOSE c s p r e = settling-wide k (doClose c s) (doClose c (widen k s)) (close-wide k s c (locks-fit s p)) (sound-fit (doClose c s .next) (close-sound c s p))
 accept-wide k ABORT c s p r e = settling-wide k (doAbort c s) (doAbort c (widen k s)) (abort-wide k c s) (sound-fit (doAbort c s .next) (abort-sound c s p))
-accept-wide k EVENT c s p r e =
+accept-wide k (EVENT v) c s p r e =
     let n = first-none _ e in
-    settling-wide k (doEvent c s) (doEvent c (widen k s)) (event-wide k s c (map-on c s (n .1 .1 .0))) (sound-fit (doEvent c s .next) (event-sound c s p))
+    settling-wide k (doEvent v c s) (doEvent v c (widen k s)) (event-wide k s v c (map-on c s (n .1 .1 .0))) (sound-fit (doEvent v c s .next) (event-sound v c s p))
 accept-wide k (COMMAND j) c s p r e =
     let n = first-none _ e in
     settling-wide k (perform (kind j) c s) (perform (kind j) c (widen k s)) (perform-wide k (kind j) c s p (n .1 .1 .1 .1 .1 .1 .1 .0))
@@ -202,7 +202,7 @@ unfolding refuse silent finished
 refuse-wide k OPEN x c s = refl
 refuse-wide k CLOSE x c s = refl
 refuse-wide k ABORT x c s = refl
-refuse-wide k EVENT x c s = refl
+refuse-wide k (EVENT v) x c s = refl
 refuse-wide k (COMMAND n) x c s = go (leb x 5)
   where
     a : Outcome
@@ -264,7 +264,7 @@ module _ (k : ℕ) (c : Call) (s : State) where
     accepted-wide OPEN e = let n = first-none _ e in none-first _ (sane, (n .1 .0, (n .1 .1 .0, (badMaps-wide (n .1 .1 .1 .0), (n .1 .1 .1 .1 .0, tt)))))
     accepted-wide CLOSE e = let n = first-none _ e in none-first _ (sane, n .1)
     accepted-wide ABORT e = let n = first-none _ e in none-first _ (sane, n .1)
-    accepted-wide EVENT e = let n = first-none _ e in none-first _ (sane, (n .1 .0, (badMap-wide (n .1 .1 .0), tt)))
+    accepted-wide (EVENT v) e = let n = first-none _ e in none-first _ (sane, (n .1 .0, (badMap-wide (n .1 .1 .0), tt)))
     accepted-wide (COMMAND j) e =
         let n = first-none _ e in
         let i : T (not (among (c .id) (ids (widen k s)))) = rw (ids-wide k s) (n .1 .1 .1 .0) in

@@ -7,11 +7,11 @@ use lib.Dec.{T, eqb, ltb, ltb→lt}
 use lib.ListN.{length, length-map}
 use Rattle.machine.specs.Numbers.{nowait, synced, NOALLOCATION, NONE, ALLOCFAILED}
 use Rattle.machine.specs.Lists.{if_then_else_, all, keep}
-use Rattle.machine.specs.State.{Channel, Lock, Request, State, Reply, Answer, Outcome, Call, free, withChannels, withLocks, withWaiters, frees}
+use Rattle.machine.specs.State.{Channel, Lock, Request, State, Reply, Answer, Outcome, Event, CYCLE·ENDED, GAVE·UP, Call, free, withChannels, withLocks, withWaiters, frees}
 use Rattle.machine.specs.Maps.{minus, lowest, named, change, at}
 use Rattle.machine.specs.Choosing.{Look, fails, held, grants, look}
 use Rattle.machine.specs.Granting.{keyFor, aborted, abortedIn, cut, cutReplies, dropped, granted}
-use Rattle.machine.specs.Commands.{matches, matching, mismatch, done, pending, finished, silent, freed, setLock, setWrites, cleared, isEmpty, ended, freeing, freeingReplies, each, eachChange, doFree, doLock, front, playing, doRead, writeOf, doWrite, doWaitcycle, inProgress, frontOnly, frontGone, onFront, rememberFinish, doFinish, doEvent, owned, doClose, abortedWrites, abortedWaits, without, ledBy, abortedBy, leaving, doAbort}
+use Rattle.machine.specs.Commands.{matches, matching, mismatch, done, pending, finished, silent, freed, setLock, setWrites, cleared, isEmpty, ended, freeing, freeingReplies, each, eachChange, doFree, doLock, front, playing, doRead, writeOf, doWrite, doWaitcycle, inProgress, frontOnly, frontGone, frontCycled, cutFronts, frontReplies, eventReplies, happened, onFront, rememberFinish, doFinish, doEvent, owned, doClose, abortedWrites, abortedWaits, without, ledBy, abortedBy, leaving, doAbort}
 use Rattle.machine.specs.Allocating.{enqueue, waits, allocating, doAllocate, opening, doOpen}
 use Rattle.machine.specs.Kinds.{Kind, RESET, READ, WRITE, UPDATE, CLEAR, STOP, START, FLUSH, FREE, SETPREC, LOCK, ALLOCATE, UNKNOWN}
 use Rattle.machine.specs.Call.{perform}
@@ -155,6 +155,10 @@ module _ (k : ℕ) (s : State) where
       go false true = refl
       go false false = refl
 
+  -- the front writes that are cut, and who waited for a cycle of theirs
+  fronts-says : (m : ℕ) → m < 2 ^ length cs → frontReplies m (widen k s) ≡ frontReplies m s
+  fronts-says m l = ap₂ (λ (x y : List Reply). x ++ y) (ap (abortedIn m) (fronts-wide k cs) ∙ aborted-wide k m (map frontOnly cs)) (cut-says k m s l)
+
   pub finish-wide : (c : Call) → c .map < 2 ^ length cs → doFinish c (widen k s) ≡ widenO k (doFinish c s)
   unfolding doFinish
   finish-wide c h =
@@ -168,27 +172,32 @@ module _ (k : ℕ) (s : State) where
       l : m < 2 ^ length cs
       l = inProgress-small (matching (c .key) (c .map) cs) cs
 
-      says : (x : ℕ) (u : State) → List Reply
-      says x u = abortedIn x (map frontOnly (u .channels)) ++ cutReplies x u
+      n : ℕ
+      n = inProgress (matching (c .key) (c .map) (wider k cs)) (wider k cs)
 
-      same : says m (widen k s) ≡ says m s
-      same = ap₂ (λ (x y : List Reply). x ++ y) (ap (abortedIn m) (fronts-wide k cs) ∙ aborted-wide k m (map frontOnly cs)) (cut-says k m s l)
-
-      go : each 11 c (says (inProgress (matching (c .key) (c .map) (wider k cs)) (wider k cs)) (widen k s)) (withChannels (change frontGone (inProgress (matching (c .key) (c .map) (wider k cs)) (wider k cs)) (wider k cs)) (cut (inProgress (matching (c .key) (c .map) (wider k cs)) (wider k cs)) (widen k s))) (widen k s)
-          ≡ widenO k (each 11 c (says m s) (withChannels (change frontGone m cs) (cut m s)) s)
+      go : each 11 c (frontReplies n (widen k s)) (cutFronts n (widen k s)) (widen k s) ≡ widenO k (each 11 c (frontReplies m s) (cutFronts m s) s)
       go =
-          ap (λ (x : ℕ). each 11 c (says x (widen k s)) (withChannels (change frontGone x (wider k cs)) (cut x (widen k s))) (widen k s))
+          ap (λ (x : ℕ). each 11 c (frontReplies x (widen k s)) (cutFronts x (widen k s)) (widen k s))
           (ap (λ (x : ℕ). inProgress x (wider k cs)) (matching-wide (c .key) k (c .map) cs) ∙ inProgress-wide k (matching (c .key) (c .map) cs) cs)
-          ∙ ap₂ (λ (x : List Reply) (u : State). each 11 c x u (widen k s)) same (cut-state frontGone m l)
-          ∙ each-wide 11 c (says m s) (withChannels (change frontGone m cs) (cut m s)) h
+          ∙ ap₂ (λ (x : List Reply) (u : State). each 11 c x u (widen k s)) (fronts-says m l) (cut-state frontGone m l)
+          ∙ each-wide 11 c (frontReplies m s) (cutFronts m s) h
 
-  pub event-wide : (c : Call) → c .map < 2 ^ length cs → doEvent c (widen k s) ≡ widenO k (doEvent c s)
+  event-says : (v : Event) (m : ℕ) → m < 2 ^ length cs → eventReplies v m (widen k s) ≡ eventReplies v m s
+  unfolding eventReplies
+  event-says CYCLE·ENDED m l = rw (at-wide k m cs, on-wide k m cs l) refl
+  event-says GAVE·UP m l = fronts-says m l
+
+  happened-wide : (v : Event) (m : ℕ) → m < 2 ^ length cs → happened v m (widen k s) ≡ widen k (happened v m s)
+  unfolding happened
+  happened-wide CYCLE·ENDED m l = cut-state frontCycled m l
+  happened-wide GAVE·UP m l = cut-state frontGone m l
+
+  pub event-wide : (v : Event) (c : Call) → c .map < 2 ^ length cs → doEvent v c (widen k s) ≡ widenO k (doEvent v c s)
   unfolding doEvent silent
-  event-wide c h =
+  event-wide v c h =
       let m = lowest (length cs) (c .map) in
       let l = lowest-small (length cs) (c .map) in
-      rw (low-wide (c .map) h, at-wide k m cs, on-wide k m cs l, change-wide frontGone k m cs l, cut-wide k m s l)
-      (if-widen (playing (at m cs)) _ _)
+      rw (low-wide (c .map) h, at-wide k m cs, event-says v m l, happened-wide v m l) (if-widen (playing (at m cs)) _ _)
 
   pub close-wide : (c : Call) → Locks (length cs) (s .locks) → doClose c (widen k s) ≡ widenO k (doClose c s)
   unfolding doClose silent

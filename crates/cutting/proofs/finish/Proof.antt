@@ -1,8 +1,7 @@
--- `finish` meets its contract: the channels that have a write in progress are lent with it alone, so it goes with who waits for it, and what
--- stands behind it is left. Assumes nothing.
+-- `finish` meets its contract: the front writes of the channels that match and have one in progress are cut. Assumes nothing.
 use native.Mathlib.Omega.{arith}
+use Rattle.cutting.proofs.Laws.{finish-ready, finish-room, told-finish}
 use borrow.Author.Needs.{needs}
-use Rattle.cutting.proofs.Laws.{finish-asks, finish-room, told-finish}
 use Rattle.cutting.proofs.finish.Statement.{statement}
 use Rattle.cutting.proofs.finish.Tie as tie
 
@@ -12,24 +11,15 @@ matching-requires c κs = search needs
 which-requires : tie.Need-which-requires
 which-requires c κs = search needs
 
-change-named-requires : tie.Need-change-named-requires
-change-named-requires c κs = search needs
-
-drop-named-requires : tie.Need-drop-named-requires
-drop-named-requires c κs =
-    let s = c .before .before .before .before .before .before .before .before .before in
-    finish-asks (s .args .r) (c .before .before .before .before .before .matching .ensures) (c .before .before .before .before .which .ensures) (c .before .before .before .change-named .ensures) (s .pre .0)
-
-change-named-requires-2 : tie.Need-change-named-requires-2
-change-named-requires-2 c κs = search needs
+cut-fronts-requires : tie.Need-cut-fronts-requires
+cut-fronts-requires c κs = finish-ready (c .before .before .before .before .before .before .before .args .r) (c .before .before .before .matching .ensures) (c .before .before .which .ensures) (c .before .before .before .before .before .before .before .pre .0)
 
 verdict-requires : tie.Need-verdict-requires
 verdict-requires c κs = search needs
 
 finished-requires : tie.Need-finished-requires
 finished-requires c κs =
-    let s = c .before .before .before .before .before .before .before .before .before .before .before .before .before .before .before .before .before .before in
-    let room = finish-room (s .args .r) (c .before .before .before .before .before .before .before .before .before .before .before .before .before .before .matching .ensures) (c .before .before .before .before .before .before .before .before .before .before .before .before .before .which .ensures) (c .before .before .before .before .before .before .before .before .before .before .before .before .change-named .ensures) (s .pre .0) (c .before .before .before .before .before .before .before .before .drop-named .ensures) in
+    let room = finish-room (c .before .before .before .before .before .before .before .before .before .before .before .before .before .before .before .args .r) (c .before .before .before .before .before .before .before .before .before .before .before .matching .ensures) (c .before .before .before .before .before .before .before .before .before .before .which .ensures) (c .before .before .before .before .before .before .before .before .before .before .before .before .before .before .before .pre .0) (c .before .before .before .before .before .before .before .cut-fronts .ensures) in
     omega (arith, room)
 
 same-length : tie.Need-same-length
@@ -40,9 +30,8 @@ same-length-2 c = search needs
 
 returns : tie.Need-returns
 returns c =
-    let s = c .before .before .before .before .before .before .before .before .before .before .before .before .before .before .before .before .before .before .before .before .before in
-    told-finish (s .args .r) (c .before .before .before .before .before .before .before .before .before .before .before .before .before .before .before .before .before .matching .ensures) (c .before .before .before .before .before .before .before .before .before .before .before .before .before .before .before .before .which .ensures) (c .before .before .before .before .before .before .before .before .before .before .before .before .before .before .before .change-named .ensures) (s .pre .0) (c .before .before .before .before .before .before .before .before .before .before .before .drop-named .ensures)
-    (s .pre .1) (s .pre .2) (s .pre .3) (c .before .before .before .before .before .before .change-named2 .ensures) (c .before .before .before .before .verdict .ensures) (c .before .before .finished .ensures)
+    let p = c .before .before .before .before .before .before .before .before .before .before .before .before .before .before .before .before .before .before .pre in
+    told-finish (c .before .before .before .before .before .before .before .before .before .before .before .before .before .before .before .before .before .before .args .r) (c .before .before .before .before .before .before .before .before .before .before .before .before .before .before .matching .ensures) (c .before .before .before .before .before .before .before .before .before .before .before .before .before .which .ensures) (p .0) (c .before .before .before .before .before .before .before .before .before .before .cut-fronts .ensures) (p .1) (p .2) (p .3) (c .before .before .before .before .verdict .ensures) (c .before .before .finished .ensures)
 
 pub finish-spec : {M : Type 1} → statement M
 finish-spec =
@@ -50,9 +39,7 @@ finish-spec =
     (tie.spec
     matching-requires
     which-requires
-    change-named-requires
-    drop-named-requires
-    change-named-requires-2
+    cut-fronts-requires
     verdict-requires
     finished-requires
     same-length

@@ -21,6 +21,12 @@ enum-told-3 c = search needs
 keep-finish-requires : tie.Need-keep-finish-requires
 keep-finish-requires c κs = search needs
 
+enum-told-4 : tie.Need-enum-told-4
+enum-told-4 c = search needs
+
+next-requires : tie.Need-next-requires
+next-requires c κs = search needs
+
 returns : tie.Need-returns
 returns c = rw (c .before .enum-told .given .1) (c .set-tone .ensures)
 
@@ -29,6 +35,9 @@ returns-2 c = rw (c .before .enum-told2 .given .1) (c .keep-tone .ensures)
 
 returns-3 : tie.Need-returns-3
 returns-3 c = rw (c .before .enum-told3 .given .1) (c .keep-finish .ensures)
+
+returns-4 : tie.Need-returns-4
+returns-4 c = rw (c .before .enum-told4 .given .1) (c .next .ensures)
 
 pub retuned-spec : {M : Type 1} → statement M
 retuned-spec =
@@ -40,6 +49,9 @@ retuned-spec =
     keep-tone-requires
     enum-told-3
     keep-finish-requires
+    enum-told-4
+    next-requires
     returns
     returns-2
-    returns-3)
+    returns-3
+    returns-4)

@@ -1,7 +1,5 @@
--- `tune_each` meets its contract: the map names the channels with a write in progress, so each has a front whose entry is a write's, and no
--- struct changes. Assumes nothing.
-use Rattle.store.proofs.Store.{held-length}
-use Rattle.tuning.proofs.Laws.{tune-asks, told-tune}
+-- `tune_each` meets its contract: the writes in progress at the channels that match are retuned, with the numbers given. Assumes nothing.
+use Rattle.tuning.proofs.Laws.{told-tune}
 use borrow.Author.Needs.{needs}
 use Rattle.tuning.proofs.tune_each.Statement.{statement}
 use Rattle.tuning.proofs.tune_each.Tie as tie
@@ -9,17 +7,11 @@ use Rattle.tuning.proofs.tune_each.Tie as tie
 matching-requires : tie.Need-matching-requires
 matching-requires c κs = search needs
 
-which-requires : tie.Need-which-requires
-which-requires c κs = search needs
-
 of-requires : tie.Need-of-requires
 of-requires c κs = search needs
 
-tune-named-requires : tie.Need-tune-named-requires
-tune-named-requires c κs =
-    let s = c .before .before .before .before .before .before .before .before in
-    let h = s .pre .0 .held in
-    (held-length h, tune-asks (s .args .r) h (c .before .before .before .matching .ensures) (c .before .before .which .ensures))
+tune-fronts-requires : tie.Need-tune-fronts-requires
+tune-fronts-requires c κs = search needs
 
 verdict-requires : tie.Need-verdict-requires
 verdict-requires c κs = search needs
@@ -35,19 +27,16 @@ same-length-2 c = search needs
 
 returns : tie.Need-returns
 returns c =
-    let s = c .before .before .before .before .before .before .before .before .before .before .before .before .before .before .before .before in
-    let p = s .pre .0 in
-    told-tune (s .args .r) (p .held) (c .before .before .before .before .before .before .before .before .before .before .before .matching .ensures) (c .before .before .before .before .before .before .before .before .before .before .which .ensures) (s .args .how) _ (c .before .before .before .before .before .before .before .before .before .of .ensures) (c .before .before .before .before .before .before .before .tune-named .ensures)
-    (s .pre .1) (p .room) (c .before .before .before .before .verdict .ensures) (c .before .before .finished .ensures)
+    let p = c .before .before .before .before .before .before .before .before .before .before .before .before .before .before .before .pre .0 in
+    told-tune (c .before .before .before .before .before .before .before .before .before .before .before .before .before .before .before .args .r) (p .held) (c .before .before .before .before .before .before .before .before .before .before .matching .ensures) (c .before .before .before .before .before .before .before .before .before .before .before .before .before .before .before .args .how) _ (c .before .before .before .before .before .before .before .before .before .of .ensures) (c .before .before .before .before .before .before .before .tune-fronts .ensures) (c .before .before .before .before .before .before .before .before .before .before .before .before .before .before .before .pre .1) (p .room) (c .before .before .before .before .verdict .ensures) (c .before .before .finished .ensures)
 
 pub tune-each-spec : {M : Type 1} → statement M
 tune-each-spec =
     tie.close
     (tie.spec
     matching-requires
-    which-requires
     of-requires
-    tune-named-requires
+    tune-fronts-requires
     verdict-requires
     finished-requires
     same-length

@@ -1,0 +1,12 @@
+pub mod Lists
+pub mod Maps
+pub mod Choosing
+pub mod Granting
+pub mod Commands
+pub mod Settling
+pub mod Allocating
+pub mod Sound
+pub mod Refusals
+pub mod Calls
+pub mod OldLogs
+pub mod Witness

@@ -1,0 +1,3 @@
+pub mod Old
+pub mod Now
+pub mod OldLogs
