@@ -20,7 +20,7 @@ static uint8_t replies[QAMHUDEER_REPLIES_SIZE], answer[QAMHUDEER_ANSWER_SIZE];
 
 static struct Arbiter arbiter;
 static struct Reply record[REQUESTS];
-static struct Replies list = {record, REQUESTS, 0};
+static struct Replies list = {.record = record, .capacity = REQUESTS};
 
 static void read_log(void)
 {
@@ -43,8 +43,8 @@ static void read_log(void)
 
 static size_t library_call(const struct Frame *f)
 {
-    return qamhudeer_call(f->operation, f->id, f->flags, f->map, (uint8_t)f->precedence, f->key, f->combination, f->length,
-                          state, sizeof state, table, sizeof table, replies, sizeof replies, answer, sizeof answer);
+    return qamhudeer_call(f->desk, f->operation, f->id, f->flags, f->map, (uint8_t)f->precedence, f->key, f->combination,
+                          f->length, state, sizeof state, table, sizeof table, replies, sizeof replies, answer, sizeof answer);
 }
 
 static void library_fresh(void)
@@ -60,11 +60,12 @@ static int same_reply(const uint8_t *b, const struct Reply *r)
 
 static int same_outcome(size_t n, const struct Answer *a)
 {
-    if (n != list.count || answer[0] != a->outstanding || answer[1] != (uint8_t)a->error || answer[2] != a->map
-        || 256u * answer[3] + answer[4] != a->key || answer[5] != a->last)
+    if (n != arbiter_replied(&list) || answer[0] != a->outstanding || answer[1] != (uint8_t)a->error || answer[2] != a->map
+        || 256u * answer[3] + answer[4] != a->key || answer[5] != a->last || answer[6] != list.count[DESK_A]
+        || answer[7] != list.count[DESK_B])
         return 0;
-    for (size_t i = 0; i < n; i++)
-        if (!same_reply(replies + i * QAMHUDEER_REPLY_SIZE, &record[i]))
+    for (size_t at = 0; at < REQUESTS; at++)
+        if (at % HALF < list.count[at / HALF] && !same_reply(replies + at * QAMHUDEER_REPLY_SIZE, &record[at]))
             return 0;
     return 1;
 }

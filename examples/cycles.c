@@ -20,14 +20,15 @@ static const uint8_t thrice[QAMHUDEER_NUMBERS_SIZE] = {0, 3, 0, 1, 0xFC, 64};
 static const uint8_t softer[QAMHUDEER_NUMBERS_SIZE] = {0, 0, 0, 1, 0xFC, 16};
 static const uint8_t endless[QAMHUDEER_NUMBERS_SIZE] = {0, 0, 0, 1, 0xFC, 64};
 
-/* One call, told line by line: the replies in order, then the answer. */
+/* One call of desk A, the only one here, told line by line: the replies in order, then the answer. */
 static void call(const char *what, uint8_t op, uint8_t id, uint8_t flags, unsigned key, const uint8_t *bytes, size_t n)
 {
-    size_t i, count = qamhudeer_call(op, id, flags, hall[0], 0, (uint16_t)key, bytes, n, state, sizeof state, table, sizeof table,
-                                     replies, sizeof replies, answer, sizeof answer);
+    size_t i;
 
+    qamhudeer_call(QAMHUDEER_DESK_A, op, id, flags, hall[0], 0, (uint16_t)key, bytes, n, state, sizeof state, table, sizeof table,
+                   replies, sizeof replies, answer, sizeof answer);
     printf("%s\n", what);
-    for (i = 0; i < count; i++) {
+    for (i = 0; i < answer[QAMHUDEER_ANSWER_REPLIES_A]; i++) {
         const uint8_t *r = replies + i * QAMHUDEER_REPLY_SIZE;
 
         printf("  reply to %d: command %d, error %d, map %d\n", r[QAMHUDEER_REPLY_ID], r[QAMHUDEER_REPLY_COMMAND],

@@ -21,18 +21,25 @@ static unsigned key_in(const uint8_t *bytes)
     return 256u * bytes[0] + bytes[1];
 }
 
-/* One call, told line by line: the replies in order, then the answer. */
-static void call(const char *what, uint8_t op, uint8_t id, uint8_t flags, uint8_t map, int prec, unsigned key, const uint8_t *combos, size_t n)
+/* So many replies, from this record on. */
+static void tell_replies(size_t first, size_t count)
 {
-    size_t i, count;
-    count = qamhudeer_call(op, id, flags, map, (uint8_t)prec, (uint16_t)key, combos, n, state, sizeof state, table, sizeof table,
-                           replies, sizeof replies, answer, sizeof answer);
-    printf("%s\n", what);
-    for (i = 0; i < count; i++) {
+    size_t i;
+    for (i = first; i < first + count; i++) {
         const uint8_t *r = replies + i * QAMHUDEER_REPLY_SIZE;
         printf("  reply to %d: command %d, error %d, map %d, key %u\n", r[QAMHUDEER_REPLY_ID], r[QAMHUDEER_REPLY_COMMAND],
                QAMHUDEER_ERROR(r[QAMHUDEER_REPLY_ERROR]), r[QAMHUDEER_REPLY_MAP], key_in(r + QAMHUDEER_REPLY_KEY));
     }
+}
+
+/* One call of the desk that has the id, told line by line: the replies to A, those to B, then the answer. */
+static void call(const char *what, uint8_t op, uint8_t id, uint8_t flags, uint8_t map, int prec, unsigned key, const uint8_t *combos, size_t n)
+{
+    qamhudeer_call(id < QAMHUDEER_FIRST_OF_B ? QAMHUDEER_DESK_A : QAMHUDEER_DESK_B, op, id, flags, map, (uint8_t)prec, (uint16_t)key,
+                   combos, n, state, sizeof state, table, sizeof table, replies, sizeof replies, answer, sizeof answer);
+    printf("%s\n", what);
+    tell_replies(0, answer[QAMHUDEER_ANSWER_REPLIES_A]);
+    tell_replies(QAMHUDEER_FIRST_OF_B, answer[QAMHUDEER_ANSWER_REPLIES_B]);
     printf("  %s: error %d, map %d, key %u\n", answer[QAMHUDEER_ANSWER_OUTSTANDING] ? "outstanding" : "done",
            QAMHUDEER_ERROR(answer[QAMHUDEER_ANSWER_ERROR]), answer[QAMHUDEER_ANSWER_MAP], key_in(answer + QAMHUDEER_ANSWER_KEY));
 }
@@ -56,8 +63,9 @@ int main(void)
     call("its write ends", QAMHUDEER_CYCLE_ENDED, 0, 0, 2, 0, 0, first, 0);
     call("write to channel 0", CMD_WRITE, 4, 0, 1, 0, mine, first, 0);
 
-    /* Another desk wants channel 0 at a higher precedence. The channel is locked, so that it waits, and the lock is told. */
-    call("another desk allocates channel 0 at 20", ADCMD_ALLOCATE, 5, 0, 0, 20, 0, first, 1);
+    /* The other desk, whose ids begin at 32, wants channel 0 at a higher precedence. The channel is locked, so that it waits, and
+     * the lock is told. */
+    call("the other desk allocates channel 0 at 20", ADCMD_ALLOCATE, 32, 0, 0, 20, 0, first, 1);
 
     /* Freeing the channel ends the write, and the other desk gets its channel with a key of its own. */
     call("free channel 0", ADCMD_FREE, 6, IOF_QUICK, 1, 0, mine, first, 0);

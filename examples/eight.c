@@ -20,8 +20,8 @@ static void tell(const char *what)
 
 static void call(uint8_t op, uint8_t id, uint8_t map, int prec, uint16_t key, size_t n, const char *what)
 {
-    qamhudeer_call(op, id, IOF_QUICK, map, (uint8_t)prec, key, halls, n, state, sizeof state, table, sizeof table, replies,
-                   sizeof replies, answer, sizeof answer);
+    qamhudeer_call(QAMHUDEER_DESK_A, op, id, IOF_QUICK, map, (uint8_t)prec, key, halls, n, state, sizeof state, table, sizeof table,
+                   replies, sizeof replies, answer, sizeof answer);
     tell(what);
 }
 

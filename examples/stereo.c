@@ -18,8 +18,8 @@ static size_t count;
 /* An allocation from the list at this precedence. NOWAIT: it fails rather than wait. */
 static void allocate(uint8_t id, int prec)
 {
-    qamhudeer_call(ADCMD_ALLOCATE, id, IOF_QUICK | ADIOF_NOWAIT, 0, (uint8_t)prec, 0, maps, count, state, sizeof state, table, sizeof table,
-                   replies, sizeof replies, answer, sizeof answer);
+    qamhudeer_call(QAMHUDEER_DESK_A, ADCMD_ALLOCATE, id, IOF_QUICK | ADIOF_NOWAIT, 0, (uint8_t)prec, 0, maps, count, state, sizeof state,
+                   table, sizeof table, replies, sizeof replies, answer, sizeof answer);
     printf("allocation at %d: error %d, map %02X\n", prec, QAMHUDEER_ERROR(answer[QAMHUDEER_ANSWER_ERROR]), answer[QAMHUDEER_ANSWER_MAP]);
 }
 
@@ -42,8 +42,8 @@ int main(void)
 
     if (qamhudeer_fresh(4, state, sizeof state, table, sizeof table) != 0)
         return 1;
-    qamhudeer_call(QAMHUDEER_OPEN, 0, 0, 0, 0, 0, maps, 0, state, sizeof state, table, sizeof table, replies, sizeof replies, answer,
-                   sizeof answer);
+    qamhudeer_call(QAMHUDEER_DESK_A, QAMHUDEER_OPEN, 0, 0, 0, 0, 0, maps, 0, state, sizeof state, table, sizeof table, replies,
+                   sizeof replies, answer, sizeof answer);
 
     /* The first pair of the list, then the pair that is left. The third finds none, unless it may steal: from the lower of the two. */
     allocate(1, 10);

@@ -1,9 +1,11 @@
 /* qamhudeer.h: the audio.device arbiter for firmware in C.
  *
+ * Two desks, A and B, share one board, its channels and its waiting list. A has the request ids 0 to 31, B has 32 to 63.
+ *
  * The arbiter keeps nothing. The caller lends four pieces of memory to each call, as a pointer and a length:
  *   state    QAMHUDEER_STATE_SIZE bytes, kept from call to call
  *   table    QAMHUDEER_TABLE_SIZE bytes, the 64 request blocks, kept from call to call
- *   replies  QAMHUDEER_REPLIES_SIZE bytes, room for 64 replies
+ *   replies  QAMHUDEER_REPLIES_SIZE bytes, room for 64 replies, 32 for each desk
  *   answer   QAMHUDEER_ANSWER_SIZE bytes
  * A call also reads a list of combinations, or a write's numbers. No two of these five overlap, nobody else writes to them
  * during the call, and no pointer is null, also where its length is 0. There is no other duty: whatever the bytes are and
@@ -25,7 +27,7 @@ extern "C" {
 #define QAMHUDEER_STATE_SIZE 823 /* of either board */
 #define QAMHUDEER_TABLE_SIZE 1472
 #define QAMHUDEER_REPLIES_SIZE 384
-#define QAMHUDEER_ANSWER_SIZE 6
+#define QAMHUDEER_ANSWER_SIZE 8
 #define QAMHUDEER_REPLY_SIZE 6
 #define QAMHUDEER_CHANNEL_SIZE 70
 #define QAMHUDEER_PORT_SIZE 529
@@ -57,15 +59,25 @@ extern "C" {
 #define QAMHUDEER_PORT_STARTED 0 /* how many characters stand, at most 527 (two bytes) */
 #define QAMHUDEER_PORT_LINE 2    /* the characters; those behind the started ones mean nothing */
 
+/* ---- desks: any other number is no desk, and has no ids. OPEN, CLOSE and the events are the same from any desk. */
+
+#define QAMHUDEER_DESK_A 0
+#define QAMHUDEER_DESK_B 1
+#define QAMHUDEER_FIRST_OF_B 32 /* the first id of desk B, and the first record of the replies to it */
+
 /* ---- an answer */
 
 #define QAMHUDEER_ANSWER_OUTSTANDING 0 /* 1: replied when it ends; 0: done */
 #define QAMHUDEER_ANSWER_ERROR 1
 #define QAMHUDEER_ANSWER_MAP 2
-#define QAMHUDEER_ANSWER_KEY 3   /* two bytes */
-#define QAMHUDEER_ANSWER_EXTRA 5 /* CMD_READ's id; ABORT: 1 aborted, 0 not; else 255 */
+#define QAMHUDEER_ANSWER_KEY 3       /* two bytes */
+#define QAMHUDEER_ANSWER_EXTRA 5     /* CMD_READ's id, 255 for the other desk's write; ABORT: 1 aborted, 0 not; else 255 */
+#define QAMHUDEER_ANSWER_REPLIES_A 6 /* how many replies this call has made to desk A */
+#define QAMHUDEER_ANSWER_REPLIES_B 7 /* and to desk B */
 
-/* ---- a reply: record n begins at n * QAMHUDEER_REPLY_SIZE */
+/* ---- a reply: record n begins at n * QAMHUDEER_REPLY_SIZE. Those to desk A stand from record 0 on, those to desk B from record
+ * QAMHUDEER_FIRST_OF_B on, each in the order in which they were made; the answer says how many each desk has. Its id says whose
+ * a reply is, and not who called. */
 
 #define QAMHUDEER_REPLY_ID 0
 #define QAMHUDEER_REPLY_COMMAND 1
@@ -153,11 +165,12 @@ extern "C" {
 #endif
 
 /* Refusals of the arbiter's own; the state is as before. */
-#define QAMHUDEER_UNSOUND 1 /* the state and the table that were lent are not sound */
-#define QAMHUDEER_NOTOPEN 2 /* a command where no key is open; CLOSE where its key is not */
-#define QAMHUDEER_INUSE 3   /* the id is outstanding */
-#define QAMHUDEER_BADID 4   /* an id above 63 */
-#define QAMHUDEER_NOROOM 5  /* the reply list has room for fewer than 64 replies */
+#define QAMHUDEER_UNSOUND 1   /* the state and the table that were lent are not sound */
+#define QAMHUDEER_NOTOPEN 2   /* a command where no key is open; CLOSE where its key is not */
+#define QAMHUDEER_INUSE 3     /* the id is outstanding */
+#define QAMHUDEER_BADID 4     /* an id above 63 */
+#define QAMHUDEER_NOROOM 5    /* the reply list has room for fewer than 64 replies */
+#define QAMHUDEER_OTHERDESK 8 /* an id of the other desk's half; from a caller that is no desk, any id */
 
 /* Refusals of the maker of stereo lists, and of a port. */
 #define QAMHUDEER_BADWISH 11  /* a number above 2 */
@@ -174,19 +187,20 @@ extern "C" {
  * 1, and no byte has changed. */
 uint8_t qamhudeer_fresh(uint8_t channels, uint8_t *state, size_t state_len, uint8_t *table, size_t table_len);
 
-/* One call. The precedence is in two's complement, so that -128 to 127 are handed over as they are.
+/* One call of a desk. The precedence is in two's complement, so that -128 to 127 are handed over as they are.
  *
  * Where answer_len is not QAMHUDEER_ANSWER_SIZE: returns QAMHUDEER_UNANSWERED, and no byte has changed.
  *
- * Otherwise the answer holds six new bytes, and the result is the number of replies, at most 64. They stand in the list from
- * its first byte on, and the bytes behind them have not changed.
+ * Otherwise the answer holds eight new bytes, and the result is the number of replies to both desks, at most 64. Of the reply
+ * list the records of those to A, at most 32 from the first on, and of those to B, at most 32 from QAMHUDEER_FIRST_OF_B on, are
+ * new; no other byte of it has changed.
  *
  * Where the state's bytes hold no state (another length, or a mark that is neither 0 nor 1), and where state and table are not
- * sound: the answer is done, QAMHUDEER_UNSOUND, map 0, the key given, 255; there are no replies; no other byte has changed.
+ * sound: the answer is done, QAMHUDEER_UNSOUND, map 0, the key given, 255, 0, 0; there are no replies; no other byte has changed.
  *
  * Where they are sound: answer, replies, state and table are those of the rules, and state and table are sound again. After a
- * refusal (1 to 5, -1, -3, -4, -5) no byte of state and table has changed. */
-size_t qamhudeer_call(uint8_t op, uint8_t id, uint8_t flags, uint8_t map, uint8_t prec, uint16_t key,
+ * refusal (1 to 5, 8, -1, -3, -4, -5) no byte of state and table has changed. */
+size_t qamhudeer_call(uint8_t desk, uint8_t op, uint8_t id, uint8_t flags, uint8_t map, uint8_t prec, uint16_t key,
                       const uint8_t *combos, size_t combos_len,
                       uint8_t *state, size_t state_len,
                       uint8_t *table, size_t table_len,
@@ -194,13 +208,14 @@ size_t qamhudeer_call(uint8_t op, uint8_t id, uint8_t flags, uint8_t map, uint8_
                       uint8_t *answer, size_t answer_len);
 
 /* A log that comes in fragments, of any length and some of them empty: the lines of frames that docs/desk.md shows, as a
- * service port delivers them. The port keeps what stands of a line; state and table are those of the calls.
+ * service port delivers them. A frame with an id of 32 or more is desk B's, any other A's. The port keeps what stands of a line;
+ * state and table are those of the calls.
  *
  * qamhudeer_feed takes the fragment up to its first LF, or all of it, and *used is how many bytes that are. Where a line has
- * ended it is answered: its replies and its answer, a line each, stand at the front of `out`, and *written is their length;
- * otherwise *written is 0. Call it again with the rest of the fragment until all is used. qamhudeer_feed_end says that the log
- * has ended: what stands of a last line is answered as a line, and the port is then as fresh; where nothing stands, nothing is
- * written.
+ * ended it is answered: its replies, those to A first, and its answer, a line each, stand at the front of `out`, and *written is
+ * their length; otherwise *written is 0. Call it again with the rest of the fragment until all is used. qamhudeer_feed_end says
+ * that the log has ended: what stands of a last line is answered as a line, and the port is then as fresh; where nothing stands,
+ * nothing is written.
  *
  * Both return 0; and before anything is taken QAMHUDEER_UNSOUND where port_len is not QAMHUDEER_PORT_SIZE or more than 527
  * characters are said to stand in it, then QAMHUDEER_TOOSMALL where out_len is below QAMHUDEER_ROOM_SIZE. After a refusal *used

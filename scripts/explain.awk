@@ -1,5 +1,5 @@
-# Reads a log, and beside it the file 'output', what the program wrote for it with '--show', on a board of so many channels;
-# writes the same in words. The program shows no queue, so which request waits on which channel, what is remembered there and
+# Reads a log of two desks, and beside it the file 'output', what the program wrote for it with '--show', on a board of so many
+# channels; writes the same in words. The program shows no queue, so which request waits on which channel, what is remembered there and
 # how many cycles a write has left is followed from the calls and the replies. ./explain runs it. POSIX awk.
 
 BEGIN {
@@ -41,6 +41,11 @@ BEGIN {
     reason[4] = "the id is above 63"
     reason[5] = "the reply list is too short"
     reason[7] = "the line is malformed"
+}
+
+# The desk of an id: A has 0 to 31, B all others.
+function desk(id) {
+    return id < 32 ? "A" : "B"
 }
 
 # ---- Numbers
@@ -182,10 +187,12 @@ function add_numbers(text, op) {
         add((op == 3 ? cycle_words(cycles(text)) ", " : "") tone_words(text))
 }
 
-# The fields that the call reads.
+# The desk, and the fields that the call reads. The events are no desk's.
 function say_call(text,    op) {
     op = byte(text, 0)
     words = ""
+    if (op != 243 && op != 244)
+        add("desk " desk(byte(text, 1)))
     if (op < 240 || op > 244 || op == 242)
         add("id " byte(text, 1))
     if (op < 240 || op > 244) {
@@ -314,7 +321,7 @@ function say_remembered(    c) {
 function say_reply(text,    number) {
     number = signed(byte(text, 3))
     words = ""
-    add("to id " byte(text, 1) " " call_name(byte(text, 2)) ": " error[number])
+    add("to " desk(byte(text, 1)) ", id " byte(text, 1) " " call_name(byte(text, 2)) ": " error[number])
     if (byte(text, 4) != 0)
         add(on_channels(byte(text, 4)))
     add(key_words(pair(text, 5)))
@@ -375,7 +382,7 @@ function say_answer(text, call,    op, number, map, last) {
     if (map != 0 && op != 243 && op != 244)
         add(on_channels(map))
     if (op == 2 && number == 0)
-        add(last == 255 ? "no write plays" : "the write of id " last " plays")
+        add(last == 255 ? "no write of " desk(byte(call, 1)) "'s plays" : "the write of id " last " plays")
     if (op == 14 && number == 0 && byte(text, 0) == 160)
         add("no write plays")
     if (number != 7)

@@ -74,12 +74,28 @@ static unsigned matching(const struct Arbiter *a, unsigned map, uint16_t key)
 
 /* ---- Replies ---- */
 
-/* A call replies each id at most once, so 64 records are enough. */
+/* "Desk A has ids 0 to 31, desk B 32 to 63." */
+unsigned arbiter_desk(unsigned id)
+{
+    return id < HALF ? DESK_A : DESK_B;
+}
+
+size_t arbiter_replied(const struct Replies *r)
+{
+    return r->count[DESK_A] + r->count[DESK_B];
+}
+
+/* "Replies for desk B go into the reply list from record 32 onward, those for A before it."
+   A call replies each id at most once, so 32 records a desk are enough. */
 static void add_reply(struct Replies *r, uint8_t id, uint8_t command,
                       int error, unsigned map, uint16_t key)
 {
-    struct Reply *record = &r->record[r->count++];
+    unsigned desk = arbiter_desk(id);
+    size_t at = desk * HALF + r->count[desk];
+    struct Reply *record = &r->record[at];
 
+    r->made[arbiter_replied(r)] = (uint8_t)at;
+    r->count[desk]++;
     record->id = id;
     record->command = command;
     record->error = (int8_t)error;
@@ -512,9 +528,11 @@ static struct Answer on_one_channel(struct Arbiter *a, const struct Frame *f,
         insert_id(&a->cycles, a->cycles.count, f->id);
         return leave_outstanding(a, f, r);
     }
-    /* "The id at the front, or 255 if the queue is empty or the channel stopped." It is
-       read before the walk, which may end that write. */
-    if (f->operation == CMD_READ && in_progress(channel))
+    /* "The id at the front, or 255 if the queue is empty or the channel stopped." Request
+       #109: and "255 for the other desk's write". It is read before the walk, which may end
+       that write. */
+    if (f->operation == CMD_READ && in_progress(channel)
+        && arbiter_desk(channel->writes.id[0]) == f->desk)
         id = channel->writes.id[0];
     made = finish(a, f, r, DONE, 1u << c, f->key);
     made.last = (uint8_t)id;
@@ -582,6 +600,15 @@ static struct Answer for_each_channel(struct Arbiter *a, const struct Frame *f,
 
 /* ---- Refusals of form ---- */
 
+/* Request #109: "A command or ABORT naming an id of the other half gets 8, right after the
+   check for 4 and treated like it." What is no desk has no half, so that all ids are others'. */
+static int id_error(const struct Frame *f)
+{
+    if (f->id >= REQUESTS)
+        return REFUSED_ID;
+    return arbiter_desk(f->id) == f->desk ? DONE : REFUSED_DESK;
+}
+
 static int known_command(unsigned command)
 {
     return (command >= CMD_RESET && command <= ADCMD_WAITCYCLE) || command == ADCMD_ALLOCATE;
@@ -614,13 +641,13 @@ static int command_error(const struct Arbiter *a, const struct Frame *f)
 
 /* ---- The calls ---- */
 
-/* "Order: 1, 5, 4, 3, 2, -3, -4, -5, ... then the key or allocation rule." */
+/* "Order: 1, 5, 4, 3, 2, -3, -4, -5, ... then the key or allocation rule", with 8 behind 4. */
 static struct Answer command(struct Arbiter *a, const struct Frame *f, struct Replies *r)
 {
-    int error;
+    int error = id_error(f);
 
-    if (f->id >= REQUESTS)
-        return refuse(f, REFUSED_ID);
+    if (error != DONE)
+        return refuse(f, error);
     if (a->request[f->id].command != 0)
         return refuse(f, REFUSED_OUTSTANDING);
     if (a->open.count == 0)
@@ -686,9 +713,10 @@ static struct Answer abort_request(struct Arbiter *a, const struct Frame *f,
     struct Ids *place = NULL;
     struct Answer made = answer(DONE, 0, f->key);
     unsigned front = 0;
+    int error = id_error(f);
 
-    if (f->id >= REQUESTS)
-        return refuse(f, REFUSED_ID);
+    if (error != DONE)
+        return refuse(f, error);
     if (a->request[f->id].command == ADCMD_ALLOCATE)
         place = &a->waiting;
     if (a->request[f->id].command == ADCMD_WAITCYCLE)
@@ -766,7 +794,7 @@ static struct Answer event(struct Arbiter *a, const struct Frame *f, struct Repl
 
 struct Answer arbiter_call(struct Arbiter *a, const struct Frame *f, struct Replies *r)
 {
-    r->count = 0;
+    r->count[DESK_A] = r->count[DESK_B] = 0;
 #ifndef TRUSTING /* a build that takes every state for sound, for bench/run --trusting alone */
     if (!arbiter_sound(a))
         return refuse(f, REFUSED_UNSOUND);

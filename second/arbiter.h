@@ -8,6 +8,8 @@
 
 #define MOST_CHANNELS 8u                    /* a map is one byte */
 #define REQUESTS 64u
+#define DESKS 2u
+#define HALF (REQUESTS / DESKS)             /* the ids of one desk, and the records of its replies */
 #define COMBINATIONS 16u
 #define LAST_OF_KEYS 65535u
 #define MOST_OPENS 32u                      /* entries of the table of open keys */
@@ -34,8 +36,11 @@ enum {
     IOERR_BADLENGTH = -4, IOERR_BADADDRESS = -5,
     ADIOERR_NOALLOCATION = -10, ADIOERR_ALLOCFAILED = -11, ADIOERR_CHANNELSTOLEN = -12,
     REFUSED_UNSOUND = 1, REFUSED_CLOSED = 2, REFUSED_OUTSTANDING = 3,
-    REFUSED_ID = 4, REFUSED_REPLIES = 5, REFUSED_LINE = 7
+    REFUSED_ID = 4, REFUSED_REPLIES = 5, REFUSED_LINE = 7, REFUSED_DESK = 8
 };
+
+/* Request #109: the two desks that share one board. */
+enum { DESK_A = 0, DESK_B = 1 };
 
 /* "Operations F0 to F3 are OPEN, CLOSE, ABORT, event; others are the command number." Request
    #102: F3 is "a cycle ended", F4 "the driver gave up". */
@@ -91,8 +96,9 @@ struct Arbiter {
     uint16_t last_key;
 };
 
-/* One call, with the bytes of a log frame. */
+/* One call: the desk that makes it, and the bytes of a log frame. Any other number than A's and B's is no desk. */
 struct Frame {
+    uint8_t desk;
     uint8_t operation, id, flags, map;
     int8_t precedence;
     uint16_t key;
@@ -107,10 +113,12 @@ struct Reply {
     uint16_t key;
 };
 
-/* The caller lends capacity records; a call fills the first count of them. */
+/* The caller lends capacity records; a call fills those for desk A from the first on and those for desk B from
+   record 32 on, and says how many each has. Made has the places of all, in the order in which they were made. */
 struct Replies {
     struct Reply *record;
-    size_t capacity, count;
+    size_t capacity, count[DESKS];
+    uint8_t made[REQUESTS];
 };
 
 struct Answer {
@@ -129,6 +137,12 @@ int arbiter_sound(const struct Arbiter *a);
 
 /* One call of any kind. Any state, frame and capacity get an answer. */
 struct Answer arbiter_call(struct Arbiter *a, const struct Frame *f, struct Replies *r);
+
+/* The desk of an id: A has 0 to 31, B all others. */
+unsigned arbiter_desk(unsigned id);
+
+/* How many replies there are in both halves. */
+size_t arbiter_replied(const struct Replies *r);
 
 /* The choice of a combination in a sound state; chosen is 0 if it fails. */
 enum Look { LOOK_FAILS, LOOK_HELD, LOOK_GRANTED };

@@ -35,7 +35,6 @@ int main(int count, char **argument)
     static struct Reply record[REQUESTS];
     static char buffer[1 << 16], text[LONGEST_OUTPUT];
     struct Options options = {4, 0};
-    struct Replies replies = {record, REQUESTS, 0};
     struct Frame frame;
     enum Line line;
 
@@ -46,9 +45,9 @@ int main(int count, char **argument)
     setvbuf(stdout, buffer, _IOFBF, sizeof buffer);
     arbiter_fresh(&state, options.channels);
     while ((line = log_read(stdin, &frame)) != LINE_NONE) {
+        struct Replies replies = {.record = record, .capacity = REQUESTS};
         struct Answer answer = log_malformed();
 
-        replies.count = 0;
         if (line == LINE_FRAME)
             answer = arbiter_call(&state, &frame, &replies);
         fwrite(text, 1, log_spell(text, &replies, &answer), stdout);

@@ -192,7 +192,41 @@ static struct CallRow {
     {"F4 above the highest map: -5", ONLY_FOUR, 0},
     {"F4 reads the lowest of several bits", 0, 0},
     {"F4 met a write, nothing open", 0, 0},
-    {"F4, nothing open, map 0", 0, 0}
+    {"F4, nothing open, map 0", 0, 0},
+    {"READ 255: A asks, the write is B's", 0, 0},
+    {"READ 255: B asks, the write is A's", 0, 0},
+    {"READ 255: the other's before its own", 0, 0},
+    {"READ with its own, the other's behind it", 0, 0},
+    {"replies to both desks", 0, 0},
+    {"to both, some of B's made first: RESET", 0, 0},
+    {"to both, some of B's made first: FLUSH", 0, 0},
+    {"to both, some of B's made first: FREE", 0, 0},
+    {"to both, some of B's made first: FINISH", 0, 0},
+    {"to both, some of B's made first: SETPREC", 0, 0},
+    {"to both, some of B's made first: ALLOCATE", 0, 0},
+    {"to both, some of B's made first: OPEN", 0, 0},
+    {"to both, some of B's made first: CLOSE", 0, 0},
+    {"to both, some of B's made first: ABORT", 0, 0},
+    {"to both, some of B's made first: F3", 0, 0},
+    {"to both, some of B's made first: F4", 0, 0},
+    {"its own reply to A, made behind one to B", 0, 0},
+    {"its own reply to B, made behind one to A", 0, 0},
+    {"A calls, only B is replied", 0, 0},
+    {"B calls, only A is replied", 0, 0},
+    {"five replies or more to each desk", 0, 0},
+    {"locks of both stolen, B's the older", 0, 0},
+    {"waiters of both ended, B's the older", 0, 0},
+    {"requests of both granted, B's first", 0, 0},
+    {"WRITE behind the other's", 0, 0},
+    {"WAITCYCLE on the other's write", 0, 0},
+    {"PERVOL of the other's write", 0, 0},
+    {"FINISH of the other's write", 0, 0},
+    {"LOCK over a channel that the other locked", 0, 0},
+    {"ABORT by A", 0, 0},
+    {"ABORT by B", 0, 0},
+    {"id 31 is A's", 0, 0},
+    {"id 32 is B's", 0, 0},
+    {"id 63 is B's", 0, 0}
 };
 enum {
     OPEN_LIST, OPEN_PLAIN, OPEN_FAILED, OPEN_LAST, CLOSED, CLOSED_ONE, CLOSE_FOREIGN, ABORTED, NOT_ABORTED,
@@ -208,12 +242,26 @@ enum {
     CYCLE_LOWEST, CYCLE_CLOSED, CYCLE_CLOSED_NOTHING,
     GAVE_UP_ALONE, GAVE_UP_BEHIND, GAVE_UP_WAITED, GAVE_UP_TWO, GAVE_UP_OTHERS, GAVE_UP_REMEMBERED, GAVE_UP_ENDLESS,
     GAVE_UP_STOPPED, GAVE_UP_EMPTY, GAVE_UP_FREE, GAVE_UP_NOTHING, GAVE_UP_BEYOND, GAVE_UP_LOWEST, GAVE_UP_CLOSED,
-    GAVE_UP_CLOSED_NOTHING
+    GAVE_UP_CLOSED_NOTHING,
+    READ_A, READ_B, READ_OTHER_FIRST, READ_OWN_FIRST, TO_BOTH,
+    B_FIRST, B_FIRST_END = B_FIRST + 10, OWN_A, OWN_B, ONLY_B, ONLY_A, FIVE_EACH, LOCKS_OF_BOTH, WAITERS_OF_BOTH, GRANTS_OF_BOTH,
+    WRITE_BEHIND, WAIT_OTHER, PERVOL_OTHER, FINISH_OTHER, LOCK_OTHER, ABORT_A, ABORT_B, LAST_OF_A, FIRST_OF_B, LAST_OF_B
+};
+/* The calls of the rows from B_FIRST on. */
+static const uint8_t crossing[B_FIRST_END - B_FIRST + 1] = {
+    CMD_RESET, CMD_FLUSH, ADCMD_FREE, ADCMD_FINISH, ADCMD_SETPREC, ADCMD_ALLOCATE, CALL_OPEN, CALL_CLOSE, CALL_ABORT,
+    CALL_CYCLE_ENDED, CALL_GAVE_UP
 };
 
 #define COUNT_OF(array) (sizeof (array) / sizeof *(array))
 
 static unsigned long lines, unexpected;
+
+/* The reply that was made so many after the first. */
+static const struct Reply *reply_at(const struct Replies *replies, size_t i)
+{
+    return &replies->record[replies->made[i]];
+}
 
 static void count_answer(const struct Answer *answer)
 {
@@ -397,8 +445,8 @@ static void count_cuts(const struct Arbiter *before, const struct Arbiter *after
 {
     unsigned cut = 0, places = 0, c = lowest_of(f->map);
 
-    for (size_t i = 0; i < replies->count; i++) {
-        const struct Reply *r = &replies->record[i];
+    for (size_t i = 0; i < arbiter_replied(replies); i++) {
+        const struct Reply *r = reply_at(replies, i);
 
         if (r->command == ADCMD_WAITCYCLE && r->error == IOERR_ABORTED) {
             cut++;
@@ -503,6 +551,106 @@ static void count_event(const struct Arbiter *before, const struct Frame *f, con
     }
 }
 
+/* A reply to B was made before one to A; of this command and error alone, where it is not ANY. */
+static int b_first(const struct Replies *replies, int command, int error)
+{
+    int to_b = 0;
+
+    for (size_t i = 0; i < arbiter_replied(replies); i++) {
+        const struct Reply *r = reply_at(replies, i);
+
+        if (command != ANY && (r->command != command || r->error != error))
+            continue;
+        if (arbiter_desk(r->id) == DESK_B)
+            to_b = 1;
+        else if (to_b)
+            return 1;
+    }
+    return 0;
+}
+
+/* Its own reply was made, and so many to the other desk before it. */
+static unsigned before_own(const struct Replies *replies, const struct Frame *f, const struct Answer *answer)
+{
+    unsigned others = 0;
+
+    for (size_t i = 0; i < arbiter_replied(replies); i++) {
+        const struct Reply *r = reply_at(replies, i);
+
+        if (r->id == f->id)
+            return answer->outstanding || f->operation >= CALL_OPEN ? 0 : others;
+        others += arbiter_desk(r->id) != f->desk;
+    }
+    return 0;
+}
+
+/* What a command does to a write, or reads of it, where the other desk sent it. */
+static void count_others(const struct Arbiter *before, const struct Frame *f, const struct Answer *answer)
+{
+    const struct Channel *was = &before->channel[lowest_of(f->map)];
+    unsigned writes = was->writes.count, front = arbiter_desk(was->writes.id[0]);
+    int others = writes > 0 && front != f->desk, plays = others && !was->stopped;
+
+    switch (f->operation) {
+    case CMD_READ:
+        call_rows[f->desk == DESK_A ? READ_A : READ_B].count += plays;
+        for (unsigned at = 1; at < writes && !was->stopped; at++)
+            if (arbiter_desk(was->writes.id[at]) != front) {
+                call_rows[plays ? READ_OTHER_FIRST : READ_OWN_FIRST].count++;
+                break;
+            }
+        break;
+    case CMD_WRITE:
+        call_rows[WRITE_BEHIND].count += others;
+        break;
+    case ADCMD_WAITCYCLE:
+        call_rows[WAIT_OTHER].count += answer->outstanding && plays;
+        break;
+    case ADCMD_PERVOL:
+        call_rows[PERVOL_OTHER].count += plays;
+        break;
+    case ADCMD_FINISH:
+        call_rows[FINISH_OTHER].count += plays;
+        break;
+    case ADCMD_LOCK:
+        for (unsigned at = 0; at < before->locks.count && answer->outstanding; at++)
+            call_rows[LOCK_OTHER].count += arbiter_desk(before->locks.id[at]) != f->desk
+                && (before->request[before->locks.id[at]].map & f->map) != 0;
+        break;
+    default:
+        break;
+    }
+}
+
+/* Request #109: the second desk. */
+static void count_desks(const struct Arbiter *before, const struct Frame *f, const struct Answer *answer,
+                        const struct Replies *replies)
+{
+    size_t to_a = replies->count[DESK_A], to_b = replies->count[DESK_B];
+    int of_desk = f->operation != CALL_CYCLE_ENDED && f->operation != CALL_GAVE_UP, by_a = of_desk && f->desk == DESK_A;
+    int named = of_desk && f->operation != CALL_OPEN && f->operation != CALL_CLOSE && answer->error <= DONE;
+
+    call_rows[TO_BOTH].count += to_a > 0 && to_b > 0;
+    call_rows[FIVE_EACH].count += to_a >= 5 && to_b >= 5;
+    call_rows[ONLY_B].count += by_a && to_a == 0 && to_b > 0;
+    call_rows[ONLY_A].count += of_desk && !by_a && to_a > 0 && to_b == 0;
+    for (size_t i = 0; i < COUNT_OF(crossing); i++)
+        call_rows[B_FIRST + i].count += f->operation == crossing[i] && b_first(replies, ANY, DONE);
+    call_rows[f->desk == DESK_A ? OWN_A : OWN_B].count += before_own(replies, f, answer) > 0;
+    call_rows[LOCKS_OF_BOTH].count += b_first(replies, ADCMD_LOCK, ADIOERR_CHANNELSTOLEN);
+    call_rows[WAITERS_OF_BOTH].count += b_first(replies, ADCMD_WAITCYCLE, IOERR_ABORTED);
+    call_rows[GRANTS_OF_BOTH].count += b_first(replies, ADCMD_ALLOCATE, DONE);
+    if (!named)
+        return;
+    call_rows[ABORT_A].count += f->operation == CALL_ABORT && answer->last == 1 && by_a;
+    call_rows[ABORT_B].count += f->operation == CALL_ABORT && answer->last == 1 && !by_a;
+    call_rows[LAST_OF_A].count += f->id == HALF - 1;
+    call_rows[FIRST_OF_B].count += f->id == HALF;
+    call_rows[LAST_OF_B].count += f->id == REQUESTS - 1;
+    if (answer->error == DONE)
+        count_others(before, f, answer);
+}
+
 static void count_call(const struct Arbiter *before, const struct Arbiter *after,
                        const struct Frame *f, const struct Answer *answer,
                        const struct Replies *replies)
@@ -568,12 +716,14 @@ static void count_call(const struct Arbiter *before, const struct Arbiter *after
             && after->request[id].map != before->request[id].map)
             call_rows[PARTIAL].count++;
     }
-    for (size_t i = 0; i < replies->count; i++)
-        grants += replies->record[i].command == ADCMD_ALLOCATE
-            && replies->record[i].error == DONE
-            && before->request[replies->record[i].id].command == ADCMD_ALLOCATE;
+    for (size_t i = 0; i < arbiter_replied(replies); i++) {
+        const struct Reply *r = reply_at(replies, i);
+
+        grants += r->command == ADCMD_ALLOCATE && r->error == DONE
+            && before->request[r->id].command == ADCMD_ALLOCATE;
+    }
     call_rows[MANY_GRANTS].count += grants > 1;
-    call_rows[TEN_REPLIES].count += replies->count >= 10;
+    call_rows[TEN_REPLIES].count += arbiter_replied(replies) >= 10;
     call_rows[NEARLY_FULL].count += outstanding > 60;
     if (done && !answer->outstanding && f->key == 0
         && (f->operation == CALL_OPEN || f->operation == ADCMD_ALLOCATE))
@@ -593,7 +743,7 @@ static void play(FILE *log, unsigned channels)
 {
     static struct Arbiter state, before;
     static struct Reply record[REQUESTS];
-    struct Replies replies = {record, REQUESTS, 0};
+    struct Replies replies = {.record = record, .capacity = REQUESTS};
     struct Frame frame;
     enum Line line;
 
@@ -605,10 +755,14 @@ static void play(FILE *log, unsigned channels)
         if (line == LINE_FRAME) {
             before = state;
             answer = arbiter_call(&state, &frame, &replies);
-            for (size_t i = 0; i < replies.count; i++)
-                count_reply(&record[i], cause_of(&before, &frame, &answer, &record[i]));
+            for (size_t i = 0; i < arbiter_replied(&replies); i++) {
+                const struct Reply *reply = reply_at(&replies, i);
+
+                count_reply(reply, cause_of(&before, &frame, &answer, reply));
+            }
             count_call(&before, &state, &frame, &answer, &replies);
             count_cuts(&before, &state, &frame, &answer, &replies);
+            count_desks(&before, &frame, &answer, &replies);
             if (frame.operation == CALL_CYCLE_ENDED || frame.operation == CALL_GAVE_UP)
                 count_event(&before, &frame, &answer);
         }

@@ -19,8 +19,8 @@ echo "The same on eight channels"
 
 for seed in 1 2 3 4 5 6; do
     ./generate $seed 70000 keys >"$work/long.keys.$seed"
-    ./generate $seed 72000 >"$work/long.mix.$seed"
+    ./generate $seed 90000 >"$work/long.mix.$seed"
 done
 echo
-echo "Seeds 1 to 6: style keys at 70,000 lines, the mix at 72,000"
+echo "Seeds 1 to 6: style keys at 70,000 lines, the mix at 90,000"
 ./coverage-count LONG "$work"/long.*

@@ -35,9 +35,9 @@ struct Style {
 
 enum {
     MIX, LOCKS, NOWAIT, QUEUES, FULL, ABORTS, PRECEDENCES, REFUSALS, MALFORMED, LISTS,
-    BYTES, TIES, CUTS, CYCLES, OPENS, KEYS, MANY_LOCKS, MANY_STEALS, MANY_ENTRIES, MANY_WAITING, STYLES
+    BYTES, TIES, CUTS, CYCLES, TWO_DESKS, OPENS, KEYS, MANY_LOCKS, MANY_STEALS, MANY_ENTRIES, MANY_WAITING, STYLES
 };
-#define SHORT_STYLES KEYS       /* 1 to 14 take part in the mix */
+#define SHORT_STYLES KEYS       /* 1 to 15 take part in the mix */
 #define LONG_STRETCH 67500ul    /* lines in which the keys reach their end */
 #define LONG_LOG 70000ul        /* a mix this long begins with such a stretch */
 
@@ -57,6 +57,7 @@ static const struct Style styles[STYLES] = {
     {"ties",        {2, 1, 3, 1, 1, 1, 4, 0, 0, 1, 1, 1, 4,30, 1,50, 0, 0, 0, 0, 1}, 70, 2,  8,  1, 30},
     {"cuts",        {2, 1, 5, 8, 3, 2,26, 0, 0, 5, 7, 3, 3, 1, 1, 8, 0,12,12,24, 2}, 20, 3,  5,  1, 55},
     {"cycles",      {2, 1, 3,40, 1, 2,26, 0, 0, 5, 9, 1, 1, 1, 1, 6, 0,10,14,16, 7}, 20, 3,  5,  1, 50},
+    {"desks",       {3, 2, 8, 7, 2,10,46, 0, 0, 2, 4, 4, 4, 6, 8,14, 0, 5, 3,18, 3}, 20, 4,  5,  1, 58},
     {"opens",       {40,22, 2, 2, 1, 1, 4, 1, 1, 1, 1, 1, 4, 3, 3,12, 1, 1, 1, 1, 1}, 40, 3, 5,  1, 40},
     {"keys",        {6, 1, 2, 2, 1, 1, 4, 1, 1, 1, 1, 1, 4, 6, 4,40, 1, 0, 0, 0, 1}, 20, 2, 10,  1, 40},
     /* One kind of work each, for measuring: good frames, hardly a refusal, and no F4, so that
@@ -97,6 +98,18 @@ static unsigned pick_id(int wanted)
 
     for (unsigned tries = 0; tries < REQUESTS && outstanding(id) != wanted; tries++)
         id = (id + 1) % REQUESTS;
+    return id;
+}
+
+/* The same of one desk, and often one of the two ids where the desks meet. */
+static unsigned pick_id_of(unsigned desk, int wanted)
+{
+    unsigned id = desk * HALF + below(HALF), edge = desk == DESK_A ? HALF - 1 : HALF;
+
+    if (percent(15) && outstanding(edge) == wanted)
+        return edge;
+    for (unsigned tries = 0; tries < HALF && outstanding(id) != wanted; tries++)
+        id = desk * HALF + (id + 1) % HALF;
     return id;
 }
 
@@ -162,6 +175,14 @@ static unsigned pick_key(void)
     if (odds < 98)
         return LAST_OF_KEYS - below(4);
     return below(LAST_OF_KEYS + 1);
+}
+
+static uint8_t taken_by[LAST_OF_KEYS + 1];  /* the desk that was the last to take this key */
+
+/* Who calls under this key: mostly the desk that took it; the other one where it was passed by hand. */
+static unsigned pick_desk(unsigned key)
+{
+    return percent(65) ? taken_by[key] : DESK_B - taken_by[key];
 }
 
 static unsigned channels_of(unsigned key)
@@ -354,6 +375,9 @@ static void make_frame(struct Frame *f, enum Kind kind, const struct Style *s)
             f->key = (uint16_t)next_key();
         if (percent(s == &styles[OPENS] ? 20 : 60))
             pick_list(f, s);
+        /* High enough to steal what both desks play. */
+        if (s == &styles[TWO_DESKS] && f->length > 0)
+            f->precedence = (int8_t)(percent(60) ? 4 + below(20) : 2);
         break;
     case CLOSE:
         /* The desks that opened first are to be there when the keys come round. */
@@ -405,7 +429,7 @@ static void make_frame(struct Frame *f, enum Kind kind, const struct Style *s)
         break;
     case FLUSH: case RESET:
         /* All that a desk plays, so that waiters of several channels are cut at once. */
-        if (s == &styles[CUTS]) {
+        if (s == &styles[CUTS] || s == &styles[TWO_DESKS]) {
             f->key = state.channel[pick_playing()].key;
             f->map = (uint8_t)channels_of(f->key);
         }
@@ -430,6 +454,16 @@ static void make_frame(struct Frame *f, enum Kind kind, const struct Style *s)
             f->map = (uint8_t)(1u << c | (percent(60) ? 1u << pick_playing() : 0u));
             f->key = state.channel[c].key;
         }
+    }
+    /* Either desk; a READ of what plays, its own or not, and an ABORT of what it has outstanding. */
+    if (s == &styles[TWO_DESKS]) {
+        if (kind == READ && percent(80)) {
+            unsigned c = pick_playing();
+
+            f->map = (uint8_t)(1u << c);
+            f->key = state.channel[c].key;
+        }
+        f->id = (uint8_t)pick_id_of(pick_desk(f->key), kind == ABORT);
     }
     if (percent(s->wrong))
         spoil(f);
@@ -620,15 +654,25 @@ static void make_line(unsigned style)
         damage();
 }
 
-/* The arbiter follows the line as a reader of the log would. */
+/* The arbiter follows the line as a reader of the log would, and learns who has taken a key. */
 static void follow_line(void)
 {
     static struct Reply record[REQUESTS];
-    struct Replies replies = {record, REQUESTS, 0};
+    struct Replies replies = {.record = record, .capacity = REQUESTS};
+    struct Answer answer;
     struct Frame f;
 
-    if (log_decode(text, length, &f))
-        arbiter_call(&state, &f, &replies);
+    if (!log_decode(text, length, &f))
+        return;
+    answer = arbiter_call(&state, &f, &replies);
+    if ((f.operation == CALL_OPEN || f.operation == ADCMD_ALLOCATE) && answer.error == DONE && !answer.outstanding)
+        taken_by[answer.key] = f.desk;
+    for (size_t i = 0; i < arbiter_replied(&replies); i++) {
+        const struct Reply *reply = &record[replies.made[i]];
+
+        if (reply->command == ADCMD_ALLOCATE && reply->error == DONE)
+            taken_by[reply->key] = (uint8_t)arbiter_desk(reply->id);
+    }
 }
 
 /* The style of this name or number; STYLES where there is none. */

@@ -31,6 +31,7 @@ int log_decode(const char *line, size_t length, struct Frame *f)
         return 0;                                       /* "exactly n combination bytes" */
     f->operation = byte[0];
     f->id = byte[1];
+    f->desk = (uint8_t)arbiter_desk(f->id);             /* "an id byte of 32 or more means B" */
     f->flags = byte[2];
     f->map = byte[3];
     f->precedence = (int8_t)(byte[4] < 128 ? byte[4] : byte[4] - 256);
@@ -103,12 +104,14 @@ static size_t spell_answer(char *line, const struct Answer *answer)
     return spell(line, byte, sizeof byte);
 }
 
+/* "A's replies are written first." */
 size_t log_spell(char *text, const struct Replies *replies, const struct Answer *answer)
 {
     size_t length = 0;
 
-    for (size_t i = 0; i < replies->count; i++)
-        length += spell_reply(text + length, &replies->record[i]);
+    for (unsigned desk = 0; desk < DESKS; desk++)
+        for (size_t i = 0; i < replies->count[desk]; i++)
+            length += spell_reply(text + length, &replies->record[desk * HALF + i]);
     return length + spell_answer(text + length, answer);
 }
 

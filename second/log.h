@@ -23,7 +23,7 @@ int log_decode(const char *line, size_t length, struct Frame *f);
 /* The answer to a malformed line: error 7, map 0, key 0. */
 struct Answer log_malformed(void);
 
-/* A line for each reply, then one for the answer: at most LONGEST_OUTPUT characters. The result is their number. */
+/* A line for each reply, desk A's first, then one for the answer: at most LONGEST_OUTPUT characters. The result is their number. */
 size_t log_spell(char *text, const struct Replies *replies, const struct Answer *answer);
 
 /* A line B0 for each channel of the board: its number, key, precedence, marks (1 locked, 2 stopped) and number of writes. */

@@ -4,7 +4,7 @@
 static size_t answer_line(struct Port *p, struct Arbiter *a, char *text)
 {
     static struct Reply record[REQUESTS];
-    struct Replies replies = {record, REQUESTS, 0};
+    struct Replies replies = {.record = record, .capacity = REQUESTS};
     struct Answer answer = log_malformed();
     struct Frame f;
 

@@ -26,7 +26,7 @@ play() {
 seed=0
 while [ $seed -lt "$SEEDS" ]; do
     seed=$((seed + 1))
-    for style in mix locks nowait queues full aborts precedences refusals malformed lists bytes ties cuts cycles opens keys \
+    for style in mix locks nowait queues full aborts precedences refusals malformed lists bytes ties cuts cycles desks opens keys \
         many-locks many-steals many-entries many-waiting; do
         "$work/generate" $seed 2000 $style >"$work/log" || exit 1
         ./generate $seed 2000 $style | cmp - "$work/log" || exit 1

@@ -1,5 +1,6 @@
 /* Tests of the arbiter's C functions: the marked examples M1 to M14, what a log cannot
-   reach (refusals 1 and 5, states not settled) and the sound test; then the two events and the stereo lists. */
+   reach (refusals 1, 5 and 8, states not settled) and the sound test; then the two events, the two desks and the
+   stereo lists. */
 #include "arbiter.h"
 #include "stereo.h"
 
@@ -19,15 +20,21 @@ static void check(int holds, const char *what)
 }
 
 static struct Reply record[REQUESTS + 1];
-static struct Replies replies = {record, REQUESTS, 0};
+static struct Replies replies = {.record = record, .capacity = REQUESTS};
 
-/* One call with a list given as a string of bytes; \0 is no entry here. */
-static struct Answer call(struct Arbiter *a, unsigned operation, unsigned id,
-                          unsigned flags, unsigned map, int precedence, unsigned key,
-                          const char *list)
+static size_t told(void)
+{
+    return arbiter_replied(&replies);
+}
+
+/* One call of this desk, with a list given as a string of bytes; \0 is no entry here. */
+static struct Answer call_from(unsigned desk, struct Arbiter *a, unsigned operation, unsigned id,
+                               unsigned flags, unsigned map, int precedence, unsigned key,
+                               const char *list)
 {
     struct Frame f = {0};
 
+    f.desk = (uint8_t)desk;
     f.operation = (uint8_t)operation;
     f.id = (uint8_t)id;
     f.flags = (uint8_t)flags;
@@ -39,6 +46,14 @@ static struct Answer call(struct Arbiter *a, unsigned operation, unsigned id,
     return arbiter_call(a, &f, &replies);
 }
 
+/* The same of the desk that has the id. */
+static struct Answer call(struct Arbiter *a, unsigned operation, unsigned id,
+                          unsigned flags, unsigned map, int precedence, unsigned key,
+                          const char *list)
+{
+    return call_from(arbiter_desk(id), a, operation, id, flags, map, precedence, key, list);
+}
+
 static int same_answer(struct Answer got, unsigned outstanding, int error, unsigned map,
                        unsigned key, unsigned last)
 {
@@ -46,12 +61,13 @@ static int same_answer(struct Answer got, unsigned outstanding, int error, unsig
         && got.key == key && got.last == last;
 }
 
+/* The record at this place of the list: A's are those before 32. */
 static int same_reply(size_t at, unsigned id, unsigned command, int error, unsigned map,
                       unsigned key)
 {
     const struct Reply *got = &record[at];
 
-    return at < replies.count && got->id == id && got->command == command
+    return at % HALF < replies.count[at / HALF] && got->id == id && got->command == command
         && got->error == error && got->map == map && got->key == key;
 }
 
@@ -106,7 +122,7 @@ static void test_marked(void)
         enum Look look = arbiter_look(&a, marked[i].precedence, marked[i].list,
                                       marked[i].length, &chosen);
         struct Arbiter b = a;
-        struct Frame f = {ADCMD_ALLOCATE, 9, IOF_QUICK | ADIOF_NOWAIT, 0, 0, 5, 0, {0}};
+        struct Frame f = {DESK_A, ADCMD_ALLOCATE, 9, IOF_QUICK | ADIOF_NOWAIT, 0, 0, 5, 0, {0}};
         struct Answer got;
 
         check(look == marked[i].look && chosen == marked[i].chosen, marked[i].name);
@@ -114,7 +130,7 @@ static void test_marked(void)
         f.length = (uint8_t)marked[i].length;
         memcpy(f.combination, marked[i].list, f.length);
         got = arbiter_call(&b, &f, &replies);
-        check(replies.count == 0 && (look == LOOK_HELD ? same_answer(got, 1, 0, 0, 5, 255)
+        check(told() == 0 && (look == LOOK_HELD ? same_answer(got, 1, 0, 0, 5, 255)
               : look == LOOK_FAILS ? same_answer(got, 0, ADIOERR_ALLOCFAILED, 0, 5, 255)
               : same_answer(got, 0, 0, marked[i].chosen, 5, 255)), marked[i].name);
     }
@@ -180,7 +196,7 @@ static void test_fewer_stolen(void)
     check(same_answer(call(&a, ADCMD_ALLOCATE, 1, 0, 0, 4, 7, "\7\3\14"), 1, 0, 0, 7, 255),
           "the request waits");
     call(&a, ADCMD_SETPREC, 2, IOF_QUICK, 15, 3, 5, "");
-    check(replies.count == 1 && same_reply(0, 1, ADCMD_ALLOCATE, 0, 3, 7),
+    check(told() == 1 && same_reply(0, 1, ADCMD_ALLOCATE, 0, 3, 7),
           "settling: the first of those that steal two, and not the one before that steals three");
 }
 
@@ -242,7 +258,7 @@ static void test_open_keys(void)
     check(same_answer(call(&b, CALL_OPEN, 0, 0, 0, 0, 9, ""), 0, 0, 0, 9, 255) && b.open.key[31] == 9, "a place is free again");
 }
 
-/* A call may make 64 replies, and no more. */
+/* A call may make 64 replies, 32 in a half, and no more. */
 static void test_most_replies(void)
 {
     struct Arbiter a;
@@ -254,13 +270,16 @@ static void test_most_replies(void)
         call(&a, CMD_WRITE, id, 0, id % 2 + 1, 0, 8, "");
     memset(record, 0x55, sizeof record);
     check(same_answer(call(&a, CALL_OPEN, 0, 0, 0, 2, 9, "\3"), 0, 0, 3, 9, 255)
-          && replies.count == REQUESTS, "64 replies");
-    check(same_reply(0, 0, CMD_WRITE, IOERR_ABORTED, 0, 8)
-          && same_reply(31, 62, CMD_WRITE, IOERR_ABORTED, 0, 8)
-          && same_reply(32, 1, CMD_WRITE, IOERR_ABORTED, 0, 8)
-          && same_reply(63, 63, CMD_WRITE, IOERR_ABORTED, 0, 8),
-          "by channel, then oldest first");
-    check(record[64].id == 0x55, "records beyond the number reported are not touched");
+          && told() == REQUESTS, "64 replies");
+    check(replies.count[DESK_A] == HALF && replies.count[DESK_B] == HALF, "32 in each half");
+    for (unsigned i = 0; i < HALF; i++) {
+        unsigned id = i < HALF / 2 ? 2 * i : 2 * i - HALF + 1;
+
+        check(same_reply(i, id, CMD_WRITE, IOERR_ABORTED, 0, 8)
+              && same_reply(HALF + i, HALF + id, CMD_WRITE, IOERR_ABORTED, 0, 8),
+              "by channel, then oldest first, in each half");
+    }
+    check(record[64].id == 0x55, "records behind the list are not touched");
     check(arbiter_sound(&a), "sound after 64 replies");
 }
 
@@ -279,7 +298,7 @@ static void test_refusals(void)
     check(same_answer(call(&a, CALL_ABORT, 0, 0, 0, 0, 5, ""), 0, 5, 0, 5, 255), "5, ABORT");
     check(same_answer(call(&a, CALL_CYCLE_ENDED, 0, 0, 1, 0, 5, ""), 0, 5, 0, 5, 255), "5, F3");
     check(same_answer(call(&a, CALL_GAVE_UP, 0, 0, 1, 0, 5, ""), 0, 5, 0, 5, 255), "5, F4");
-    check(memcmp(&before, &a, sizeof a) == 0 && replies.count == 0
+    check(memcmp(&before, &a, sizeof a) == 0 && told() == 0
           && record[0].id == 0x55, "5 leaves state and replies");
     a.channel[1].precedence = 1;
     memcpy(&before, &a, sizeof a);
@@ -318,37 +337,37 @@ static void test_unsettled(void)
 
     b = a;
     check(same_answer(call(&b, CMD_CLEAR, 0, 0, 0, 0, 0, ""), 0, 0, 0, 0, 255)
-          && replies.count == 4
+          && told() == 4
           && same_reply(0, 0, CMD_CLEAR, 0, 0, 0)
           && same_reply(1, 20, ADCMD_ALLOCATE, 0, 1, 8)
           && same_reply(2, 21, ADCMD_ALLOCATE, ADIOERR_ALLOCFAILED, 0, 9)
           && same_reply(3, 22, ADCMD_ALLOCATE, 0, 2, 1), "CLEAR settles");
     b = a;
     call(&b, CALL_ABORT, 50, 0, 0, 0, 0, "");
-    check(replies.count == 3, "\"not aborted\" settles");
+    check(told() == 3, "\"not aborted\" settles");
     b = a;
-    check(same_answer(call(&b, CALL_CYCLE_ENDED, 0, 0, 2, 0, 4, ""), 0, 0, 0, 4, 255) && replies.count == 3, "F3 settles");
+    check(same_answer(call(&b, CALL_CYCLE_ENDED, 0, 0, 2, 0, 4, ""), 0, 0, 0, 4, 255) && told() == 3, "F3 settles");
     b = a;
-    check(same_answer(call(&b, CALL_GAVE_UP, 0, 0, 2, 0, 4, ""), 0, 0, 0, 4, 255) && replies.count == 3, "F4 settles");
+    check(same_answer(call(&b, CALL_GAVE_UP, 0, 0, 2, 0, 4, ""), 0, 0, 0, 4, 255) && told() == 3, "F4 settles");
     b = a;
     check(same_answer(call(&b, ADCMD_ALLOCATE, 0, ADIOF_NOWAIT, 0, 0, 4, "\1"),
                       0, ADIOERR_ALLOCFAILED, 0, 4, 255)
-          && replies.count == 4 && same_reply(1, 20, ADCMD_ALLOCATE, 0, 1, 8),
+          && told() == 4 && same_reply(1, 20, ADCMD_ALLOCATE, 0, 1, 8),
           "ALLOCATE's -11 settles");
     b = a;
     call(&b, CALL_OPEN, 0, 0, 0, 0, 4, "\1");
-    check(replies.count == 0 && memcmp(&a, &b, sizeof a) == 0, "OPEN's -11 does not");
+    check(told() == 0 && memcmp(&a, &b, sizeof a) == 0, "OPEN's -11 does not");
     call(&b, 99, 0, IOF_QUICK, 0, 0, 4, "");
     call(&b, CMD_CLEAR, 0, IOF_QUICK, 16, 0, 4, "");
     call(&b, CALL_CYCLE_ENDED, 0, 0, 16, 0, 4, "");
     call(&b, CALL_GAVE_UP, 0, 0, 16, 0, 4, "");
     call(&b, CMD_CLEAR, 20, 0, 0, 0, 4, "");
-    check(replies.count == 0 && memcmp(&a, &b, sizeof a) == 0, "refusals do not settle");
+    check(told() == 0 && memcmp(&a, &b, sizeof a) == 0, "refusals do not settle");
     b = a;
     while (b.open.count < MOST_OPENS)
         enter(&b, 4);
     call(&b, CALL_OPEN, 0, 0, 0, 0, 4, "");
-    check(replies.count == 0 && b.waiting.count == 3, "-1 does not settle");
+    check(told() == 0 && b.waiting.count == 3, "-1 does not settle");
 
     /* READ's answer is settled before the walk, which aborts that very write. */
     b = a;
@@ -370,7 +389,7 @@ static void test_unsettled(void)
     put_waiting(&a, 20, 50, 8, 0, 0x02);
     check(same_answer(call(&a, ADCMD_ALLOCATE, 0, ADIOF_NOWAIT, 0, 40, 9, "\12"),
                       1, 0, 0, 9, 255)
-          && replies.count == 2
+          && told() == 2
           && same_reply(0, 20, ADCMD_ALLOCATE, 0, 2, 8)
           && same_reply(1, 0, ADCMD_ALLOCATE, ADIOERR_ALLOCFAILED, 0, 9),
           "held, then dropped in its own walk");
@@ -484,8 +503,9 @@ static void test_sound(void)
 /* A write of so many cycles, period 200 and volume 10. */
 static void put_write(struct Arbiter *a, unsigned id, unsigned map, unsigned cycles)
 {
-    struct Frame f = {CMD_WRITE, 0, 0, 0, 0, 5, 6, {0, 0, 0, 0, 200, 10}};
+    struct Frame f = {0, CMD_WRITE, 0, 0, 0, 0, 5, 6, {0, 0, 0, 0, 200, 10}};
 
+    f.desk = (uint8_t)arbiter_desk(id);
     f.id = (uint8_t)id;
     f.map = (uint8_t)map;
     f.combination[0] = (uint8_t)(cycles >> 8);
@@ -496,7 +516,7 @@ static void put_write(struct Arbiter *a, unsigned id, unsigned map, unsigned cyc
 /* A synced PERVOL with period 300 and volume 20. */
 static void remember_sound(struct Arbiter *a, unsigned map)
 {
-    struct Frame f = {ADCMD_PERVOL, 40, IOF_QUICK | ADIOF_SYNCCYCLE, 0, 0, 5, 6, {0, 0, 0, 1, 44, 20}};
+    struct Frame f = {DESK_B, ADCMD_PERVOL, 40, IOF_QUICK | ADIOF_SYNCCYCLE, 0, 0, 5, 6, {0, 0, 0, 1, 44, 20}};
 
     f.map = (uint8_t)map;
     arbiter_call(a, &f, &replies);
@@ -558,45 +578,45 @@ static void test_cycle_ended(void)
     for (size_t i = 0; i < sizeof counts / sizeof *counts; i++) {
         playing(&a, counts[i].cycles);
         cycle_ends(&a, "F3: the write goes on");
-        check(replies.count == 2 && front_is(&a, 20, counts[i].left, 200, 10) && a.channel[0].writes.count == 2,
+        check(told() == 2 && front_is(&a, 20, counts[i].left, 200, 10) && a.channel[0].writes.count == 2,
               "F3 counts down, and never from 0");
 
         playing(&a, counts[i].cycles);
         remember_sound(&a, 1);
         check(front_is(&a, 20, counts[i].cycles, 200, 10), "a synced PERVOL waits for the cycle's end");
         cycle_ends(&a, "F3: PERVOL is applied");
-        check(replies.count == 2 && front_is(&a, 20, counts[i].left, 300, 20) && nothing_remembered(&a),
+        check(told() == 2 && front_is(&a, 20, counts[i].left, 300, 20) && nothing_remembered(&a),
               "F3 applies PERVOL, which is then no longer remembered, and counts down");
 
         playing(&a, counts[i].cycles);
         remember_sound(&a, 1);
         remember_finish(&a, 1);
         cycle_ends(&a, "F3: FINISH is applied");
-        check(replies.count == 3 && same_reply(2, 20, CMD_WRITE, IOERR_ABORTED, 0, 5) && front_is(&a, 21, 7, 200, 10)
+        check(told() == 3 && same_reply(2, 20, CMD_WRITE, IOERR_ABORTED, 0, 5) && front_is(&a, 21, 7, 200, 10)
               && nothing_remembered(&a), "F3: FINISH ends the write with -2, and the next is as it was sent");
     }
 
     playing(&a, 1);
     cycle_ends(&a, "F3: the last cycle");
-    check(replies.count == 3 && same_reply(2, 20, CMD_WRITE, 0, 1, 5) && front_is(&a, 21, 7, 200, 10),
+    check(told() == 3 && same_reply(2, 20, CMD_WRITE, 0, 1, 5) && front_is(&a, 21, 7, 200, 10),
           "F3: the last cycle ends the write with 0, and the next is not counted");
     playing(&a, 1);
     remember_sound(&a, 1);
     cycle_ends(&a, "F3: the last cycle, with a PERVOL");
-    check(replies.count == 3 && same_reply(2, 20, CMD_WRITE, 0, 1, 5) && front_is(&a, 21, 7, 200, 10)
+    check(told() == 3 && same_reply(2, 20, CMD_WRITE, 0, 1, 5) && front_is(&a, 21, 7, 200, 10)
           && nothing_remembered(&a), "F3: in the last cycle the numbers go with the write");
     playing(&a, 1);
     remember_finish(&a, 1);
     cycle_ends(&a, "F3: the last cycle, with a FINISH");
-    check(replies.count == 3 && same_reply(2, 20, CMD_WRITE, IOERR_ABORTED, 0, 5) && front_is(&a, 21, 7, 200, 10)
+    check(told() == 3 && same_reply(2, 20, CMD_WRITE, IOERR_ABORTED, 0, 5) && front_is(&a, 21, 7, 200, 10)
           && nothing_remembered(&a), "F3: FINISH also in the last cycle: -2");
 
     /* A count of 3 is three cycles: the third ends it. */
     playing(&a, 3);
     call(&a, CALL_CYCLE_ENDED, 0, 0, 1, 0, 0, "");
-    check(same_answer(call(&a, CALL_CYCLE_ENDED, 0, 0, 1, 0, 0, ""), 0, 0, 1, 0, 255) && replies.count == 0
+    check(same_answer(call(&a, CALL_CYCLE_ENDED, 0, 0, 1, 0, 0, ""), 0, 0, 1, 0, 255) && told() == 0
           && front_is(&a, 20, 1, 200, 10), "two of three cycles: the bit, though nobody is replied");
-    check(same_answer(call(&a, CALL_CYCLE_ENDED, 0, 0, 1, 0, 0, ""), 0, 0, 1, 0, 255) && replies.count == 1
+    check(same_answer(call(&a, CALL_CYCLE_ENDED, 0, 0, 1, 0, 0, ""), 0, 0, 1, 0, 255) && told() == 1
           && same_reply(0, 20, CMD_WRITE, 0, 1, 5), "three of three");
     /* A plain PERVOL beside a remembered one acts at once, and is replaced at the cycle's end. */
     playing(&a, 0);
@@ -620,15 +640,15 @@ static void test_gave_up(void)
             remember_finish(&a, 1);
         }
         check(same_answer(call(&a, CALL_GAVE_UP, 99, 0, 5, 0, 1234, ""), 0, 0, 1, 1234, 255), "F4 answers the bit");
-        check(replies.count == 3 && same_reply(0, 20, CMD_WRITE, IOERR_ABORTED, 0, 5)
+        check(told() == 3 && same_reply(0, 20, CMD_WRITE, IOERR_ABORTED, 0, 5)
               && same_reply(1, 31, ADCMD_WAITCYCLE, IOERR_ABORTED, 0, 5)
               && same_reply(2, 30, ADCMD_WAITCYCLE, IOERR_ABORTED, 0, 5), "F4: the write, then its waiters");
         check(front_is(&a, 21, 7, 200, 10) && a.channel[0].writes.count == 1 && nothing_remembered(&a)
               && a.cycles.count == 1 && a.cycles.id[0] == 29 && arbiter_sound(&a), "F4: the next write moves up");
     }
-    check(same_answer(call(&a, CALL_GAVE_UP, 0, 0, 1, 0, 0, ""), 0, 0, 1, 0, 255) && replies.count == 1
+    check(same_answer(call(&a, CALL_GAVE_UP, 0, 0, 1, 0, 0, ""), 0, 0, 1, 0, 255) && told() == 1
           && same_reply(0, 21, CMD_WRITE, IOERR_ABORTED, 0, 5) && a.channel[0].writes.count == 0, "F4 of a write alone");
-    check(same_answer(call(&a, CALL_GAVE_UP, 0, 0, 1, 0, 0, ""), 0, 0, 0, 0, 255) && replies.count == 0, "F4 of no write");
+    check(same_answer(call(&a, CALL_GAVE_UP, 0, 0, 1, 0, 0, ""), 0, 0, 0, 0, 255) && told() == 0, "F4 of no write");
 }
 
 /* What both have in common, and that F5 to FF are commands. */
@@ -641,11 +661,11 @@ static void test_events(void)
         remember_finish(&a, 1);
         call(&a, CMD_STOP, 41, IOF_QUICK, 1, 0, 5, "");
         b = a;
-        check(same_answer(call(&b, op, 0, 0, 1, 0, 77, ""), 0, 0, 0, 77, 255) && replies.count == 0
+        check(same_answer(call(&b, op, 0, 0, 1, 0, 77, ""), 0, 0, 0, 77, 255) && told() == 0
               && memcmp(&a, &b, sizeof a) == 0, "a stopped channel: map 0, and nothing moves");
-        check(same_answer(call(&b, op, 0, 0, 4, 0, 0, ""), 0, 0, 0, 0, 255) && replies.count == 0, "a free channel: map 0");
-        check(same_answer(call(&b, op, 0, 0, 0, 0, 5, ""), 0, 0, 0, 5, 255) && replies.count == 0, "map 0: map 0");
-        check(same_answer(call(&b, op, 0, 0, 16, 0, 5, ""), 0, IOERR_BADADDRESS, 0, 5, 255) && replies.count == 0
+        check(same_answer(call(&b, op, 0, 0, 4, 0, 0, ""), 0, 0, 0, 0, 255) && told() == 0, "a free channel: map 0");
+        check(same_answer(call(&b, op, 0, 0, 0, 0, 5, ""), 0, 0, 0, 5, 255) && told() == 0, "map 0: map 0");
+        check(same_answer(call(&b, op, 0, 0, 16, 0, 5, ""), 0, IOERR_BADADDRESS, 0, 5, 255) && told() == 0
               && same_answer(call(&b, op, 0, 0, 255, 0, 5, ""), 0, IOERR_BADADDRESS, 0, 5, 255), "above 15: -5");
         check(memcmp(&a, &b, sizeof a) == 0, "none of these moves anything");
         check(same_answer(call(&b, op, 200, 0, 3, 0, 9, ""), 0, 0, 0, 9, 255) && memcmp(&a, &b, sizeof a) == 0,
@@ -655,7 +675,7 @@ static void test_events(void)
         playing(&b, 1);
         b.open.count = 0;
         b.open.key[0] = 0;
-        check(same_answer(call(&b, op, 0, 0, 1, 0, 9, ""), 0, 0, 1, 9, 255) && replies.count == 3
+        check(same_answer(call(&b, op, 0, 0, 1, 0, 9, ""), 0, 0, 1, 9, 255) && told() == 3
               && b.channel[0].writes.count == 1, "no open device is needed");
     }
     playing(&a, 2);
@@ -668,7 +688,263 @@ static void test_events(void)
     call(&a, ADCMD_ALLOCATE, 0, IOF_QUICK, 0, 1, 5, "\1");
     call(&a, CMD_WRITE, 1, 0, 1, 0, 5, "");
     check(same_answer(call(&a, CALL_CYCLE_ENDED, 0, 0, 1, 0, 0, ""), 0, 0, 1, 0, 255)
-          && same_reply(0, 1, CMD_WRITE, 0, 1, 5) && replies.count == 1, "n 0: one cycle");
+          && same_reply(0, 1, CMD_WRITE, 0, 1, 5) && told() == 1, "n 0: one cycle");
+}
+
+/* ---- The two desks: request #109 ---- */
+
+static const unsigned desks[] = {DESK_A, DESK_B, 2, 255};
+#define EVERY_DESK(d) (size_t d = 0; d < sizeof desks / sizeof *desks; d++)
+
+/* Key 5 is on channels 0 and 1, and was passed by hand. On channel 0 A's 10 plays before B's 40; on channel 1 B's 41 before A's
+   11. B's 42 waits for 10's cycle, then A's 12 for 41's; both have locked channel 2 of key 6, B's 43 first, then A's 13. */
+static void shared(struct Arbiter *a)
+{
+    arbiter_fresh(a, 4);
+    enter(a, 5);
+    call(a, ADCMD_ALLOCATE, 0, IOF_QUICK, 0, 1, 5, "\3");
+    call(a, ADCMD_ALLOCATE, 0, IOF_QUICK, 0, 1, 6, "\4");
+    put_write(a, 10, 1, 7);
+    put_write(a, 40, 1, 7);
+    put_write(a, 41, 2, 7);
+    put_write(a, 11, 2, 7);
+    call(a, ADCMD_WAITCYCLE, 42, 0, 1, 0, 5, "");
+    call(a, ADCMD_WAITCYCLE, 12, 0, 2, 0, 5, "");
+    call(a, ADCMD_LOCK, 43, 0, 4, 0, 6, "");
+    call(a, ADCMD_LOCK, 13, 0, 4, 0, 6, "");
+    memset(record, 0x55, sizeof record);
+}
+
+static int untouched(unsigned from, unsigned to)
+{
+    for (unsigned at = from; at < to; at++)
+        for (size_t i = 0; i < sizeof *record; i++)
+            if (((const uint8_t *)&record[at])[i] != 0x55)
+                return 0;
+    return 1;
+}
+
+static int asks_no_desk(unsigned operation)
+{
+    return operation == CALL_OPEN || operation == CALL_CLOSE || operation == CALL_CYCLE_ENDED || operation == CALL_GAVE_UP;
+}
+
+/* 8 is like 4: nothing moves, no reply, map 0, the key given, FF, no settling. What is no desk has no id of its own. */
+static void test_other_desk(void)
+{
+    struct Arbiter a, before;
+
+    shared(&a);
+    put_waiting(&a, 20, 50, 9, 0, 8);               /* it could be granted, and must not be */
+    before = a;
+    check(arbiter_sound(&a), "two desks, and sound");
+    for EVERY_DESK(d) {
+        int alike = 1;
+
+        for (unsigned operation = 0; operation < 256; operation++)
+            for (unsigned id = 0; id < 256 && !asks_no_desk(operation); id++)
+                if (id >= REQUESTS || id / HALF != desks[d])
+                    alike &= same_answer(call_from(desks[d], &a, operation, id, 0, 255, 0, 1234, "\377"),
+                                         0, id >= REQUESTS ? REFUSED_ID : REFUSED_DESK, 0, 1234, 255)
+                        && told() == 0 && memcmp(&a, &before, sizeof a) == 0;
+        check(alike && untouched(0, REQUESTS), "an id of the other half: 8, and above 63: 4, and nothing moves");
+    }
+    for EVERY_DESK(d) {
+        int alike = 1;
+
+        for (unsigned id = 0; id < REQUESTS; id++) {
+            a = before;
+            alike &= (call_from(desks[d], &a, CALL_ABORT, id, 0, 0, 0, 5, "").error == REFUSED_DESK) == (id / HALF != desks[d]);
+            alike &= (call_from(desks[d], &a, 99, id, 0, 0, 0, 5, "").error == REFUSED_DESK) == (id / HALF != desks[d]);
+        }
+        check(alike, "each desk has its half, and what is no desk has none");
+    }
+    /* Order: 1, 5, 4, 8, 3, 2, then the others. */
+    a = before;
+    check(call_from(DESK_B, &a, CMD_CLEAR, 10, 0, 0, 0, 5, "").error == REFUSED_DESK, "8 before 3");
+    check(call_from(DESK_A, &a, CMD_CLEAR, 10, 0, 0, 0, 5, "").error == REFUSED_OUTSTANDING, "its own: 3");
+    replies.capacity = REQUESTS - 1;
+    check(call_from(DESK_B, &a, CMD_CLEAR, 10, 0, 0, 0, 5, "").error == REFUSED_REPLIES, "5 before 8");
+    check(call(&a, CMD_CLEAR, 1, 0, 0, 0, 5, "").error == REFUSED_REPLIES, "5 stands at 64 records, for A");
+    check(call(&a, CMD_CLEAR, 50, 0, 0, 0, 5, "").error == REFUSED_REPLIES, "5 stands at 64 records, for B");
+    replies.capacity = REQUESTS;
+    a.open.count = a.open.key[0] = 0;
+    check(call_from(DESK_A, &a, CMD_CLEAR, 60, 0, 0, 0, 5, "").error == REFUSED_DESK, "8 before 2");
+    check(call_from(DESK_B, &a, CMD_CLEAR, 60, 0, 0, 0, 5, "").error == REFUSED_CLOSED, "its own: 2");
+    a.channel[3].stopped = 1;
+    check(call_from(DESK_A, &a, CMD_CLEAR, 60, 0, 0, 0, 5, "").error == REFUSED_UNSOUND, "1 before 8");
+}
+
+/* OPEN, CLOSE and the events do not depend on the desk, nor on the id. */
+static void test_no_desk_asked(void)
+{
+    static const unsigned operations[] = {CALL_OPEN, CALL_CLOSE, CALL_CYCLE_ENDED, CALL_GAVE_UP};
+    struct Arbiter a, b;
+
+    for (size_t i = 0; i < sizeof operations / sizeof *operations; i++) {
+        struct Answer want;
+        size_t to_a, to_b;
+        struct Reply kept[REQUESTS + 1];
+
+        shared(&a);
+        want = call_from(DESK_A, &a, operations[i], 0, 0, 1, 2, 5, "\3");
+        check(want.error == DONE && told() > 0, "the call does something");
+        to_a = replies.count[DESK_A];
+        to_b = replies.count[DESK_B];
+        memcpy(kept, record, sizeof record);
+        for EVERY_DESK(d) {
+            int alike = 1;
+
+            for (unsigned id = 0; id < 256; id++) {
+                struct Answer got;
+
+                shared(&b);
+                got = call_from(desks[d], &b, operations[i], id, 0, 1, 2, 5, "\3");
+                alike &= same_answer(got, want.outstanding, want.error, want.map, want.key, want.last)
+                    && memcmp(&a, &b, sizeof a) == 0 && replies.count[DESK_A] == to_a && replies.count[DESK_B] == to_b
+                    && memcmp(kept, record, sizeof record) == 0;
+            }
+            check(alike, "OPEN, CLOSE and the events: the same from any desk");
+        }
+    }
+}
+
+/* A reply goes to the half of its id, whoever calls; each half in the order of making, and nothing behind its number. */
+static void test_halves(void)
+{
+    struct Arbiter a;
+
+    for (unsigned id = 1; id < REQUESTS; id += HALF) {      /* A calls, then B: all is alike but its own reply */
+        unsigned to_a = id < HALF ? 4 : 3, to_b = id < HALF ? 3 : 4;
+
+        shared(&a);
+        check(same_answer(call(&a, CMD_FLUSH, id, 0, 3, 0, 5, ""), 0, 0, 3, 5, 255), "FLUSH of what both play");
+        check(replies.count[DESK_A] == to_a && replies.count[DESK_B] == to_b, "each half has its own number");
+        check(same_reply(0, 10, CMD_WRITE, IOERR_ABORTED, 0, 5) && same_reply(1, 11, CMD_WRITE, IOERR_ABORTED, 0, 5)
+              && same_reply(2, 12, ADCMD_WAITCYCLE, IOERR_ABORTED, 0, 5), "A's writes, then its waiter");
+        check(same_reply(32, 40, CMD_WRITE, IOERR_ABORTED, 0, 5) && same_reply(33, 41, CMD_WRITE, IOERR_ABORTED, 0, 5)
+              && same_reply(34, 42, ADCMD_WAITCYCLE, IOERR_ABORTED, 0, 5), "B's writes, then its waiter");
+        check(same_reply(id < HALF ? 3 : 35, id, CMD_FLUSH, 0, 3, 5), "its own reply, in its own half");
+        check(untouched(to_a, HALF) && untouched(HALF + to_b, REQUESTS + 1), "records behind each number are untouched");
+        check(replies.made[0] == 0 && replies.made[1] == 32 && replies.made[2] == 33 && replies.made[3] == 1
+              && replies.made[4] == 34 && replies.made[5] == 2, "made in document 01's order over both desks");
+    }
+    shared(&a);
+    call(&a, CMD_CLEAR, 40 + 1, 0, 0, 0, 0, "");
+    check(told() == 0 && untouched(0, REQUESTS), "3 touches no record");
+    call(&a, CMD_CLEAR, 32, 0, 0, 0, 9, "");
+    check(replies.count[DESK_A] == 0 && replies.count[DESK_B] == 1 && same_reply(32, 32, CMD_CLEAR, 0, 0, 9) && untouched(0, 32)
+          && untouched(33, REQUESTS), "32 is B's first id");
+    shared(&a);
+    call(&a, CMD_CLEAR, 31, 0, 0, 0, 9, "");
+    check(replies.count[DESK_A] == 1 && replies.count[DESK_B] == 0 && same_reply(0, 31, CMD_CLEAR, 0, 0, 9)
+          && untouched(1, REQUESTS), "31 is A's last id");
+    /* A steal tells both desks, whoever steals; a grant that had waited goes to the half that asked. */
+    shared(&a);
+    check(same_answer(call(&a, CALL_OPEN, 0, 0, 0, 2, 7, "\1"), 0, 0, 1, 7, 255) && replies.count[DESK_A] == 1
+          && replies.count[DESK_B] == 2 && same_reply(0, 10, CMD_WRITE, IOERR_ABORTED, 0, 5)
+          && same_reply(32, 40, CMD_WRITE, IOERR_ABORTED, 0, 5) && same_reply(33, 42, ADCMD_WAITCYCLE, IOERR_ABORTED, 0, 5),
+          "a steal tells both");
+    shared(&a);
+    call(&a, ADCMD_ALLOCATE, 50, 0, 0, 1, 8, "\2");
+    check(same_answer(call(&a, ADCMD_FREE, 1, IOF_QUICK, 2, 0, 5, ""), 0, 0, 2, 5, 255) && replies.count[DESK_A] == 2
+          && replies.count[DESK_B] == 2 && same_reply(0, 11, CMD_WRITE, IOERR_ABORTED, 0, 5)
+          && same_reply(1, 12, ADCMD_WAITCYCLE, IOERR_ABORTED, 0, 5) && same_reply(32, 41, CMD_WRITE, IOERR_ABORTED, 0, 5)
+          && same_reply(33, 50, ADCMD_ALLOCATE, 0, 2, 8), "A's FREE is B's grant");
+}
+
+/* READ answers 255 for the other desk's write, and is else as it was. Nothing else hides it. */
+static void test_passed_keys(void)
+{
+    struct Arbiter a, b;
+
+    shared(&a);
+    b = a;
+    check(same_answer(call(&b, CMD_READ, 1, IOF_QUICK, 1, 0, 5, ""), 0, 0, 1, 5, 10), "A reads its own write");
+    check(same_answer(call(&b, CMD_READ, 33, IOF_QUICK, 1, 0, 5, ""), 0, 0, 1, 5, 255), "B reads nothing of it, its own behind it");
+    check(same_answer(call(&b, CMD_READ, 33, IOF_QUICK, 2, 0, 5, ""), 0, 0, 2, 5, 41), "B reads its own write");
+    check(same_answer(call(&b, CMD_READ, 1, IOF_QUICK, 2, 0, 5, ""), 0, 0, 2, 5, 255), "A reads nothing of it");
+    check(same_answer(call(&b, CMD_READ, 1, 0, 2, 0, 5, ""), 0, 0, 2, 5, 255) && told() == 1
+          && same_reply(0, 1, CMD_READ, 0, 2, 5), "its own reply is as ever");
+    check(same_answer(call(&b, CMD_READ, 1, IOF_QUICK, 2, 0, 6, ""), 0, ADIOERR_NOALLOCATION, 0, 6, 255), "another key: -10");
+    check(memcmp(&a, &b, sizeof a) == 0, "READ moves nothing");
+
+    /* B under A's key: its PERVOL, STOP, FINISH, WAITCYCLE and FREE reach A's write. */
+    call(&b, ADCMD_PERVOL, 33, IOF_QUICK, 1, 0, 5, "");
+    check(front_is(&b, 10, 7, 124, 64), "B's PERVOL of A's write");
+    check(same_answer(call(&b, ADCMD_WAITCYCLE, 33, 0, 1, 0, 5, ""), 1, 0, 0, 5, 255), "B waits for A's cycle");
+    check(same_answer(call(&b, CALL_CYCLE_ENDED, 0, 0, 1, 0, 0, ""), 0, 0, 1, 0, 255) && replies.count[DESK_A] == 0
+          && same_reply(32, 42, ADCMD_WAITCYCLE, 0, 1, 5) && same_reply(33, 33, ADCMD_WAITCYCLE, 0, 1, 5), "and is told");
+    check(same_answer(call(&b, ADCMD_FINISH, 33, IOF_QUICK, 1, 0, 5, ""), 0, 0, 1, 5, 255) && replies.count[DESK_B] == 0
+          && same_reply(0, 10, CMD_WRITE, IOERR_ABORTED, 0, 5) && front_is(&b, 40, 7, 200, 10), "B's FINISH of A's write");
+    check(same_answer(call_from(DESK_B, &b, CALL_ABORT, 11, 0, 0, 0, 5, ""), 0, REFUSED_DESK, 0, 5, 255), "but no ABORT");
+    check(same_answer(call(&b, CALL_ABORT, 11, 0, 0, 0, 5, ""), 0, 0, 0, 5, 1), "which A may send");
+
+    /* One order of age over both desks: B's lock is the older, and so is its WAITCYCLE. */
+    b = a;
+    call(&b, ADCMD_ALLOCATE, 34, 0, 0, 9, 7, "\4");
+    check(told() == 2 && same_reply(0, 13, ADCMD_LOCK, ADIOERR_CHANNELSTOLEN, 4, 6)
+          && same_reply(32, 43, ADCMD_LOCK, ADIOERR_CHANNELSTOLEN, 4, 6) && replies.made[0] == 32 && replies.made[1] == 0,
+          "B's lock is the older");
+    call(&a, CMD_RESET, 33, IOF_QUICK, 3, 0, 5, "");
+    check(replies.made[4] == 34 && replies.made[5] == 2 && same_reply(34, 42, ADCMD_WAITCYCLE, IOERR_ABORTED, 0, 5)
+          && same_reply(2, 12, ADCMD_WAITCYCLE, IOERR_ABORTED, 0, 5), "B's WAITCYCLE is the older");
+}
+
+/* Two states alike in what is A's and in what both see, and not in what B plays, awaits, has locked and has asked to be
+   remembered. A's next call, under no key of B's writes, gets the same answer and the same replies in its half. */
+static void test_apart(void)
+{
+    static const unsigned keys[] = {0, 5, 7, 9};
+    struct Arbiter one, two, a, b;
+
+    arbiter_fresh(&one, 4);
+    enter(&one, 5);
+    enter(&one, 6);
+    call(&one, ADCMD_ALLOCATE, 0, IOF_QUICK, 0, 1, 5, "\1");
+    call(&one, ADCMD_ALLOCATE, 32, IOF_QUICK, 0, 2, 6, "\6");
+    put_write(&one, 10, 1, 3);
+    put_write(&one, 11, 1, 3);
+    call(&one, ADCMD_WAITCYCLE, 12, 0, 1, 0, 5, "");
+    call(&one, ADCMD_ALLOCATE, 13, 0, 0, 0, 7, "\7");
+    call(&one, ADCMD_ALLOCATE, 50, 0, 0, -1, 9, "\3");
+    two = one;
+    call(&one, ADCMD_LOCK, 51, 0, 2, 0, 6, "");
+    call(&two, ADCMD_LOCK, 52, 0, 2, 0, 6, "");
+    call(&two, ADCMD_LOCK, 51, 0, 2, 0, 6, "");
+    for (unsigned id = 40; id < 43; id++) {
+        struct Frame f = {DESK_B, CMD_WRITE, (uint8_t)id, 0, 4, 0, 6, 0, {0}};
+
+        arbiter_call(&two, &f, &replies);
+    }
+    call(&two, ADCMD_FINISH, 60, IOF_QUICK | ADIOF_SYNCCYCLE, 4, 0, 6, "");
+    call(&two, ADCMD_WAITCYCLE, 61, 0, 4, 0, 6, "");
+    check(arbiter_sound(&one) && arbiter_sound(&two) && two.channel[2].finish && one.channel[2].writes.count == 0, "two states");
+    for (unsigned operation = 0; operation < 256; operation++) {
+        int alike = 1;
+
+        if (operation == CALL_CYCLE_ENDED || operation == CALL_GAVE_UP)
+            continue;                       /* no desk's */
+        for (unsigned id = 0; id < 15; id++)
+            for (unsigned map = 0; map < 16; map++)
+                for (size_t k = 0; k < sizeof keys / sizeof *keys; k++) {
+                    struct Reply kept[HALF];
+                    struct Answer want, got;
+                    size_t count;
+
+                    a = one;
+                    b = two;
+                    memset(record, 0x55, sizeof record);
+                    want = call(&a, operation, id, map & 1, map, (int)id - 2, keys[k], id % 3 ? "\6\3" : "");
+                    count = replies.count[DESK_A];
+                    memcpy(kept, record, sizeof kept);
+                    memset(record, 0x55, sizeof record);
+                    got = call(&b, operation, id, map & 1, map, (int)id - 2, keys[k], id % 3 ? "\6\3" : "");
+                    alike &= same_answer(got, want.outstanding, want.error, want.map, want.key, want.last)
+                        && replies.count[DESK_A] == count && memcmp(kept, record, sizeof kept) == 0;
+                }
+        check(alike, "what B plays makes no difference to A");
+    }
 }
 
 /* ---- Stereo: request #108 ---- */
@@ -777,6 +1053,11 @@ int main(void)
     test_cycle_ended();
     test_gave_up();
     test_events();
+    test_other_desk();
+    test_no_desk_asked();
+    test_halves();
+    test_passed_keys();
+    test_apart();
     test_stereo();
     printf("test.c: %d passed, %d failed\n", passed, failed);
     return failed != 0;

@@ -32,7 +32,8 @@ for case in cases/*.txt; do
     check "$case"
 done
 
-# Old logs: without F4 and the commands 11, 12 and 14, and with every WRITE of n 0, the output is that of before request #101.
+# Old logs: without F4 and the commands 11, 12 and 14, with every WRITE of n 0 and with the ids of one desk, the output is that of
+# before request #101.
 for out in old/*.out; do
     name=${out%.out}
     board=${name#*-}
@@ -44,6 +45,25 @@ for out in old/*.out; do
     else
         failed=$((failed + 1))
         echo "FAILED: $name.log is no old log, or no longer gives its output"
+    fi
+done
+
+# Logs of two desks are outside that premise. Where a call replies to both, the same lines stand in another order; READ no longer
+# shows the other's write, as the fourth line of that output did.
+changed() {
+    ! awk -f old/premise.awk "$1.log" | cmp -s - "$1.log" && ./arbiter2 <"$1.log" | cmp -s - "$1.now" &&
+        ! cmp -s "$1.then" "$1.now" || return
+    case $1 in
+    */both) sort "$1.then" >"$work/then" && sort "$1.now" | cmp -s - "$work/then" ;;
+    */read) sed '4s/02$/FF/' "$1.then" | cmp -s - "$1.now" ;;
+    esac
+}
+for now in old/changed/*.now; do
+    if changed "${now%.now}"; then
+        passed=$((passed + 1))
+    else
+        failed=$((failed + 1))
+        echo "FAILED: ${now%.now}.log does not give what it gives since request #109"
     fi
 done
 

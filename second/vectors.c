@@ -307,6 +307,9 @@ static void make_call(struct Frame *f, unsigned operation)
     f->id = (uint8_t)idle_id();
     if (percent(operation == CALL_ABORT ? 60 : 5))
         f->id = (uint8_t)below(72);
+    f->desk = (uint8_t)arbiter_desk(f->id);
+    if (percent(12))
+        f->desk = (uint8_t)(percent(60) ? below(2) : percent(50) ? 2 : 2 + below(254));
     f->flags = (uint8_t)((percent(50) ? IOF_QUICK : 0) | (percent(50) ? ADIOF_NOWAIT : 0)
                          | (percent(50) ? ADIOF_SYNCCYCLE : 0));
     if (percent(10))
@@ -346,12 +349,17 @@ static struct Reply record[REQUESTS];
 static struct Replies replies;
 static struct Answer answer;
 
+/* The reply that was made so many after the first: the machine has them in one list. */
+static const struct Reply *reply(size_t i)
+{
+    return &record[replies.made[i]];
+}
+
 static int settled(void)                    /* some reply to another than the caller */
 {
-    for (size_t i = 0; i < replies.count; i++)
-        if (replies.record[i].id != call.id
-            && (replies.record[i].command == ADCMD_ALLOCATE
-                || replies.record[i].error == ADIOERR_CHANNELSTOLEN))
+    for (size_t i = 0; i < arbiter_replied(&replies); i++)
+        if (reply(i)->id != call.id
+            && (reply(i)->command == ADCMD_ALLOCATE || reply(i)->error == ADIOERR_CHANNELSTOLEN))
             return 1;
     return 0;
 }
@@ -360,8 +368,8 @@ static unsigned grants(void)
 {
     unsigned count = 0;
 
-    for (size_t i = 0; i < replies.count; i++)
-        if (replies.record[i].command == ADCMD_ALLOCATE && replies.record[i].error == DONE)
+    for (size_t i = 0; i < arbiter_replied(&replies); i++)
+        if (reply(i)->command == ADCMD_ALLOCATE && reply(i)->error == DONE)
             count++;
     return count;
 }
@@ -369,16 +377,15 @@ static unsigned grants(void)
 /* The call's own request, answered as outstanding and ended in the same call. */
 static int ended_itself(int error)
 {
-    for (size_t i = 0; i < replies.count; i++)
-        if (answer.outstanding && replies.record[i].id == call.id
-            && replies.record[i].error == error)
+    for (size_t i = 0; i < arbiter_replied(&replies); i++)
+        if (answer.outstanding && reply(i)->id == call.id && reply(i)->error == error)
             return 1;
     return 0;
 }
 
 static int unchanged(void)
 {
-    return replies.count == 0 && memcmp(&before, &after, sizeof before) == 0;
+    return arbiter_replied(&replies) == 0 && memcmp(&before, &after, sizeof before) == 0;
 }
 
 static int read_settles(void) { return answer.error == DONE && settled(); }
@@ -421,8 +428,8 @@ static unsigned told(unsigned command, int error)   /* how many replies */
 {
     unsigned count = 0;
 
-    for (size_t i = 0; i < replies.count; i++)
-        count += replies.record[i].command == command && replies.record[i].error == error;
+    for (size_t i = 0; i < arbiter_replied(&replies); i++)
+        count += reply(i)->command == command && reply(i)->error == error;
     return count;
 }
 static unsigned remembered(const struct Arbiter *a)
@@ -438,9 +445,9 @@ static int cuts_two(void)                   /* oldest first, and not by channel 
 {
     unsigned last = 0, falls = 0;
 
-    for (size_t i = 0; i < replies.count; i++)
-        if (replies.record[i].command == ADCMD_WAITCYCLE) {
-            unsigned map = before.request[replies.record[i].id].map;
+    for (size_t i = 0; i < arbiter_replied(&replies); i++)
+        if (reply(i)->command == ADCMD_WAITCYCLE) {
+            unsigned map = before.request[reply(i)->id].map;
 
             falls += map < last;
             last = map;
@@ -528,6 +535,45 @@ static int passes_opener(void)              /* the next key to be issued has an 
 }
 static int id_outstanding(void) { return answer.error == REFUSED_OUTSTANDING && unchanged(); }
 static int id_high(void) { return answer.error == REFUSED_ID && unchanged(); }
+static int of_other_desk(void)              /* the id of the other half, or the call of no desk */
+{
+    return answer.error == REFUSED_DESK && call.desk < DESKS && unchanged();
+}
+static int of_no_desk(void) { return answer.error == REFUSED_DESK && call.desk >= DESKS && unchanged(); }
+static int other_outstanding(void) { return of_other_desk() && before.request[call.id].command != 0; }
+static int other_closed(void) { return answer.error == REFUSED_DESK && before.open.count == 0 && unchanged(); }
+static int other_high(void) { return id_high() && call.desk != arbiter_desk(call.id); }
+static int any_desk(void)                   /* the desk makes no difference */
+{
+    return answer.error == DONE && call.desk != arbiter_desk(call.id) && arbiter_replied(&replies) > 0;
+}
+/* The channel that a READ is done on, where a write is in progress there; else NULL. */
+static const struct Channel *read_of(void)
+{
+    for (unsigned c = 0; c < CHANNELS; c++)
+        if (answer.error == DONE && answer.map == 1u << c && before.channel[c].writes.count > 0 && !before.channel[c].stopped)
+            return &before.channel[c];
+    return NULL;
+}
+static int hidden_read(void) { return read_of() != NULL && answer.last == NO_ID; }
+static int own_read(void)                   /* of the front of two desks' writes */
+{
+    const struct Channel *c = read_of();
+
+    return c != NULL && answer.last != NO_ID && c->writes.count > 1 && arbiter_desk(c->writes.id[1]) != call.desk;
+}
+static int b_first(void)                    /* replies to both, and one to B was made before one to A */
+{
+    int to_b = 0;
+
+    for (size_t i = 0; i < arbiter_replied(&replies); i++) {
+        if (arbiter_desk(reply(i)->id) == DESK_B)
+            to_b = 1;
+        else if (to_b)
+            return 1;
+    }
+    return 0;
+}
 static int no_command(void) { return answer.error == IOERR_NOCMD; }
 static int bad_length(void) { return answer.error == IOERR_BADLENGTH; }
 static int bad_address(void) { return answer.error == IOERR_BADADDRESS; }
@@ -589,6 +635,17 @@ static const struct Wish wishes[] = {
     {"outstanding-ids", 2, {CMD_WRITE, ADCMD_ALLOCATE}, id_outstanding,
      "refused with 3: nothing is settled"},
     {"high-ids", 2, {CALL_ABORT, ADCMD_LOCK}, id_high, "refused with 4: nothing is settled"},
+    {"other-desks", 4, {CALL_ABORT, ADCMD_LOCK, CMD_READ, ADCMD_ALLOCATE}, of_other_desk,
+     "an id of the other desk's half: 8, and nothing is settled"},
+    {"no-desks", 2, {CALL_ABORT, CMD_WRITE}, of_no_desk, "neither desk A nor B: 8"},
+    {"other-desks-outstanding", 2, {CMD_CLEAR, CALL_ABORT}, other_outstanding, "8 before 3; and ABORT of the other's request"},
+    {"other-desks-closed", 1, {CMD_FLUSH}, other_closed, "8 before 2"},
+    {"other-desks-high", 2, {CALL_ABORT, CMD_STOP}, other_high, "4 before 8"},
+    {"any-desk", 4, {CALL_OPEN, CALL_CLOSE, CALL_CYCLE_ENDED, CALL_GAVE_UP}, any_desk, "OPEN, CLOSE and the events from any desk"},
+    {"reads-hidden", 4, {CMD_READ}, hidden_read, "READ answers 255 for the other desk's write"},
+    {"reads-own", 2, {CMD_READ}, own_read, "READ answers its own write, with the other desk's behind it"},
+    {"both-desks-told", 8, {CMD_FLUSH, ADCMD_FREE, CALL_CLOSE, CALL_OPEN, ADCMD_ALLOCATE, ADCMD_FINISH, CALL_CYCLE_ENDED, CALL_GAVE_UP},
+     b_first, "replies to both desks, one of them to B before one to A"},
     {"cuts-tell", 8, {CMD_RESET, CMD_FLUSH, ADCMD_FREE, ADCMD_FINISH, CALL_CLOSE, CALL_OPEN, ADCMD_ALLOCATE, CALL_ABORT}, cuts_waiters,
      "a front write ends otherwise than at its cycle's end: who waits for its cycle is replied -2"},
     {"cuts-by-age", 3, {CMD_FLUSH, ADCMD_FREE, ADCMD_FINISH}, cuts_two, "who waits is told by age, and not by channel"},
@@ -758,7 +815,11 @@ static void put_call(void)
 {
     static const char *const named[5] = {"OPEN", "CLOSE", "ABORT", "(EVENT CYCLE·ENDED)", "(EVENT GAVE·UP)"};
 
-    printf("(asks ");
+    /* `asks` is of the desk that has the id. */
+    if (call.desk == arbiter_desk(call.id))
+        printf("(asks ");
+    else
+        printf("(asksFrom %u ", call.desk);
     if (call.operation >= CALL_OPEN && call.operation <= CALL_GAVE_UP)
         printf("%s", named[call.operation - CALL_OPEN]);
     else
@@ -773,8 +834,8 @@ static void put_outcome(void)
 {
     printf("(gets (says %s %u %u %u %u)\n    (", truth(answer.outstanding),
            (uint8_t)answer.error, answer.map, answer.key, answer.last);
-    for (size_t i = 0; i < replies.count; i++) {
-        const struct Reply *r = &replies.record[i];
+    for (size_t i = 0; i < arbiter_replied(&replies); i++) {
+        const struct Reply *r = reply(i);
 
         printf("reply %u %u %u %u %u ∷ ", r->id, r->command, (uint8_t)r->error, r->map,
                r->key);
@@ -803,8 +864,10 @@ static void put_remark(void)
         printf("ALLOCATE");
     else
         printf("command %02X", n);
+    if (call.desk != arbiter_desk(call.id))
+        printf(" of desk %u", call.desk);
     printf(": %s, error %d, replies %u\n", answer.outstanding ? "outstanding" : "done",
-           answer.error, (unsigned)replies.count);
+           answer.error, (unsigned)arbiter_replied(&replies));
 }
 
 /* One statement: a table of calls that belong together. */
@@ -852,16 +915,18 @@ static void put_hex(const uint8_t *byte, size_t count)
     printf("\"");
 }
 
+/* "A's replies are written first." */
 static void put_answer_lines(void)
 {
-    for (size_t i = 0; i < replies.count; i++) {
-        const struct Reply *r = &replies.record[i];
-        uint8_t byte[7] = {0xC0, r->id, r->command, (uint8_t)r->error, r->map,
-                           (uint8_t)(r->key >> 8), (uint8_t)(r->key & 255)};
+    for (size_t at = 0; at < REQUESTS; at++)
+        if (at % HALF < replies.count[at / HALF]) {
+            const struct Reply *r = &record[at];
+            uint8_t byte[7] = {0xC0, r->id, r->command, (uint8_t)r->error, r->map,
+                               (uint8_t)(r->key >> 8), (uint8_t)(r->key & 255)};
 
-        put_hex(byte, sizeof byte);
-        printf(" ∷ ");
-    }
+            put_hex(byte, sizeof byte);
+            printf(" ∷ ");
+        }
     {
         uint8_t byte[6] = {(uint8_t)(0xA0 + answer.outstanding), (uint8_t)answer.error,
                            answer.map, (uint8_t)(answer.key >> 8),
@@ -892,7 +957,7 @@ static void put_log(const char *name)
             answer = log_malformed();
             replies.record = record;
             replies.capacity = REQUESTS;
-            replies.count = 0;
+            replies.count[DESK_A] = replies.count[DESK_B] = 0;
             if (log_decode(line, length, &call))
                 answer = arbiter_call(&after, &call, &replies);
             printf("(\"%.*s\", ", (int)length, line);

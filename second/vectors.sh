@@ -24,13 +24,13 @@ use Rattle.machine.specs.State.{OPEN, CLOSE, ABORT, EVENT, CYCLE·ENDED, GAVE·
 use Rattle.machine.specs.Text.{bytes, page}
 use Rattle.machine.specs.Log.{log}
 use Rattle.machine.specs.Drawn.{Talk, given, written}
-use Rattle.machine.specs.Walks.{Vector, vector, Computes, plays, cuts, tunes, both, chan, lock, wait, stands, asks, reply, says, gets}
+use Rattle.machine.specs.Walks.{Vector, vector, Computes, plays, cuts, tunes, both, chan, lock, wait, stands, asks, asksFrom, reply, says, gets}
 use Rattle.machine.specs.Machine.{machine}
 
 abbrev pub Answers : Talk → Type 0
 Answers t = log (page (given t)) ≡ page (written t)
 
--- ---- Logs: second/generate, one of each short style, and two of the mix and of the cycles
+-- ---- Logs: second/generate, one of each short style, and two of the mix, of the cycles and of the desks
 HEAD
 
 # log NAME SEED STYLE
@@ -54,6 +54,8 @@ log of-opens 15 opens
 log of-cuts 39 cuts
 log of-cycles 48 cycles
 log of-cycles-again 1 cycles
+log of-desks 142 desks
+log of-desks-again 90 desks
 
 printf '\n%s\n' '-- ---- Calls on a board of four channels'
 ./vectors calls 1 || exit 1

@@ -19,7 +19,7 @@ enum Piece { COMBOS, STATE, TABLE, REPLIES, ANSWER, PIECES };
 static const char *const piece_name[PIECES] = {"combinations", "state", "table", "replies", "answer"};
 
 struct Call {
-    uint8_t op, id, flags, map, prec;
+    uint8_t desk, op, id, flags, map, prec;
     uint16_t key;
     struct Bytes piece[PIECES];
 };
@@ -27,12 +27,13 @@ struct Call {
 /* ---- What was tried */
 
 enum Count {
-    CALLS, SOUND, ACCEPTED, REFUSED, DAMAGED_SOUND, UNSOUND, UNDECODED, UNANSWERED, REPLIED, CYCLES, GIVEN_UP, FRESH, COUNTS
+    CALLS, SOUND, ACCEPTED, REFUSED, DAMAGED_SOUND, UNSOUND, UNDECODED, UNANSWERED, REPLIED, TO_BOTH, FROM_A, FROM_B, FROM_NO_DESK,
+    OTHERS_READ, CYCLES, GIVEN_UP, FRESH, COUNTS
 };
 static const char *const count_name[COUNTS] = {
     "calls", "sound", "sound: accepted", "sound: refused", "sound: state or table was damaged", "not sound",
-    "no state: a length or a mark", "no room for an answer", "replies", "cycles ended", "writes given up",
-    "fresh devices"
+    "no state: a length or a mark", "no room for an answer", "replies", "replies to both desks", "accepted from A",
+    "accepted from B", "accepted from no desk", "READs of the other's write", "cycles ended", "writes given up", "fresh devices"
 };
 static unsigned long count[COUNTS];
 static unsigned long answered[2][256], replied[256];        /* by error; answers: done, outstanding */
@@ -42,13 +43,15 @@ static struct Lent lent[PIECES];
 
 /* ---- What must come back */
 
-static void put_answer(uint8_t *b, const struct Answer *answer)
+static void put_answer(uint8_t *b, const struct Answer *answer, const struct Replies *replies)
 {
     b[QAMHUDEER_ANSWER_OUTSTANDING] = answer->outstanding;
     b[QAMHUDEER_ANSWER_ERROR] = (uint8_t)answer->error;
     b[QAMHUDEER_ANSWER_MAP] = answer->map;
     put_key(b + QAMHUDEER_ANSWER_KEY, answer->key);
     b[QAMHUDEER_ANSWER_EXTRA] = answer->last;
+    b[QAMHUDEER_ANSWER_REPLIES_A] = (uint8_t)replies->count[DESK_A];
+    b[QAMHUDEER_ANSWER_REPLIES_B] = (uint8_t)replies->count[DESK_B];
 }
 
 static void put_reply(uint8_t *b, const struct Reply *reply)
@@ -66,6 +69,7 @@ static void read_frame(struct Frame *f, const struct Call *c)
     size_t n = c->piece[COMBOS].length;
 
     memset(f, 0, sizeof *f);
+    f->desk = c->desk;
     f->operation = c->op;
     f->id = c->id;
     f->flags = c->flags;
@@ -78,14 +82,14 @@ static void read_frame(struct Frame *f, const struct Call *c)
 
 static int refusal(int error)
 {
-    return (error >= 1 && error <= 5) || error == -1 || (error <= -3 && error >= -5);
+    return (error >= 1 && error <= 5) || error == 8 || error == -1 || (error <= -3 && error >= -5);
 }
 
 /* The call becomes what the lent memory must hold after it. The result is the one that must be returned. */
 static size_t expected(struct Call *c)
 {
     struct Reply record[REQUESTS];
-    struct Replies replies = {record, c->piece[REPLIES].length / QAMHUDEER_REPLY_SIZE, 0};
+    struct Replies replies = {.record = record, .capacity = c->piece[REPLIES].length / QAMHUDEER_REPLY_SIZE};
     struct Answer answer = {0, QAMHUDEER_UNSOUND, 0, 0, NO_ID};
     struct Arbiter a;
     struct Frame f;
@@ -94,25 +98,26 @@ static size_t expected(struct Call *c)
         return QAMHUDEER_UNANSWERED;
     if (!is_sound(&c->piece[STATE], &c->piece[TABLE], &a)) {
         answer.key = c->key;
-        put_answer(c->piece[ANSWER].byte, &answer);
+        put_answer(c->piece[ANSWER].byte, &answer, &replies);
         return 0;
     }
     read_frame(&f, c);
     answer = arbiter_call(&a, &f, &replies);
-    put_answer(c->piece[ANSWER].byte, &answer);
-    for (size_t i = 0; i < replies.count; i++)
-        put_reply(c->piece[REPLIES].byte + i * QAMHUDEER_REPLY_SIZE, &record[i]);
+    put_answer(c->piece[ANSWER].byte, &answer, &replies);
+    for (size_t at = 0; at < REQUESTS; at++)
+        if (at % HALF < replies.count[at / HALF])
+            put_reply(c->piece[REPLIES].byte + at * QAMHUDEER_REPLY_SIZE, &record[at]);
     if (!refusal(answer.error))
         put_all(c->piece[STATE].byte, c->piece[TABLE].byte, &a);
-    return replies.count;
+    return arbiter_replied(&replies);
 }
 
 /* ---- A call */
 
 static void show(const struct Call *c)
 {
-    printf("    operation %02X, id %u, flags %02X, map %02X, precedence %02X, key %u\n",
-           c->op, c->id, c->flags, c->map, c->prec, c->key);
+    printf("    desk %u, operation %02X, id %u, flags %02X, map %02X, precedence %02X, key %u\n",
+           c->desk, c->op, c->id, c->flags, c->map, c->prec, c->key);
     for (unsigned p = 0; p < PIECES; p++)
         show_bytes(piece_name[p], &c->piece[p]);
 }
@@ -124,17 +129,29 @@ static void different(const struct Call *c)
     exit(1);
 }
 
+/* A READ that is done and tells no id, on a channel where a write is in progress. */
+static int reads_others(const struct Call *before, const uint8_t *answer, const struct Arbiter *a)
+{
+    if (before->op != CMD_READ || answer[QAMHUDEER_ANSWER_ERROR] != 0 || answer[QAMHUDEER_ANSWER_EXTRA] != NO_ID)
+        return 0;
+    for (unsigned c = 0; c < a->channels; c++)
+        if (answer[QAMHUDEER_ANSWER_MAP] == 1u << c)
+            return a->channel[c].writes.count > 0 && !a->channel[c].stopped;
+    return 0;
+}
+
 static void tell_apart(const struct Call *before, const struct Call *after, size_t result, int damaged)
 {
     struct Arbiter a;
-    uint8_t error = after->piece[ANSWER].byte[QAMHUDEER_ANSWER_ERROR];
+    const uint8_t *answer = after->piece[ANSWER].byte;
+    uint8_t error = answer[QAMHUDEER_ANSWER_ERROR];
 
     count[CALLS]++;
     if (before->piece[ANSWER].length != QAMHUDEER_ANSWER_SIZE) {
         count[UNANSWERED]++;
         return;
     }
-    answered[after->piece[ANSWER].byte[QAMHUDEER_ANSWER_OUTSTANDING] & 1][error]++;
+    answered[answer[QAMHUDEER_ANSWER_OUTSTANDING] & 1][error]++;
     if (!decodes(&before->piece[STATE])) {
         count[UNDECODED]++;
     } else if (!is_sound(&before->piece[STATE], &before->piece[TABLE], &a)) {
@@ -142,12 +159,20 @@ static void tell_apart(const struct Call *before, const struct Call *after, size
     } else {
         count[SOUND]++;
         count[DAMAGED_SOUND] += (unsigned)damaged;
-        count[refusal(QAMHUDEER_ERROR(error)) ? REFUSED : ACCEPTED]++;
+        if (refusal(QAMHUDEER_ERROR(error))) {
+            count[REFUSED]++;
+        } else {
+            count[ACCEPTED]++;
+            count[before->desk == DESK_A ? FROM_A : before->desk == DESK_B ? FROM_B : FROM_NO_DESK]++;
+        }
         count[REPLIED] += (unsigned long)result;
-        count[CYCLES] += before->op == QAMHUDEER_CYCLE_ENDED && error == 0 && after->piece[ANSWER].byte[QAMHUDEER_ANSWER_MAP] != 0;
-        count[GIVEN_UP] += before->op == QAMHUDEER_GAVE_UP && error == 0 && after->piece[ANSWER].byte[QAMHUDEER_ANSWER_MAP] != 0;
-        for (size_t i = 0; i < result; i++)
-            replied[after->piece[REPLIES].byte[i * QAMHUDEER_REPLY_SIZE + QAMHUDEER_REPLY_ERROR]]++;
+        count[TO_BOTH] += answer[QAMHUDEER_ANSWER_REPLIES_A] > 0 && answer[QAMHUDEER_ANSWER_REPLIES_B] > 0;
+        count[OTHERS_READ] += (unsigned long)reads_others(before, answer, &a);
+        count[CYCLES] += before->op == QAMHUDEER_CYCLE_ENDED && error == 0 && answer[QAMHUDEER_ANSWER_MAP] != 0;
+        count[GIVEN_UP] += before->op == QAMHUDEER_GAVE_UP && error == 0 && answer[QAMHUDEER_ANSWER_MAP] != 0;
+        for (size_t at = 0; at < REQUESTS; at++)
+            if (at % HALF < answer[QAMHUDEER_ANSWER_REPLIES_A + at / HALF])
+                replied[after->piece[REPLIES].byte[at * QAMHUDEER_REPLY_SIZE + QAMHUDEER_REPLY_ERROR]]++;
     }
 }
 
@@ -163,7 +188,7 @@ static void make_call(struct Call *c, int damaged)
     want = expected(c);
     for (unsigned p = 0; p < PIECES; p++)
         lend(&lent[p], &before.piece[p]);
-    result = qamhudeer_call(before.op, before.id, before.flags, before.map, before.prec, before.key,
+    result = qamhudeer_call(before.desk, before.op, before.id, before.flags, before.map, before.prec, before.key,
                             lent[COMBOS].at, lent[COMBOS].length, lent[STATE].at, lent[STATE].length,
                             lent[TABLE].at, lent[TABLE].length, lent[REPLIES].at, lent[REPLIES].length,
                             lent[ANSWER].at, lent[ANSWER].length);
@@ -227,9 +252,11 @@ static void damage_length(struct Call *c)
 static void damage_numbers(struct Call *c)
 {
     static const uint8_t ops[20] = {0xF0, 0xF1, 0xF2, 0xF3, 0xF3, 0xF4, 0xF4, 0xF5, 1, 2, 3, 6, 8, 9, 10, 11, 12, 13, 14, 32};
-    unsigned value = below(256), odds = below(10);
+    static const uint8_t desks[8] = {0, 0, 1, 1, 2, 2, 3, 255};
+    unsigned value = below(256), odds = below(12);
 
     switch (odds) {
+    case 10: case 11: c->desk = percent(80) ? desks[value % 8] : (uint8_t)value; break;
     case 0: c->op = (uint8_t)value; break;
     case 1: case 2: case 3: c->op = ops[value % 20]; break;
     case 4: c->id = (uint8_t)value; break;
@@ -274,8 +301,10 @@ static void damage(struct Call *c)
 
 static struct Call good, stray;             /* the log's state and table; a damaged state that was sound, and went on */
 
+/* Its desk is the one that the log means, but for some, which are refused: so that the log's state hardly suffers. */
 static void take_frame(struct Call *c, const struct Frame *f)
 {
+    c->desk = (uint8_t)(percent(97) ? f->desk : percent(50) ? 1u - f->desk : 2 + below(254));
     c->op = f->operation;
     c->id = f->id;
     c->flags = f->flags;

@@ -16,7 +16,7 @@
 . "$(dirname "$0")/begin.sh"
 . tests/trial.sh
 
-styles='mix locks nowait queues full aborts precedences refusals malformed lists bytes ties opens cuts cycles'
+styles='mix locks nowait queues full aborts precedences refusals malformed lists bytes ties opens cuts cycles desks'
 styles="$styles many-locks many-steals many-entries many-waiting"
 lines=150
 tries=8
@@ -27,8 +27,9 @@ parts='tests/fuzz tests/states tests/lent second/chance second/log second/arbite
 log() {
     number=$1
     set -- $styles
+    # The styles are an even number: at each round the boards change places.
+    board=$((4 + (number + number / $#) % 2 * 4))
     shift $((number % $#))
-    board=$((4 + number % 2 * 4))
     chance=$((seed * 100000 + number))
     made="generate $chance $lines $1 $board"
     second/$made >"$work/log" || die "second/$made fails"
@@ -65,10 +66,11 @@ reaches() {
     awk '
         { name = $0; sub(/^count [0-9]* /, "", name); sum[name] += $2 }
         END {
-            want = "answer 0,answer 1,answer 2,answer 3,answer 4,answer 5,answer -1,answer -3,answer -4,answer -5,answer -10,answer -11"
+            want = "answer 0,answer 1,answer 2,answer 3,answer 4,answer 5,answer 8,answer -1,answer -3,answer -4,answer -5,answer -10,answer -11"
             want = want ",outstanding 0,reply 0,reply -2,reply -3,reply -4,reply -5,reply -10,reply -11,reply -12"
             want = want ",sound: accepted,sound: refused,sound: state or table was damaged,not sound,no state: a length or a mark"
-            want = want ",no room for an answer,cycles ended,writes given up,fresh devices"
+            want = want ",no room for an answer,replies to both desks,accepted from A,accepted from B,accepted from no desk"
+            want = want ",READs of the other\047s write,cycles ended,writes given up,fresh devices"
             count = split(want, wanted, ",")
             for (i = 1; i <= count; i++)
                 if (!sum[wanted[i]]) {
@@ -85,12 +87,12 @@ reaches() {
 spoilt() {
     {
         echo '#include "qamhudeer.h"'
-        echo '#define WORDS uint8_t op, uint8_t id, uint8_t flags, uint8_t map, uint8_t prec, uint16_t key, \'
+        echo '#define WORDS uint8_t desk, uint8_t op, uint8_t id, uint8_t flags, uint8_t map, uint8_t prec, uint16_t key, \'
         echo '    uint8_t *combos, size_t combos_len, uint8_t *state, size_t state_len, uint8_t *table, size_t table_len, \'
         echo '    uint8_t *replies, size_t replies_len, uint8_t *answer, size_t answer_len'
         echo 'size_t __real_qamhudeer_call(WORDS); size_t __wrap_qamhudeer_call(WORDS); volatile uint8_t seen;'
         echo 'size_t __wrap_qamhudeer_call(WORDS) {'
-        echo '    size_t n = __real_qamhudeer_call(op, id, flags, map, prec, key, combos, combos_len, state, state_len,'
+        echo '    size_t n = __real_qamhudeer_call(desk, op, id, flags, map, prec, key, combos, combos_len, state, state_len,'
         echo '                                     table, table_len, replies, replies_len, answer, answer_len);'
         echo "    $2; return n; }"
     } >"$work/spoilt.c"
@@ -125,18 +127,31 @@ play_wrong() {
     wrong "a remembered PERVOL is dropped" $arbiter 'front->period = channel->period;' ';'
     wrong "a remembered PERVOL stays" $arbiter 'forget(channel);' ';'
     wrong "a cycle ends while the channel is stopped" $arbiter 'if (in_progress(&a->channel[c])) {' 'if (a->channel[c].writes.count > 0) {'
-    wrong "the bit is answered only where something was replied" $arbiter 'return answer(DONE, met, f->key);' 'return answer(DONE, r->count > 0 ? met : 0, f->key);'
+    wrong "the bit is answered only where something was replied" $arbiter 'return answer(DONE, met, f->key);' 'return answer(DONE, arbiter_replied(r) > 0 ? met : 0, f->key);'
     wrong "F4 answers waiters 0" $arbiter 'end_waiters(a, 1u << c, IOERR_ABORTED, r);' 'end_waiters(a, 1u << c, DONE, r);'
     wrong "F4 needs an open device" $arbiter 'return event(a, f, r);' 'return f->operation == CALL_GAVE_UP && a->open.count == 0 ? refuse(f, REFUSED_CLOSED) : event(a, f, r);'
+    wrong "8 before 4" $arbiter 'if (f->id >= REQUESTS)' 'if (arbiter_desk(f->id) == f->desk && f->id >= REQUESTS)'
+    wrong "8 after 3" $arbiter 'default: return command(a, f, r);' 'default: return f->id < REQUESTS && a->request[f->id].command != 0 ? refuse(f, REFUSED_OUTSTANDING) : command(a, f, r);'
+    wrong "8 after 2" $arbiter 'default: return command(a, f, r);' 'default: return f->id < REQUESTS && a->open.count == 0 && a->request[f->id].command == 0 ? refuse(f, REFUSED_CLOSED) : command(a, f, r);'
+    wrong "8 before 5" $arbiter 'r->capacity < REQUESTS' 'r->capacity < REQUESTS && arbiter_desk(f->id) == f->desk'
+    wrong "ABORT names any id" $arbiter 'return arbiter_desk(f->id) == f->desk ? DONE' 'return arbiter_desk(f->id) == f->desk || f->operation == CALL_ABORT ? DONE'
+    wrong "desk 2 is A" $arbiter 'return arbiter_desk(f->id) == f->desk ? DONE' 'return arbiter_desk(f->id) == f->desk % 2 ? DONE'
+    wrong "OPEN asks for a desk" $arbiter 'case CALL_OPEN: return' 'case CALL_OPEN: return f->desk > DESK_B ? refuse(f, REFUSED_DESK) :'
+    wrong "id 32 is A's" $arbiter 'return id < HALF ? DESK_A' 'return id <= HALF ? DESK_A'
+    wrong "READ shows the other's write" $arbiter '&& arbiter_desk(channel->writes.id[0]) == f->desk' ''
+    wrong "B's replies stand behind A's without a gap" $arbiter 'size_t at = desk * HALF + r->count[desk];' 'size_t at = arbiter_replied(r);'
+    wrong "the two numbers are swapped" tests/fuzz.c 'b[QAMHUDEER_ANSWER_REPLIES_A] = (uint8_t)replies->count[DESK_A];' 'b[QAMHUDEER_ANSWER_REPLIES_A] = (uint8_t)replies->count[DESK_B];'
     wrong "257 combinations are one" tests/fuzz.c '(n < 255 ? n : 255)' 'n'
     wrong "a table of 65 entries is a table" tests/states.c 'table->length != QAMHUDEER_TABLE_SIZE' 'table->length < QAMHUDEER_TABLE_SIZE'
     wrong "the sixteenth combination is lost" tests/states.c 'memcpy(b + 7, q->combination, COMBINATIONS);' 'memcpy(b + 7, q->combination, COMBINATIONS - 1);'
     spoilt "a byte behind the table is read" 'seen = table[table_len]'
     spoilt "a byte before the state is written" 'state[-1] ^= 1'
     spoilt "a byte behind the answer is written" 'answer[answer_len] ^= 1'
-    spoilt "a record behind the last is written" 'if (n < 64 && replies_len >= 384) replies[6 * n + 5] ^= 1'
+    spoilt "a record behind A's last is written" 'if (answer_len == 8 && answer[6] < 32 && replies_len >= 384) replies[6 * answer[6] + 5] ^= 1'
+    spoilt "a record behind B's last is written" 'if (answer_len == 8 && answer[7] < 32 && replies_len >= 384) replies[6 * (32 + answer[7])] ^= 1'
+    spoilt "the result is A's number" 'if (answer_len == 8) n = answer[6]'
     spoilt "a combination is written" 'if (combos_len > 0) combos[0] ^= 1'
-    spoilt "an unsound table moves" 'if (answer_len == 6 && answer[1] == 1 && table_len > 9) table[9] ^= 1'
+    spoilt "an unsound table moves" 'if (answer_len == 8 && answer[1] == 1 && table_len > 9) table[9] ^= 1'
     spoilt "an answer without room is written" 'if (n == 255 && answer_len > 0) answer[0] ^= 1'
 }
 

@@ -22,8 +22,9 @@ static void places(void)
     static const uint8_t combos[1] = {4};
     uint8_t numbers[QAMHUDEER_NUMBERS_SIZE] = {0};
     const uint8_t *c = state + 2 * QAMHUDEER_CHANNEL_SIZE;
-#define CALL(op, id, map, prec, key, combos, n)                                                                                  \
-    qamhudeer_call(op, id, 0, map, prec, key, combos, n, state, sizeof state, table, sizeof table, replies, sizeof replies, answer, sizeof answer)
+#define CALL(op, id, map, prec, key, combos, n) CALL_FROM(QAMHUDEER_DESK_A, op, id, map, prec, key, combos, n)
+#define CALL_FROM(desk, op, id, map, prec, key, combos, n)                                                                       \
+    qamhudeer_call(desk, op, id, 0, map, prec, key, combos, n, state, sizeof state, table, sizeof table, replies, sizeof replies, answer, sizeof answer)
     same("fresh", 0, qamhudeer_fresh(4, state, sizeof state, table, sizeof table));
     CALL(QAMHUDEER_OPEN, 0, 0, 0, 258, combos, 0);
     CALL(ADCMD_ALLOCATE, 1, 0, 5, 258, combos, 1);
@@ -108,12 +109,54 @@ static void events(void)
     same("no bit", 0, answer[QAMHUDEER_ANSWER_MAP]);
 }
 
+/* What the comments say of the two desks: whose ids are whose, where replies to each stand, and what is 8. Both play on channel 0
+ * under one key, passed by hand: A's 31 before B's 32. */
+static void desks(void)
+{
+    static uint8_t state[QAMHUDEER_STATE_SIZE], table[QAMHUDEER_TABLE_SIZE], replies[QAMHUDEER_REPLIES_SIZE], answer[QAMHUDEER_ANSWER_SIZE];
+    static const uint8_t combos[1] = {1};
+    static const uint8_t other[QAMHUDEER_ANSWER_SIZE] = {0, QAMHUDEER_OTHERDESK, 0, 1, 2, 255, 0, 0};
+    const uint8_t *b = replies + QAMHUDEER_FIRST_OF_B * QAMHUDEER_REPLY_SIZE;
+
+    same("fresh", 0, qamhudeer_fresh(4, state, sizeof state, table, sizeof table));
+    CALL_FROM(7, QAMHUDEER_OPEN, 0, 0, 0, 258, combos, 1);
+    same("OPEN of no desk", 0, answer[QAMHUDEER_ANSWER_ERROR]);
+    memset(replies, 77, sizeof replies);
+    same("A's last id", 0, CALL_FROM(QAMHUDEER_DESK_A, CMD_WRITE, QAMHUDEER_FIRST_OF_B - 1, 1, 0, 258, combos, 0));
+    same("is outstanding", 1, answer[QAMHUDEER_ANSWER_OUTSTANDING]);
+    same("B's first id", 0, CALL_FROM(QAMHUDEER_DESK_B, CMD_WRITE, QAMHUDEER_FIRST_OF_B, 1, 0, 258, combos, 0));
+    same("is outstanding", 1, answer[QAMHUDEER_ANSWER_OUTSTANDING]);
+    same("A's id from B", 0, CALL_FROM(QAMHUDEER_DESK_B, QAMHUDEER_ABORT, QAMHUDEER_FIRST_OF_B - 1, 0, 0, 258, combos, 0));
+    same("is 8", 0, (size_t)memcmp(answer, other, sizeof other));
+    same("B's id from A", 0, CALL_FROM(QAMHUDEER_DESK_A, CMD_STOP, 63, 1, 0, 258, combos, 0));
+    same("is 8", 0, (size_t)memcmp(answer, other, sizeof other));
+    same("an id from no desk", 0, CALL_FROM(2, CMD_STOP, 0, 1, 0, 258, combos, 0));
+    same("is 8", 0, (size_t)memcmp(answer, other, sizeof other));
+    CALL_FROM(2, CMD_STOP, 64, 1, 0, 258, combos, 0);
+    same("an id above 63 is 4", QAMHUDEER_BADID, answer[QAMHUDEER_ANSWER_ERROR]);
+    CALL_FROM(QAMHUDEER_DESK_A, CMD_READ, 0, 1, 0, 258, combos, 0);
+    same("A reads its own write", QAMHUDEER_FIRST_OF_B - 1, answer[QAMHUDEER_ANSWER_EXTRA]);
+    same("and is replied", 1, answer[QAMHUDEER_ANSWER_REPLIES_A]);
+    CALL_FROM(QAMHUDEER_DESK_B, CMD_READ, 63, 1, 0, 258, combos, 0);
+    same("B does not", 255, answer[QAMHUDEER_ANSWER_EXTRA]);
+    same("and is replied", 1, answer[QAMHUDEER_ANSWER_REPLIES_B]);
+    same("in its half", 63, b[QAMHUDEER_REPLY_ID]);
+    same("all three", 3, CALL_FROM(QAMHUDEER_DESK_B, CMD_FLUSH, 40, 1, 0, 258, combos, 0));
+    same("one to A", 1, answer[QAMHUDEER_ANSWER_REPLIES_A]);
+    same("its write", QAMHUDEER_FIRST_OF_B - 1, replies[QAMHUDEER_REPLY_ID]);
+    same("nothing behind it", 77, replies[QAMHUDEER_REPLY_SIZE]);
+    same("two to B", 2, answer[QAMHUDEER_ANSWER_REPLIES_B]);
+    same("its write", QAMHUDEER_FIRST_OF_B, b[QAMHUDEER_REPLY_ID]);
+    same("then its FLUSH", 40, b[QAMHUDEER_REPLY_SIZE + QAMHUDEER_REPLY_ID]);
+    same("nothing behind them", 77, b[2 * QAMHUDEER_REPLY_SIZE]);
+}
+
 /* What is refused changes nothing but the answer. */
 static void refusals(void)
 {
     static uint8_t state[QAMHUDEER_STATE_SIZE], table[QAMHUDEER_TABLE_SIZE], replies[QAMHUDEER_REPLIES_SIZE], answer[QAMHUDEER_ANSWER_SIZE + 1];
     static uint8_t state0[sizeof state], table0[sizeof table], replies0[sizeof replies];
-    static const uint8_t unsound[6] = {0, QAMHUDEER_UNSOUND, 0, 1, 2, 255};
+    static const uint8_t unsound[QAMHUDEER_ANSWER_SIZE] = {0, QAMHUDEER_UNSOUND, 0, 1, 2, 255, 0, 0};
     static const uint8_t zeros[sizeof answer] = {0};
 #define KEEP() (memcpy(state0, state, sizeof state), memcpy(table0, table, sizeof table), memcpy(replies0, replies, sizeof replies))
 #define KEPT(name)                                                                                                               \
@@ -124,30 +167,30 @@ static void refusals(void)
     same("fresh, of five channels", 1, qamhudeer_fresh(5, state, sizeof state, table, sizeof table));
     same("fresh, state too short", 1, qamhudeer_fresh(4, state, sizeof state - 1, table, sizeof table));
     same("fresh, table too short", 1, qamhudeer_fresh(4, state, sizeof state, table, sizeof table - 1));
-    same("no room", QAMHUDEER_UNANSWERED, qamhudeer_call(QAMHUDEER_OPEN, 0, 0, 0, 0, 0, answer, 0, state, sizeof state, table, sizeof table, replies, sizeof replies, answer, 5));
-    same("too much room", QAMHUDEER_UNANSWERED, qamhudeer_call(QAMHUDEER_OPEN, 0, 0, 0, 0, 0, answer, 0, state, sizeof state, table, sizeof table, replies, sizeof replies, answer, 7));
+    same("no room", QAMHUDEER_UNANSWERED, qamhudeer_call(QAMHUDEER_DESK_A, QAMHUDEER_OPEN, 0, 0, 0, 0, 0, answer, 0, state, sizeof state, table, sizeof table, replies, sizeof replies, answer, 7));
+    same("too much room", QAMHUDEER_UNANSWERED, qamhudeer_call(QAMHUDEER_DESK_A, QAMHUDEER_OPEN, 0, 0, 0, 0, 0, answer, 0, state, sizeof state, table, sizeof table, replies, sizeof replies, answer, 9));
     same("no answer", 0, (size_t)memcmp(answer, zeros, sizeof answer));
     KEPT("nothing moved");
     /* a mark of 2 */
     state[QAMHUDEER_CHANNEL_LOCKED] = 2;
     KEEP();
-    same("mark", 0, qamhudeer_call(QAMHUDEER_OPEN, 0, 0, 0, 0, 258, zeros, 0, state, sizeof state, table, sizeof table, replies, sizeof replies, answer, 6));
-    same("unsound", 0, (size_t)memcmp(answer, unsound, 6));
+    same("mark", 0, qamhudeer_call(QAMHUDEER_DESK_A, QAMHUDEER_OPEN, 0, 0, 0, 0, 258, zeros, 0, state, sizeof state, table, sizeof table, replies, sizeof replies, answer, 8));
+    same("unsound", 0, (size_t)memcmp(answer, unsound, sizeof unsound));
     KEPT("mark: nothing moved");
     /* a free channel that is locked */
     state[QAMHUDEER_CHANNEL_LOCKED] = 1;
     memset(answer, 0, sizeof answer);
     KEEP();
-    same("locked", 0, qamhudeer_call(QAMHUDEER_OPEN, 0, 0, 0, 0, 258, zeros, 0, state, sizeof state, table, sizeof table, replies, sizeof replies, answer, 6));
-    same("unsound", 0, (size_t)memcmp(answer, unsound, 6));
+    same("locked", 0, qamhudeer_call(QAMHUDEER_DESK_A, QAMHUDEER_OPEN, 0, 0, 0, 0, 258, zeros, 0, state, sizeof state, table, sizeof table, replies, sizeof replies, answer, 8));
+    same("unsound", 0, (size_t)memcmp(answer, unsound, sizeof unsound));
     KEPT("locked: nothing moved");
     /* a state that is one byte short, and a list of 63 records */
     state[QAMHUDEER_CHANNEL_LOCKED] = 0;
     memset(answer, 0, sizeof answer);
     KEEP();
-    same("short", 0, qamhudeer_call(QAMHUDEER_OPEN, 0, 0, 0, 0, 258, zeros, 0, state, sizeof state - 1, table, sizeof table, replies, sizeof replies, answer, 6));
-    same("unsound", 0, (size_t)memcmp(answer, unsound, 6));
-    same("list", 0, qamhudeer_call(QAMHUDEER_OPEN, 0, 0, 0, 0, 258, zeros, 0, state, sizeof state, table, sizeof table, replies, 383, answer, 6));
+    same("short", 0, qamhudeer_call(QAMHUDEER_DESK_A, QAMHUDEER_OPEN, 0, 0, 0, 0, 258, zeros, 0, state, sizeof state - 1, table, sizeof table, replies, sizeof replies, answer, 8));
+    same("unsound", 0, (size_t)memcmp(answer, unsound, sizeof unsound));
+    same("list", 0, qamhudeer_call(QAMHUDEER_DESK_A, QAMHUDEER_OPEN, 0, 0, 0, 0, 258, zeros, 0, state, sizeof state, table, sizeof table, replies, 383, answer, 8));
     same("list", QAMHUDEER_NOROOM, answer[QAMHUDEER_ANSWER_ERROR]);
     KEPT("short: nothing moved");
 }
@@ -198,6 +241,7 @@ int main(void)
     places();
     boards();
     events();
+    desks();
     refusals();
     port();
     return wrong;

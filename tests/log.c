@@ -43,20 +43,28 @@ static void tell(int first, const uint8_t *bytes, int n)
     printf("\n");
 }
 
+/* So many records, from this one on. */
+static void tell_replies(size_t from, size_t count)
+{
+    size_t i;
+    for (i = from; i < from + count; i++)
+        tell(0xC0, replies + i * QAMHUDEER_REPLY_SIZE, QAMHUDEER_REPLY_SIZE);
+}
+
 static void feed(const char *line, size_t length)
 {
     static const uint8_t malformed[5] = {7, 0, 0, 0, 255};
     uint8_t f[263];
-    size_t i, n;
     int k = unhex(line, length, f);
     if (k < 8 || k != 8 + f[7]) {
         tell(0xA0, malformed, 5);
         return;
     }
-    n = qamhudeer_call(f[0], f[1], f[2], f[3], f[4], (uint16_t)(256 * f[5] + f[6]), f + 8, f[7], state, sizeof state, table, sizeof table,
-                       replies, sizeof replies, answer, sizeof answer);
-    for (i = 0; i < n; i++)
-        tell(0xC0, replies + i * QAMHUDEER_REPLY_SIZE, QAMHUDEER_REPLY_SIZE);
+    qamhudeer_call(f[1] < QAMHUDEER_FIRST_OF_B ? QAMHUDEER_DESK_A : QAMHUDEER_DESK_B, f[0], f[1], f[2], f[3], f[4],
+                   (uint16_t)(256 * f[5] + f[6]), f + 8, f[7], state, sizeof state, table, sizeof table, replies, sizeof replies,
+                   answer, sizeof answer);
+    tell_replies(0, answer[QAMHUDEER_ANSWER_REPLIES_A]);
+    tell_replies(QAMHUDEER_FIRST_OF_B, answer[QAMHUDEER_ANSWER_REPLIES_B]);
     tell(0xA0 + answer[QAMHUDEER_ANSWER_OUTSTANDING], answer + 1, 5);
 }
 

@@ -13,7 +13,7 @@
 . "$(dirname "$0")/begin.sh"
 . tests/trial.sh
 
-styles='mix locks queues full malformed lists bytes cycles many-waiting'
+styles='mix locks queues full malformed lists bytes cuts cycles desks many-waiting'
 kinds='long join cut end'
 lines=60
 tries=3
@@ -89,6 +89,8 @@ play_wrong() {
     wrong "the last line stays in the port" $port 'p->started = 0;' ';'
     wrong "nothing standing is a last line" $port 'p->started == 0 ? 0 : answer_line(p, a, text)' 'answer_line(p, a, text)'
     wrong "a frame on no state is malformed" $port 'answer.error = REFUSED_UNSOUND;' ';'
+    wrong "B's replies are written first" second/log.c 'for (unsigned desk = 0; desk < DESKS; desk++)' 'for (unsigned desk = DESKS; desk-- > 0;)'
+    wrong "every frame is A's" second/log.c 'f->desk = (uint8_t)arbiter_desk(f->id);' 'f->desk = DESK_A;'
     wrong "the output stands, and the state does not" tests/port.c 'if (memcmp(before, after, sizeof *before) != 0)' 'if (0)'
     wrong "room of 972 bytes is enough" tests/port.c 'length < LONGEST_OUTPUT)' 'length < LONGEST_OUTPUT - 1)'
     wrong "528 characters may stand" tests/port.c 'byte[1] > PORT_LINE)' 'byte[1] > PORT_LINE + 1)'

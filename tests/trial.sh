@@ -10,7 +10,7 @@
 #   prepare WHAT PROGRAMS..    the library, these programs of second/, and the trial as $work/trial
 #   play_logs                  $count logs of $seed; what was counted in $work/counts
 #   prepare_wrong              what the wrong programs are made from
-#   must_differ NAME WORDS..   the program made from these finds a difference in one of sixteen logs
+#   must_differ NAME WORDS..   the program made from these finds a difference in one of forty logs
 #   objects_but PART           those of all other parts
 #   wrong NAME FILE OLD NEW    in a copy of the file OLD, which stands there once, is NEW: that must differ
 prepare() {
@@ -71,11 +71,11 @@ must_differ() {
     link_c "$work/wrong" -w "$@" >"$work/said" 2>&1 || { cat "$work/said"; die "does not build: $name"; }
     at=0
     log 0
-    while [ $at -lt 16 ] && play "$work/wrong"; do
+    while [ $at -lt 40 ] && play "$work/wrong"; do
         at=$((at + 1))
         log $at
     done
-    if [ $at -lt 16 ] && grep -q '^DIFFERENT: ' "$work/said"; then
+    if [ $at -lt 40 ] && grep -q '^DIFFERENT: ' "$work/said"; then
         passed=$((passed + 1))
         echo "found: $name: $(sed -n 's/^DIFFERENT: //p' "$work/said" | head -n 1)"
     else

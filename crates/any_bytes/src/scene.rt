@@ -21,10 +21,11 @@ pub struct Scene {
     pub zeros: usize,
 }
 
-// ---- a request
+// ---- a request, of its id's desk
 
 fn ask(w: &[u8]) -> Request {
     Request {
+        desk: desks::of(at(w, 1)),
         command: at(w, 0),
         id: at(w, 1),
         flags: at(w, 2),

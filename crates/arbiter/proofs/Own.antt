@@ -64,7 +64,7 @@ module _ (l : List ℕ) {o : Op} {r : Request} {b : Board} {ms tb : List ℕ} {e
         range = g;
         bytes = y;
         room =
-            λ f. let z = late-room (opIn o (r .command)) c₀ u₀ e (number-refused (refusal (opIn o (r .command)) c₀ u₀) e (w .number) (λ q. omega arith)) f in
+            λ f. let z = late-room (opIn o (r .command)) c₀ u₀ e (number-refused (refusal (opIn o (r .command)) c₀ u₀) e (w .number) (λ q. omega arith)) (omega (arith, f)) in
             omega arith;
         allows =
             λ z. let a = zero-accepted (opIn o (r .command)) c₀ u₀ (sym z ∙ w .number) in

@@ -1,5 +1,5 @@
--- What the promises come to: no second crossing fits, what is refused moves nothing, an answered call has at most 64 replies, a
--- fresh device is sound, and a sound state is followed by a sound state, so that the next call takes it. Assumes nothing.
+-- What the promises come to: no second crossing fits, what is refused moves nothing, an answered call has at most 32 replies in
+-- each half, a fresh device is sound, and a sound state is followed by a sound state, so that the next call takes it. Assumes nothing.
 use Prim.Native.Nat.{ℕ, zero, suc, _+_, _*_, _≤_}
 use mathlib.Core.Path.{_≡_, refl, ap, sym, subst, _∙_}
 use mathlib.Core.Bool.{Bool, true, false}
@@ -10,16 +10,15 @@ use lib.ListN.{length, getD, replicate, replicate-append-replicate}
 use borrow.Author.Tests.{eqb-true, eqb-false}
 use Rattle.machine.specs.Lists.{if_then_else_, among}
 use Rattle.machine.specs.State.{State as StateM, Op as OpM, OPEN, CLOSE, ABORT, EVENT, CYCLE·ENDED, GAVE·UP, COMMAND, frees, freshOn}
+use Rattle.machine.specs.Desks.{HALF}
 use Rattle.machine.specs.Log.{opOf}
 use Rattle.machine.specs.Call.{call}
 use Rattle.machine_laws.proofs.Sound.{parts}
 use Rattle.machine.proofs.Tests.{by-test}
 use Rattle.machine_laws.proofs.Refusals.{refusals}
-use Rattle.machine_laws.proofs.Replies.{call-replies}
 use Rattle.machine_laws.proofs.KeepingCalls.{Counted}
 use Rattle.store.specs.Store.{items, writeItems, lookup, entries, tableOf}
 use Rattle.board.specs.declared.Board.{Board}
-use Rattle.board.specs.declared.Outcome.{Outcome}
 use Rattle.board.specs.Board.{sized, structOf, stateIn, Held}
 use Rattle.board.proofs.Laws.{held-next, fresh-sane, table-wide}
 use Rattle.widening.proofs.Maps.{length-frees}
@@ -28,7 +27,8 @@ use Rattle.image.proofs.Round.{imageOf-stateOf, stateOf-imageOf}
 use Rattle.answers.specs.declared.Request.{Request}
 use Rattle.refusals.specs.declared.Op.{Op}
 use Rattle.refusals.specs.Refusals.{opIn, askedOf}
-use Rattle.arbiter.proofs.Outcome.{one-outcome, held-or-not, refused-unmoved, held-after}
+use Rattle.desk_call.specs.declared.Outcome.{Outcome}
+use Rattle.desk_call.proofs.Promise.{one-call, refused-unmoved, few-each-half as few-laid, sound-after as sound-call}
 use Rattle.sizes.specs.Sizes.{TABLE, ANSWER}
 use Rattle.handed.specs.Handed.{opFor, answerBytes}
 use Rattle.starting.specs.Starting.{Started}
@@ -84,13 +84,13 @@ module _ {st tb l : List ℕ} {n n₂ : ℕ} {st₁ st₂ tb₁ tb₂ l₁ l₂ 
 
   carried-same : {o : Op} {r : Request} {ms : List ℕ} → Carried o r ms st tb l n st₁ tb₁ l₁ an₁ → Carried o r ms st tb l n₂ st₂ tb₂ l₂ an₂ → Same n n₂ st₁ st₂ tb₁ tb₂ l₁ l₂ an₁ an₂
   carried-same c e =
-      let s = one-outcome (c .called) (e .called) in
+      let s = one-call (c .called) (e .called) in
       record {
-        count = c .count ∙ ap (λ (d : Outcome). d .n) (s .outcome) ∙ sym (e .count);
+        count = c .count ∙ ap (λ (d : Outcome). d .a + d .b) (s .outcome) ∙ sym (e .count);
         state = c .state .bytes ∙ ap (λ (d : Outcome). imageOf (d .state)) (s .outcome) ∙ sym (e .state .bytes);
         table = s .table;
         list = s .list;
-        answer = c .answer ∙ ap (λ (d : Outcome). answerBytes (d .answer)) (s .outcome) ∙ sym (e .answer);
+        answer = c .answer ∙ ap (λ (d : Outcome). answerBytes (d .answer) (d .a) (d .b)) (s .outcome) ∙ sym (e .answer);
       }
 
   pub one-crossing : {op : ℕ} {r : Request} {ms an : List ℕ} → Crossed op r ms st tb l an n st₁ tb₁ l₁ an₁ → Crossed op r ms st tb l an n₂ st₂ tb₂ l₂ an₂
@@ -139,19 +139,28 @@ module _ {op : ℕ} {r : Request} {ms st tb l an : List ℕ} {n : ℕ} {st′ tb
           let u = refused-unmoved (k .called) (subst (λ (x : ℕ). T (among x refusals)) (error-told k) t) in
           (k .state .bytes ∙ ap imageOf (u .0) ∙ imageOf-stateOf st w, u .1)
 
-  -- ---- an answered call has at most 64 replies
-  pub few-replies : length an ≡ ANSWER → n ≤ 64
-  few-replies h = whole-or-not st (λ w. carried (c .carried h w)) (λ w. let e = c .unread h w .count in omega arith)
+  -- ---- an answered call has at most 32 replies in each half, as its answer tells, and 64 in all
+
+  -- the numbers that the answer tells
+  abbrev numbers : ℕ × ℕ
+  numbers = (getD an′ 6 0, getD an′ 7 0)
+
+  -- the result is their sum
+  pub halves-told : length an ≡ ANSWER → (n ≡ numbers .0 + numbers .1) × (numbers .0 ≤ HALF) × (numbers .1 ≤ HALF)
+  unfolding answerBytes
+  halves-told h = whole-or-not st (λ w. carried (c .carried h w)) (λ w. unread (c .unread h w))
     where
-      carried : Carried (opFor (opOf op)) r ms st tb l n st′ tb′ l′ an′ → n ≤ 64
-      carried k =
-          let e = k .count in
-          held-or-not (stateOf st) tb
-          (λ s.
-          let f = call-replies (stateIn (stateOf st) tb) (askedOf (opFor (opOf op)) r ms (length l)) (s .sane) .1 in
-          let g = k .called .sound s .did .count in
-          omega arith)
-          (λ s. let g = k .called .unsound s .count in omega arith)
+      carried : Carried (opFor (opOf op)) r ms st tb l n st′ tb′ l′ an′ → (n ≡ numbers .0 + numbers .1) × (numbers .0 ≤ HALF) × (numbers .1 ≤ HALF)
+      carried k = let f = few-laid (k .called) in rw (k .answer) (k .count, f .0, f .1)
+
+      unread : Unread (r .key) st tb l n st′ tb′ l′ an′ → (n ≡ numbers .0 + numbers .1) × (numbers .0 ≤ HALF) × (numbers .1 ≤ HALF)
+      unread k = rw (k .answer) (k .count, omega arith, omega arith)
+
+  pub few-each-half : length an ≡ ANSWER → (getD an′ 6 0 ≤ HALF) × (getD an′ 7 0 ≤ HALF)
+  few-each-half h = let f = halves-told h in (f .1, f .2)
+
+  pub few-replies : length an ≡ ANSWER → n ≤ 64
+  few-replies h = let f = halves-told h in omega arith
 
   -- ---- a sound state is followed by a sound state: the one that the machine names
   module _ (h : length an ≡ ANSWER) (w : Whole st) (s : Held (stateOf st) tb) where
@@ -166,7 +175,7 @@ module _ {op : ℕ} {r : Request} {ms st tb l an : List ℕ} {n : ℕ} {st′ tb
     sound-after g y =
         let k = c .carried h w in
         let d = k .outcome in
-        let a = held-after o₀ r ms l s g y (k .called .sound s) in
+        let a = sound-call (k .called) s g y in
         let e : d .state ≡ stateOf st′ = sym (ap stateOf (k .state .bytes) ∙ stateOf-imageOf (d .state) (k .state .sized)) in
         (k .state .whole, subst (λ (x : Board). Held x tb′) e (a .0), subst (λ (x : Board). stateIn x tb′ ≡ next) e (a .1))
 

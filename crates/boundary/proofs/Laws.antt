@@ -18,14 +18,14 @@ use Rattle.boundary.specs.Boundary.{Carried, Crossed}
 
 -- ---- the request
 
-pub request-made : (op id flags map prec key : ℕ) {p : ℕ} → p ≡ (prec + 128) % 256
-    → _≡_ {A = Request} (record { command = op; id = id; flags = flags; map = map; prec = p; key = key }) (requestOf op id flags map prec key)
-request-made op id flags map prec key e = ap (λ (x : ℕ). record { command = op; id = id; flags = flags; map = map; prec = x; key = key }) e
+pub request-made : (desk op id flags map prec key : ℕ) {p : ℕ} → p ≡ (prec + 128) % 256
+    → _≡_ {A = Request} (record { desk = desk; command = op; id = id; flags = flags; map = map; prec = p; key = key }) (requestOf desk op id flags map prec key)
+request-made desk op id flags map prec key e = ap (λ (x : ℕ). record { desk = desk; command = op; id = id; flags = flags; map = map; prec = x; key = key }) e
 
 -- ---- a call
 
 module _ {op : ℕ} {r : Request} {ms st tb l an : List ℕ} where
-  pub no-answer : (length an ≡ 6 → ⊥) → Crossed op r ms st tb l an 255 st tb l an
+  pub no-answer : (length an ≡ 8 → ⊥) → Crossed op r ms st tb l an 255 st tb l an
   no-answer n =
       record {
         unanswered = λ _. record { count = refl; state = refl; table = refl; list = refl; answer = refl };
@@ -33,16 +33,16 @@ module _ {op : ℕ} {r : Request} {ms st tb l an : List ℕ} where
         carried = λ h. absurd (n h);
       }
 
-  pub not-read : length an ≡ 6 → {b : Bool} → b ≡ isWhole st → b ≡ false → {a : Answer} {an′ : List ℕ} → a ≡ answerOf (done 1 0 (r .key) 255) → an′ ≡ answerBytes a
+  pub not-read : length an ≡ 8 → {b : Bool} → b ≡ isWhole st → b ≡ false → {a : Answer} {an′ : List ℕ} → a ≡ answerOf (done 1 0 (r .key) 255) → an′ ≡ answerBytes a 0 0
       → Crossed op r ms st tb l an 0 st tb l an′
   not-read h w q e v =
       record {
         unanswered = λ n. absurd (n h);
-        unread = λ _ _. record { count = refl; state = refl; table = refl; list = refl; answer = v ∙ ap answerBytes e };
+        unread = λ _ _. record { count = refl; state = refl; table = refl; list = refl; answer = v ∙ ap (λ (a : Answer). answerBytes a 0 0) e };
         carried = λ _ y. absurd (false-true (sym q ∙ w ∙ test-true _ y));
       }
 
-  pub was-carried : length an ≡ 6 → Whole st → {o : Op} → o ≡ opFor (opOf op) → {x : Request} → x ≡ r → {n : ℕ} {st′ tb′ l′ an′ : List ℕ}
+  pub was-carried : length an ≡ 8 → Whole st → {o : Op} → o ≡ opFor (opOf op) → {x : Request} → x ≡ r → {n : ℕ} {st′ tb′ l′ an′ : List ℕ}
       → Carried o x ms st tb l n st′ tb′ l′ an′ → Crossed op r ms st tb l an n st′ tb′ l′ an′
   was-carried h w {o} e {x} f {n} {st′} {tb′} {l′} {an′} c =
       record {

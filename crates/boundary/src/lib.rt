@@ -19,21 +19,22 @@ fn carry(
     replies: &mut [u8],
     answer: &mut [u8],
 ) -> usize
-    requires { ⌜ Whole (now state) × (length (now answer) ≡ 6) ⌝ }
+    requires { ⌜ Whole (now state) × (length (now answer) ≡ 8) ⌝ }
     ensures { λ n. ⌜ Carried op r (now (combos .entry)) (now (state .entry)) (now (table .entry)) (now (replies .entry))
         n (now (state .exit)) (now (table .exit)) (now (replies .exit)) (now (answer .exit)) ⌝ }
 {
     let b = loading::load(state);
-    let d = arbiter::call(op, r, b, combos, table, replies);
+    let d = desk_call::call(op, r, b, combos, table, replies);
     let a = d.answer;
     let t = d.state;
     saving::save(t, state);
-    handed::put_answer(answer, a);
-    d.n
+    handed::put_answer(answer, a, d.a, d.b);
+    d.a + d.b
 }
 
-// The number of replies; 255 where the answer is not lent six bytes, and nothing moves.
+// The number of replies to both desks; 255 where the answer is not lent eight bytes, and nothing moves. The desk is 0 for A, 1 for B.
 pub fn call(
+    desk: u8,
     op: u8,
     id: u8,
     flags: u8,
@@ -46,18 +47,19 @@ pub fn call(
     replies: &mut [u8],
     answer: &mut [u8],
 ) -> usize
-    ensures { λ n. ⌜ Crossed op (requestOf op id flags map prec key) (now (combos .entry))
+    ensures { λ n. ⌜ Crossed op (requestOf desk op id flags map prec key) (now (combos .entry))
         (now (state .entry)) (now (table .entry)) (now (replies .entry)) (now (answer .entry))
         n (now (state .exit)) (now (table .exit)) (now (replies .exit)) (now (answer .exit)) ⌝ }
 {
-    if answer.len() != 6 {
+    if answer.len() != 8 {
         return 255;
     }
     if !image::whole(state) {
-        handed::put_answer(answer, answers::done(1, 0, key, 255));
+        handed::put_answer(answer, answers::done(1, 0, key, 255), 0, 0);
         return 0;
     }
     let r = Request {
+        desk,
         command: op,
         id,
         flags,

@@ -1,42 +1,46 @@
 -- Demand 3 of the bytes that a program in C lends is about something: every run of the machine whose calls are numbers of a program
 -- in C is a run of its calls, and two such runs, from one state, meet every premise. K sees the same bytes in both.
 -- Assumes nothing.
-use Prim.Native.Nat.{ℕ, _≤_}
+use Prim.Native.Nat.{ℕ, _+_, _≤_}
 use mathlib.Core.Path.{_≡_, refl, ap, sym, subst, _∙_}
 use mathlib.Core.List.{List, [], _∷_, _++_, map}
 use native.Mathlib.Omega.{arith}
-use native.Mathlib.Nat.{zero-add}
 use lib.Dec.{T, leb, leb→le}
 use lib.ListN.{length, replicate, length-replicate}
 use Rattle.machine.specs.Lists.{all}
-use Rattle.machine.specs.State.{Call, State as StateM}
+use Rattle.machine.specs.State.{Call, Outcome as OutcomeM, State as StateM}
+use Rattle.machine.specs.Desks.{DESK·A, DESK·B, deskOf, repliesTo}
 use Rattle.machine.specs.Log.{opOf}
 use Rattle.machine.specs.Call.{call, inRange}
 use Rattle.machine.specs.Machine.{machine}
 use Rattle.machine.proofs.Tests.{and-left, and-right}
 use Rattle.machine_laws.proofs.Sound.{parts}
-use Rattle.reply.specs.Replies.{sent}
+use Rattle.halves.specs.Halves.{laid}
 use Rattle.store.specs.Store.{tableOf}
 use Rattle.board.specs.declared.Board.{Board}
-use Rattle.board.specs.Board.{structOf, stateIn, Held, Told}
+use Rattle.board.specs.Board.{structOf, stateIn, Held}
 use Rattle.image.specs.Image.{imageOf, stateOf, Whole}
 use Rattle.image.proofs.Round.{stateOf-imageOf}
 use Rattle.images.proofs.Images.{saved-of, sized-of}
 use Rattle.answers.specs.Answers.{answerOf}
 use Rattle.refusals.specs.Refusals.{askedOf}
-use Rattle.arbiter.specs.Arbiter.{Called}
+use Rattle.desk_call.specs.declared.Outcome.{Outcome}
+use Rattle.desk_call.specs.DeskCall.{Told, Called}
 use Rattle.sizes.specs.Sizes.{REPLIES}
 use Rattle.handed.specs.Handed.{opFor, requestOf, answerBytes}
 use Rattle.two_runs.specs.TwoRuns.{Party, Start, Step, our, their, Keeps as KeepsM, Run as RunM, calls, claim, counted, inBytes, own, said}
+use Rattle.two_runs.specs.Desk.{KeepsApart as KeepsApartM, RunOfDesk as RunOfDeskM}
 use Rattle.two_runs.proofs.Premises.{premises, runs-all, starts-all}
-use Rattle.code_runs.proofs.Made.{OnBoard, bytes-count, bytes-range, board-held, board-next, board-state, outcomeOf, sound-next}
+use Rattle.code_runs.proofs.Made.{OnBoard, bytes-count, bytes-range, board-held, board-next, board-state, sound-next}
 use Rattle.code_runs.proofs.Witness.{party, start, board, numbers}
 use Rattle.c_runs.specs.CRuns.{Turn, asked, request, Took, Move, ours, others, Chained, Keeps, Full, Run, ownCalls, sights}
+use Rattle.c_runs.specs.Desk.{KeepsApart, RunOfDesk}
 use Rattle.c_runs.proofs.CRuns.{K-sees-the-same-bytes}
 
 -- ---- a call as a program in C makes it, with a full reply list, and what it may become
 
 pub record Ask : Type 0 where
+  pub desk : ℕ
   pub op : ℕ
   pub id : ℕ
   pub flags : ℕ
@@ -49,7 +53,7 @@ abbrev records : List ℕ
 records = replicate 384 0
 
 abbrev pub spelt : Ask → Call
-spelt a = askedOf (opFor (opOf (a .op))) (requestOf (a .op) (a .id) (a .flags) (a .map) (a .prec) (a .key)) (a .combos) (length records)
+spelt a = askedOf (opFor (opOf (a .op))) (requestOf (a .desk) (a .op) (a .id) (a .flags) (a .map) (a .prec) (a .key)) (a .combos) (length records)
 
 abbrev pub bytesOf : StateM → List ℕ
 bytesOf s = imageOf (structOf s)
@@ -58,6 +62,7 @@ abbrev pub made : StateM → Ask → Turn
 made s a =
     let o = call s (spelt a) in
     record {
+      desk = a .desk;
       op = a .op;
       id = a .id;
       flags = a .flags;
@@ -66,12 +71,12 @@ made s a =
       key = a .key;
       combos = a .combos;
       lent = records;
-      room = replicate 6 0;
-      n = length (o .replies);
+      room = replicate 8 0;
+      n = length (repliesTo DESK·A (o .replies)) + length (repliesTo DESK·B (o .replies));
       state = bytesOf (o .next);
       table = tableOf (o .next);
-      list = sent records 0 (o .replies);
-      answer = answerBytes (answerOf (o .answer));
+      list = laid records (o .replies);
+      answer = answerBytes (answerOf (o .answer)) (length (repliesTo DESK·A (o .replies))) (length (repliesTo DESK·B (o .replies)));
     }
 
 pub data Says : Type 0 where
@@ -88,7 +93,7 @@ moves s [] = []
 moves s (ourAsk a ∷ xs) = ours (made s a) ∷ moves (call s (spelt a) .next) xs
 moves s (theirAsk a ∷ xs) = others (made s a) ∷ moves (call s (spelt a) .next) xs
 
-ownCalls-moves : (s : StateM) (xs : List Says) → ownCalls (moves s xs) ≡ own (steps xs)
+pub ownCalls-moves : (s : StateM) (xs : List Says) → ownCalls (moves s xs) ≡ own (steps xs)
 unfolding ownCalls own
 ownCalls-moves s [] = refl
 ownCalls-moves s (ourAsk a ∷ xs) = ap (λ (cs : List Call). said (spelt a) ∷ cs) (ownCalls-moves (call s (spelt a) .next) xs)
@@ -96,22 +101,31 @@ ownCalls-moves s (theirAsk a ∷ xs) = ownCalls-moves (call s (spelt a) .next) x
 
 -- ---- it keeps the promise
 
+abbrev outcomeOf : OutcomeM → Outcome
+outcomeOf o =
+    record {
+      answer = answerOf (o .answer);
+      state = structOf (o .next);
+      a = length (repliesTo DESK·A (o .replies));
+      b = length (repliesTo DESK·B (o .replies));
+    }
+
 module _ {s : StateM} (b : OnBoard s) where
-  bytes-whole : Whole (bytesOf s)
+  pub bytes-whole : Whole (bytesOf s)
   bytes-whole = saved-of s (parts s (b .sane)) .whole
 
-  bytes-state : stateOf (bytesOf s) ≡ structOf s
+  pub bytes-state : stateOf (bytesOf s) ≡ structOf s
   bytes-state = stateOf-imageOf (structOf s) (sized-of s (parts s (b .sane)))
 
-  bytes-held : Held (stateOf (bytesOf s)) (tableOf s)
+  pub bytes-held : Held (stateOf (bytesOf s)) (tableOf s)
   bytes-held = rw bytes-state (board-held b)
 
   module _ (a : Ask) (f : T (inBytes (spelt a))) where
-    made-told : Told (call s (spelt a)) records (outcomeOf (call s (spelt a))) (tableOf (call s (spelt a) .next)) (sent records 0 (call s (spelt a) .replies))
-    made-told = record { answer = refl; did = record { struct = refl; table = refl; list = refl; count = sym (zero-add (length (call s (spelt a) .replies))) } }
+    made-told : Told (call s (spelt a)) records (outcomeOf (call s (spelt a))) (tableOf (call s (spelt a) .next)) (laid records (call s (spelt a) .replies))
+    made-told = record { answer = refl; struct = refl; table = refl; numbers = (refl, refl); list = refl }
 
     made-called : Called (opFor (opOf (a .op))) (request (made s a)) (structOf s) (a .combos) (tableOf s) records (outcomeOf (call s (spelt a)))
-        (tableOf (call s (spelt a) .next)) (sent records 0 (call s (spelt a) .replies))
+        (tableOf (call s (spelt a) .next)) (laid records (call s (spelt a) .replies))
     made-called = record { sound = λ _. rw (board-state b) made-told; unsound = λ n. absurd (n (board-held b)) }
 
     made-took : Took (bytesOf s) (tableOf s) (made s a)
@@ -131,7 +145,7 @@ module _ {s : StateM} (b : OnBoard s) where
                   answer = refl;
                 };
               };
-          six = refl;
+          eight = refl;
           key = leb→le (a .key) 65535 (and-right (leb (spelt a .prec) 255) (leb (a .key) 65535) (bytes-range (spelt a) f));
           count = bytes-count (spelt a) f;
         }
@@ -175,11 +189,32 @@ pub machine-runs-are-runs-of-C : (p : Party) (s : StateM) (xs : List Says) → O
 machine-runs-are-runs-of-C p s xs b r =
     record { chained = chained-moves s xs b (r .fits); keeps = keeps-moves p s xs b (r .fits) (r .keeps); full = full-moves s xs }
 
+-- ---- and of a desk's
+
+apart-moves : (d : ℕ) (p : Party) (s : StateM) (xs : List Says) → OnBoard s → T (all inBytes (calls (steps xs))) → KeepsApartM d p s (steps xs)
+    → KeepsApart d p (bytesOf s) (tableOf s) (moves s xs)
+unfolding calls all
+apart-moves d p s [] b f k = tt
+apart-moves d p s (ourAsk a ∷ xs) b f k =
+    let g = and-left (inBytes (spelt a)) (all inBytes (calls (steps xs))) f in (
+      rw (bytes-state b, board-state b) (k .0),
+      apart-moves d p (call s (spelt a) .next) xs (board-next s (spelt a) g b) (and-right (inBytes (spelt a)) (all inBytes (calls (steps xs))) f) (k .1),
+    )
+apart-moves d p s (theirAsk a ∷ xs) b f k =
+    let g = and-left (inBytes (spelt a)) (all inBytes (calls (steps xs))) f in (
+      rw (bytes-state b, board-state b) (k .0),
+      apart-moves d p (call s (spelt a) .next) xs (board-next s (spelt a) g b) (and-right (inBytes (spelt a)) (all inBytes (calls (steps xs))) f) (k .1),
+    )
+
+pub desk-runs-are-runs-of-C : (d : ℕ) (p : Party) (s : StateM) (xs : List Says) → OnBoard s → RunOfDeskM d p s (steps xs) → RunOfDesk d p (bytesOf s) (tableOf s) (moves s xs)
+desk-runs-are-runs-of-C d p s xs b r =
+    record { chained = chained-moves s xs b (r .fits); keeps = apart-moves d p s xs b (r .fits) (r .keeps); full = full-moves s xs }
+
 -- ---- two runs
 
--- operation, id, map, precedence, key, combinations
-abbrev ask : ℕ → ℕ → ℕ → ℕ → ℕ → List ℕ → Ask
-ask op i m p k l = record { op = op; id = i; flags = 0; map = m; prec = p; key = k; combos = l }
+-- operation, id, map, precedence, key, combinations; the desk is the id's
+abbrev pub ask : ℕ → ℕ → ℕ → ℕ → ℕ → List ℕ → Ask
+ask op i m p k l = record { desk = deskOf i; op = op; id = i; flags = 0; map = m; prec = p; key = k; combos = l }
 
 -- K writes on channel 1 and waits for a cycle there, its write on channel 0 ends, it stops both
 abbrev quiet : List Says

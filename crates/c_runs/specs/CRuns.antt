@@ -9,6 +9,10 @@
 --   Took st tb t         it took the bytes of a state and a table there, by the promise; a key and a WRITE's count of cycles are two
 --                        bytes
 --   Move, Chained, Keeps, Full, Run, ownCalls   as in crates/code_runs, on bytes
+--   spoken t             the answer of document 01: the six bytes before the two numbers. These count everybody's replies, so they
+--                        are not the K party's to see
+--   ownRecords p t       the records to the K party's ids: of the first half, as many as the answer's first number says, then of the
+--                        second, as many as its second
 --   viewBytes p st       the bytes of the board's channels, those without K as a free one's
 --   Sight, sights p st tb ms   the bytes of answers, records, channels and what the table stores of them, in the order of the run
 --   Demand3·bytes        two runs with the same calls of the K party show it the same
@@ -17,7 +21,7 @@ use Prim.Native.Nat.{ℕ, _≤_}
 use mathlib.Core.Path.{_≡_}
 use mathlib.Core.List.{List, [], _∷_, _++_, map}
 use lib.Dec.{T}
-use lib.ListN.{length}
+use lib.ListN.{length, getD, take, drop}
 use Rattle.machine.specs.State.{Call}
 use Rattle.machine.specs.Log.{opOf}
 use Rattle.board.specs.Board.{stateIn, Held}
@@ -31,6 +35,7 @@ use Rattle.two_runs.specs.TwoRuns.{Party, Start, ByK, ByOthers, counted, said}
 use Rattle.code_runs.specs.CodeRuns.{recordsTo, viewOf, storedOf}
 
 pub record Turn : Type 0 where
+  pub desk : ℕ
   pub op : ℕ
   pub id : ℕ
   pub flags : ℕ
@@ -47,14 +52,14 @@ pub record Turn : Type 0 where
   pub answer : List ℕ
 
 abbrev pub request : Turn → Request
-request t = requestOf (t .op) (t .id) (t .flags) (t .map) (t .prec) (t .key)
+request t = requestOf (t .desk) (t .op) (t .id) (t .flags) (t .map) (t .prec) (t .key)
 
 abbrev pub asked : Turn → Call
 asked t = askedOf (opFor (opOf (t .op))) (request t) (t .combos) (length (t .lent))
 
 pub record Took (st tb : List ℕ) (t : Turn) : Type 0 where
   pub crossed : Crossed (t .op) (request t) (t .combos) st tb (t .lent) (t .room) (t .n) (t .state) (t .table) (t .list) (t .answer)
-  pub six : length (t .room) ≡ ANSWER
+  pub eight : length (t .room) ≡ ANSWER
   pub key : t .key ≤ 65535
   pub count : T (counted (asked t .op) (asked t))
 
@@ -89,6 +94,13 @@ ownCalls [] = []
 ownCalls (ours t ∷ ms) = said (asked t) ∷ ownCalls ms
 ownCalls (others t ∷ ms) = ownCalls ms
 
+unfoldable pub spoken : Turn → List ℕ
+spoken t = take 6 (t .answer)
+
+-- "Replies for desk B go into the reply list from record 32 onward, those for A before it, each half with its own number."
+unfoldable pub ownRecords : Party → Turn → List (List ℕ)
+ownRecords p t = recordsTo p (getD (t .answer) 6 0) (t .list) ++ recordsTo p (getD (t .answer) 7 0) (drop 192 (t .list))
+
 unfoldable pub viewBytes : Party → List ℕ → List (List ℕ)
 viewBytes p st = map channelBytes (viewOf p (stateOf st))
 
@@ -100,9 +112,9 @@ pub data Sight : Type 0 where
 unfoldable pub sights : Party → List ℕ → List ℕ → List Move → List Sight
 sights p st tb [] = has (viewBytes p st) (storedOf p (stateOf st) tb) ∷ []
 sights p st tb (ours t ∷ ms) =
-    map got (recordsTo p (t .n) (t .list))
-    ++ told (t .answer) ∷ has (viewBytes p (t .state)) (storedOf p (stateOf (t .state)) (t .table)) ∷ sights p (t .state) (t .table) ms
-sights p st tb (others t ∷ ms) = map got (recordsTo p (t .n) (t .list)) ++ sights p (t .state) (t .table) ms
+    map got (ownRecords p t)
+    ++ told (spoken t) ∷ has (viewBytes p (t .state)) (storedOf p (stateOf (t .state)) (t .table)) ∷ sights p (t .state) (t .table) ms
+sights p st tb (others t ∷ ms) = map got (ownRecords p t) ++ sights p (t .state) (t .table) ms
 
 abbrev pub Demand3·bytes : Type 0
 Demand3·bytes =
@@ -110,5 +122,5 @@ Demand3·bytes =
     → ownCalls ms ≡ ownCalls ns → sights p st tb ms ≡ sights p st tb ns
 
 unfoldable pub bytesClaim : Unit {0}
-unfolding ownCalls viewBytes sights
+unfolding ownCalls spoken ownRecords viewBytes sights
 bytesClaim = tt

@@ -88,7 +88,7 @@ module _ {st : Board} {tb : List ℕ} {t : Turn} (h : Held st tb) (k : Took st t
 
 -- ---- the records of a list are the bytes of the replies
 
-recordsTo-encodes : (p : Party) (rs : List Reply) (l : List ℕ) → recordsTo p (length rs) (encodes rs ++ l) ≡ map encode (ownReplies p rs)
+pub recordsTo-encodes : (p : Party) (rs : List Reply) (l : List ℕ) → recordsTo p (length rs) (encodes rs ++ l) ≡ map encode (ownReplies p rs)
 unfolding recordsTo records keep ownReplies
 recordsTo-encodes p [] l = refl
 recordsTo-encodes p (r ∷ rs) l = rw (recordsTo-encodes p rs l) (go (p .mine (r .id)))

@@ -69,7 +69,7 @@ abbrev pub made : StateM → Call → Turn
 made s c =
     record {
       op = opOut (c .op);
-      request = record { command = numberOut (c .op); id = c .id; flags = c .flags; map = c .map; prec = c .prec; key = c .key };
+      request = record { desk = c .desk; command = numberOut (c .op); id = c .id; flags = c .flags; map = c .map; prec = c .prec; key = c .key };
       combos = c .combos;
       lent = blank (c .room);
       outcome = outcomeOf (call s c);
@@ -82,7 +82,7 @@ asked-made s c =
     let a = op-out (c .op) in
     let e = length-blank (c .room) in
     let b : length (blank (c .room)) / 6 ≡ c .room = omega arith in
-    λ i. record { op = a i; id = c .id; flags = c .flags; map = c .map; prec = c .prec; key = c .key; combos = c .combos; room = b i }
+    λ i. record { op = a i; desk = c .desk; id = c .id; flags = c .flags; map = c .map; prec = c .prec; key = c .key; combos = c .combos; room = b i }
 
 abbrev pub moves : StateM → List Step → List Move
 moves s [] = []

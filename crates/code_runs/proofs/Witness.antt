@@ -10,6 +10,7 @@ use mathlib.Core.List.{List, [], _∷_, _++_}
 use lib.Dec.{eqb}
 use lib.ListN.{replicate}
 use Rattle.machine.specs.State.{Call, Op, OPEN, CLOSE, EVENT, CYCLE·ENDED, COMMAND, State as StateM, free}
+use Rattle.machine.specs.Desks.{deskOf}
 use Rattle.machine.specs.Machine.{machine}
 use Rattle.machine.specs.Walks.{plays}
 use Rattle.memory.specs.Splice.{block, splice}
@@ -46,7 +47,7 @@ start =
 
 -- operation, id, map, precedence, key, combinations
 abbrev pub ask : Op → ℕ → ℕ → ℕ → ℕ → List ℕ → Call
-ask op i m p k l = record { op = op; id = i; flags = 0; map = m; prec = p; key = k; combos = l; room = 64 }
+ask op i m p k l = record { op = op; desk = deskOf i; id = i; flags = 0; map = m; prec = p; key = k; combos = l; room = 64 }
 
 -- two cycles at period 200 and volume 50
 abbrev pub numbers : List ℕ

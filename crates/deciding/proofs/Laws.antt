@@ -114,7 +114,7 @@ refuse-due Abort e r ms len s = refl
 refuse-due CycleEnded e r ms len s = refl
 refuse-due GaveUp e r ms len s = refl
 refuse-due Command e r ms len s =
-    by-test (leb e 5) (λ t. rw (test-true (leb e 5) t, le-ltb 5 e (leb→le e 5 t))) (λ t. rw (test-false (leb e 5) t, lt-ltb 5 e (nleb→lt e 5 t)))
+    by-test (leb e 8) (λ t. rw (test-true (leb e 8) t, le-ltb 8 e (leb→le e 8 t))) (λ t. rw (test-false (leb e 8) t, lt-ltb 8 e (nleb→lt e 8 t)))
 
 refused-decided : (e : ℕ) → (e ≡ 0 → ⊥) → decisionOf e ≡ refused e
 refused-decided zero n = absurd (n refl)
@@ -161,8 +161,8 @@ act-sound ABORT c s p r y e = abort-sound c s p
 act-sound (EVENT v) c s p r y e = event-sound v c s p
 act-sound (COMMAND k) c s p r y e =
     let n = first-none _ e in
-    perform-sound (kind k) c s p r (id-small (c .id) (n .1 .1 .0)) (n .1 .1 .1 .0) (n .1 .1 .1 .1 .1 .1 .0) (n .1 .1 .1 .1 .1 .1 .1 .0)
-    (n .1 .1 .1 .1 .1 .1 .1 .1 .0) (λ _. y)
+    perform-sound (kind k) c s p r (id-small (c .id) (n .1 .1 .0)) (n .1 .1 .1 .1 .0) (n .1 .1 .1 .1 .1 .1 .1 .0) (n .1 .1 .1 .1 .1 .1 .1 .1 .0)
+    (n .1 .1 .1 .1 .1 .1 .1 .1 .1 .0) (λ _. y)
 
 act-wide : (o : OpM) (c : Call) (s : StateM) → Wide s (act o c s .next)
 act-wide OPEN c s = open-wide c s

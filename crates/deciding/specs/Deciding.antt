@@ -37,5 +37,5 @@ pub record Decided (o : Op) (e : ℕ) (r : Request) (s : State) (ms tb l : List 
   pub held : WideHeld s tb
   pub range : (r .prec ≤ 255) × (r .key ≤ 65535)
   pub bytes : (i : ℕ) → getD ms i 0 < 256
-  pub room : 5 < e → 6 ≤ length l
+  pub room : 8 < e → 6 ≤ length l
   pub allows : e ≡ 0 → refusal (opIn o (r .command)) (askedOf o r ms (length l)) (wideIn s tb) ≡ accepted

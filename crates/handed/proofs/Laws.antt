@@ -1,4 +1,4 @@
--- The arms of `op_of` are the tests of the log, and six stores make an answer. Assumes nothing.
+-- The arms of `op_of` are the tests of the log, and eight stores make an answer. Assumes nothing.
 use Prim.Native.Nat.{ℕ, _/_, _%_}
 use mathlib.Core.Path.{_≡_, ap, sym, _∙_}
 use mathlib.Core.List.{List, [], _∷_}
@@ -44,9 +44,9 @@ module _ (b : ℕ) where
 
 -- ---- the answer
 
-pub answer-stored : (l : List ℕ) (a : Answer) {m : ℕ} → length l ≡ 6 → m ≡ markOf (a .outstanding)
-    → set (set (set (set (set (set l 0 m) 1 (a .error)) 2 (a .map)) 3 (a .key / 256)) 4 (a .key % 256)) 5 (a .extra) ≡ answerBytes a
+pub answer-stored : (l : List ℕ) (a : Answer) (p q : ℕ) {m : ℕ} → length l ≡ 8 → m ≡ markOf (a .outstanding)
+    → set (set (set (set (set (set (set (set l 0 m) 1 (a .error)) 2 (a .map)) 3 (a .key / 256)) 4 (a .key % 256)) 5 (a .extra)) 6 p) 7 q ≡ answerBytes a p q
 unfolding answerBytes
-answer-stored l a {m} h e =
-    let vs = a .error ∷ a .map ∷ (a .key / 256) ∷ (a .key % 256) ∷ a .extra ∷ [] in
+answer-stored l a p q {m} h e =
+    let vs = a .error ∷ a .map ∷ (a .key / 256) ∷ (a .key % 256) ∷ a .extra ∷ p ∷ q ∷ [] in
     stores-splice l 0 m vs (omega arith) ∙ splice-whole l (m ∷ vs) (sym h) ∙ ap (λ (x : ℕ). x ∷ vs) e

@@ -2,8 +2,9 @@
 -- Assumes nothing.
 --
 --   opFor o                    the machine's operation as the code's; the number of a command stands in the request
---   requestOf op id ..         the request of the numbers that are handed in; the precedence is in two's complement
---   answerBytes a              an answer: outstanding (1) or done (0), error, map, key (high byte first), extra
+--   requestOf desk op id ..    the request of the numbers that are handed in; the precedence is in two's complement
+--   answerBytes a m n          an answer: outstanding (1) or done (0), error, map, key (high byte first), extra, and how many replies
+--                              desk A and desk B have
 use Prim.Native.Nat.{ℕ, _+_, _/_, _%_}
 use mathlib.Core.List.{List, [], _∷_}
 use Rattle.machine.specs.State.{Op as OpM, OPEN, CLOSE, ABORT, EVENT, CYCLE·ENDED, GAVE·UP, COMMAND}
@@ -21,8 +22,9 @@ opFor (EVENT CYCLE·ENDED) = CycleEnded
 opFor (EVENT GAVE·UP) = GaveUp
 opFor (COMMAND n) = Command
 
-abbrev pub requestOf : ℕ → ℕ → ℕ → ℕ → ℕ → ℕ → Request
-requestOf op id flags map prec key = record { command = op; id = id; flags = flags; map = map; prec = (prec + 128) % 256; key = key }
+abbrev pub requestOf : ℕ → ℕ → ℕ → ℕ → ℕ → ℕ → ℕ → Request
+requestOf desk op id flags map prec key = record { desk = desk; command = op; id = id; flags = flags; map = map; prec = (prec + 128) % 256; key = key }
 
-unfoldable pub answerBytes : Answer → List ℕ
-answerBytes a = markOf (a .outstanding) ∷ a .error ∷ a .map ∷ (a .key / 256) ∷ (a .key % 256) ∷ a .extra ∷ []
+-- #109: "each half with its own number"
+unfoldable pub answerBytes : Answer → ℕ → ℕ → List ℕ
+answerBytes a m n = markOf (a .outstanding) ∷ a .error ∷ a .map ∷ (a .key / 256) ∷ (a .key % 256) ∷ a .extra ∷ m ∷ n ∷ []

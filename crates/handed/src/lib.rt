@@ -2,8 +2,9 @@
 use answers::Answer;
 use refusals::Op;
 ghost use mathlib.Core.Path.{_≡_};
-ghost use Prim.Native.Nat.{_+_, _%_};
+ghost use Prim.Native.Nat.{_+_, _%_, _≤_};
 ghost use lib.ListN.{length};
+ghost use Rattle.machine.specs.Desks.{HALF};
 ghost use Rattle.machine.specs.Log.{opOf};
 ghost use Rattle.machine.specs.Lists.{if_then_else_};
 ghost use Rattle.handed.specs.Handed.{opFor, answerBytes};
@@ -35,9 +36,10 @@ fn mark(on: bool) -> u8
     if on { 1 } else { 0 }
 }
 
-pub fn put_answer(answer: &mut [u8], a: Answer)
-    requires { ⌜ length (now answer) ≡ 6 ⌝ }
-    ensures { λ _. ⌜ now (answer .exit) ≡ answerBytes a ⌝ }
+// Behind the answer stand how many replies each half of the list has: na to desk A, nb to desk B.
+pub fn put_answer(answer: &mut [u8], a: Answer, na: usize, nb: usize)
+    requires { ⌜ (length (now answer) ≡ 8) × (na ≤ HALF) × (nb ≤ HALF) ⌝ }
+    ensures { λ _. ⌜ now (answer .exit) ≡ answerBytes a na nb ⌝ }
 {
     let first = mark(a.outstanding);
     answer[0] = first;
@@ -46,4 +48,6 @@ pub fn put_answer(answer: &mut [u8], a: Answer)
     answer[3] = (a.key / 256) as u8;
     answer[4] = (a.key % 256) as u8;
     answer[5] = a.extra;
+    answer[6] = na as u8;
+    answer[7] = nb as u8;
 }

@@ -7,7 +7,7 @@ use mathlib.Core.Bool.{Bool, true, false, not, true≢false}
 use mathlib.Core.List.{List, _++_}
 use lib.Dec.{T, eqb, leb}
 use lib.ListN.{length}
-use Rattle.machine.specs.Numbers.{nowait, synced, NOALLOCATION, NONE, NOROOM, CMD·READ}
+use Rattle.machine.specs.Numbers.{nowait, synced, NOALLOCATION, NONE, OTHERDESK, CMD·READ}
 use Rattle.machine.specs.Lists.{if_then_else_}
 use Rattle.machine.specs.State.{State, Reply, Answer, Outcome, Call, Op, Event, OPEN, CLOSE, ABORT, EVENT, COMMAND}
 use Rattle.machine.specs.Maps.{lowest, at}
@@ -141,7 +141,7 @@ refuse-answered CLOSE e c s = record { outstanding = λ q. absurd (true≢false 
 refuse-answered ABORT e c s = record { outstanding = λ q. absurd (true≢false (sym q)); key = inl refl; last = inl refl; map = refl }
 refuse-answered (EVENT v) e c s = record { outstanding = λ q. absurd (true≢false (sym q)); key = inl refl; last = refl; map = tt }
 refuse-answered (COMMAND n) e c s =
-    if-elim (λ (o : Outcome). Answered (COMMAND n) c s (o .answer)) (leb e NOROOM) (λ _. given n c s e 0) (λ _. given n c s e 0)
+    if-elim (λ (o : Outcome). Answered (COMMAND n) c s (o .answer)) (leb e OTHERDESK) (λ _. given n c s e 0) (λ _. given n c s e 0)
 
 pub call-answered : (s : State) (c : Call) → Answered (c .op) c s (call s c .answer)
 unfolding call answering

@@ -26,7 +26,7 @@ abbrev opened : List ℕ → ℕ → State
 opened ks last = withLast last (withOpens ks fresh)
 
 abbrev asks : Op → ℕ → List ℕ → Call
-asks op k ms = record { op = op; id = 0; flags = 0; map = 0; prec = 128; key = k; combos = ms; room = 64 }
+asks op k ms = record { op = op; desk = 0; id = 0; flags = 0; map = 0; prec = 128; key = k; combos = ms; room = 64 }
 
 -- "A new key is unlike every key .. in the table", also after the count has wrapped
 pub unlike-an-opener : newKey (opened (8 ∷ []) 7) ≡ 9

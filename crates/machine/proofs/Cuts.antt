@@ -27,7 +27,7 @@ abbrev pub two : List Write
 two = plays 2 3 200 10 ∷ plays 3 1 300 20 ∷ []
 
 abbrev pub asks : Op → ℕ → List ℕ → Call
-asks op f ms = record { op = op; id = 9; flags = f; map = 1; prec = 128; key = 1; combos = ms; room = 64 }
+asks op f ms = record { op = op; desk = 0; id = 9; flags = f; map = 1; prec = 128; key = 1; combos = ms; room = 64 }
 
 abbrev pub left : State → Call → List Write
 left s c = at 1 (call s c .next .channels) .writes

@@ -8,6 +8,7 @@ use lib.Dec.{eqb}
 use Rattle.machine.specs.Numbers.{quick, nowait, synced}
 use Rattle.machine.specs.Lists.{if_then_else_}
 use Rattle.machine.specs.State.{State, Reply, Answer, Outcome, Call, Op, OPEN, CLOSE, ABORT, EVENT, COMMAND}
+use Rattle.machine.specs.Desks.{foreign}
 use Rattle.machine.specs.Choosing.{Look, fails, held, grants, look}
 use Rattle.machine.specs.Commands.{finished, silent, each, eachChange, doFree, doFinish, doPervol, doLock, doRead, doWrite, doWaitcycle, doEvent, doClose, doAbort}
 use Rattle.machine.specs.Allocating.{waits, allocating, doAllocate, opening, doOpen}
@@ -17,11 +18,11 @@ use Rattle.machine.specs.Call.{perform, accept, answering, call}
 
 abbrev pub withFlags : ℕ → Call → Call
 withFlags f c =
-    record { op = c .op; id = c .id; flags = f; map = c .map; prec = c .prec; key = c .key; combos = c .combos; room = c .room }
+    record { op = c .op; desk = c .desk; id = c .id; flags = f; map = c .map; prec = c .prec; key = c .key; combos = c .combos; room = c .room }
 
 -- no refusal reads a flag
 refusal-flagged : (o : Op) (f : ℕ) (c : Call) (s : State) → refusal o (withFlags f c) s ≡ refusal o c s
-unfolding refusal badList badMaps badMap badNumbers
+unfolding refusal foreign badList badMaps badMap badNumbers
 refusal-flagged OPEN f c s = refl
 refusal-flagged CLOSE f c s = refl
 refusal-flagged ABORT f c s = refl

@@ -13,6 +13,7 @@ use lib.ListN.{length}
 use Rattle.machine.specs.Numbers.{OPENFAIL, NOCMD, BADLENGTH, BADADDRESS, UNSOUND, NOTOPEN, INUSE, BADID, NOROOM, REQUESTS, ENTRIES, COMBOS, CMD·WRITE, ADCMD·PERVOL, ADCMD·ALLOCATE}
 use Rattle.machine.specs.Lists.{if_then_else_, any, all, among}
 use Rattle.machine.specs.State.{State, Call, Op, OPEN, CLOSE, ABORT, EVENT, COMMAND}
+use Rattle.machine.specs.Desks.{deskOf, foreign}
 use Rattle.machine.specs.Commands.{periodIn, volumeIn}
 use Rattle.machine.specs.Sound.{sound, ids}
 use Rattle.machine.specs.Kinds.{Kind, kind, unknown, allocates, carries}
@@ -224,6 +225,14 @@ carried false n c e = (λ t. λ h. absurd (other h), λ h. tt)
     other (inl q) = subst (λ (b : Bool). T b) (sym (e ∙ ap (λ (m : ℕ). eqb m 3 || eqb m 12) q)) tt
     other (inr q) = subst (λ (b : Bool). T b) (sym (e ∙ ap (λ (m : ℕ). eqb m 3 || eqb m 12) q)) tt
 
+-- #109: an id of its own half
+of-its-desk : (c : Call) → T (not (foreign c)) ↔ (deskOf (c .id) ≡ c .desk)
+unfolding foreign
+of-its-desk c = (
+  λ t. eqb→eq (deskOf (c .id)) (c .desk) (not-not (eqb (deskOf (c .id)) (c .desk)) .0 t),
+  λ e. not-not (eqb (deskOf (c .id)) (c .desk)) .1 (rw e (eqb-refl (c .desk))),
+)
+
 -- ---- accepted
 
 -- a call is accepted exactly if it passes the steps that concern it
@@ -246,8 +255,9 @@ accepted-exactly CLOSE c s = (
 )
 accepted-exactly ABORT c s = (
   λ e. let n = first-none _ e in
-      (not-not (sound s) .0 (n .0), enough (c .room) REQUESTS .0 (n .1 .0), enough 63 (c .id) .0 (n .1 .1 .0)),
-  λ p. none-first _ (not-not (sound s) .1 (p .0), (enough (c .room) REQUESTS .1 (p .1), (enough 63 (c .id) .1 (p .2), tt))),
+      (not-not (sound s) .0 (n .0), enough (c .room) REQUESTS .0 (n .1 .0), enough 63 (c .id) .0 (n .1 .1 .0), of-its-desk c .0 (n .1 .1 .1 .0)),
+  λ p. none-first _
+      (not-not (sound s) .1 (p .0), (enough (c .room) REQUESTS .1 (p .1), (enough 63 (c .id) .1 (p .2), (of-its-desk c .1 (p .3), tt)))),
 )
 accepted-exactly (EVENT v) c s = (
   λ e. let n = first-none _ e in
@@ -259,13 +269,14 @@ accepted-exactly (COMMAND n) c s = (
     not-not (sound s) .0 (f .0),
     enough (c .room) REQUESTS .0 (f .1 .0),
     enough 63 (c .id) .0 (f .1 .1 .0),
-    f .1 .1 .1 .0,
-    some (length (s .opens)) .0 (f .1 .1 .1 .1 .0),
-    known n .0 (f .1 .1 .1 .1 .1 .0),
-    reads (allocates (kind n)) n c s (allocates-alone n) .0 (f .1 .1 .1 .1 .1 .1 .0, f .1 .1 .1 .1 .1 .1 .1 .0),
-    carried (carries (kind n)) n c (carries-two n) .0 (f .1 .1 .1 .1 .1 .1 .1 .1 .0),
+    of-its-desk c .0 (f .1 .1 .1 .0),
+    f .1 .1 .1 .1 .0,
+    some (length (s .opens)) .0 (f .1 .1 .1 .1 .1 .0),
+    known n .0 (f .1 .1 .1 .1 .1 .1 .0),
+    reads (allocates (kind n)) n c s (allocates-alone n) .0 (f .1 .1 .1 .1 .1 .1 .1 .0, f .1 .1 .1 .1 .1 .1 .1 .1 .0),
+    carried (carries (kind n)) n c (carries-two n) .0 (f .1 .1 .1 .1 .1 .1 .1 .1 .1 .0),
   ),
-  λ p. let r = reads (allocates (kind n)) n c s (allocates-alone n) .1 (p .6) in
+  λ p. let r = reads (allocates (kind n)) n c s (allocates-alone n) .1 (p .7) in
       none-first _
-      (not-not (sound s) .1 (p .0), (enough (c .room) REQUESTS .1 (p .1), (enough 63 (c .id) .1 (p .2), (p .3, (some (length (s .opens)) .1 (p .4), (known n .1 (p .5), (r .0, (r .1, (carried (carries (kind n)) n c (carries-two n) .1 (p .7), tt))))))))),
+      (not-not (sound s) .1 (p .0), (enough (c .room) REQUESTS .1 (p .1), (enough 63 (c .id) .1 (p .2), (of-its-desk c .1 (p .3), (p .4, (some (length (s .opens)) .1 (p .5), (known n .1 (p .6), (r .0, (r .1, (carried (carries (kind n)) n c (carries-two n) .1 (p .8), tt)))))))))),
 )

@@ -2,7 +2,7 @@
 -- accepted. "Order: 1, 5, 4, 3, 2, -3, -4, -5, then -1 for OPEN, .. Steps that don't concern a call are skipped: OPEN, CLOSE and
 -- the event carry no id; OPEN, ABORT and the event don't need an open device; ABORT isn't refused for an outstanding id."
 -- Document 02, #105: "OPEN at 32 entries gets -1"; "CLOSE .. gets 2 if there is none". #101: for WRITE and PERVOL -4, "checked after
--- -5".
+-- -5". #109: "A command or ABORT naming an id of the other half gets 8, right after the check for 4".
 -- Assumes nothing.
 --
 --   steps o         the numbers with which the operation may be refused, in their order
@@ -16,9 +16,10 @@ use mathlib.Core.Logic.{_⊎_}
 use mathlib.Core.List.{List, [], _∷_}
 use lib.Dec.{T, ltb}
 use lib.ListN.{length}
-use Rattle.machine.specs.Numbers.{OPENFAIL, NOCMD, BADLENGTH, BADADDRESS, UNSOUND, NOTOPEN, INUSE, BADID, NOROOM, REQUESTS, COMBOS, ENTRIES, CMD·WRITE, ADCMD·PERVOL, ADCMD·ALLOCATE}
+use Rattle.machine.specs.Numbers.{OPENFAIL, NOCMD, BADLENGTH, BADADDRESS, UNSOUND, NOTOPEN, INUSE, BADID, OTHERDESK, NOROOM, REQUESTS, COMBOS, ENTRIES, CMD·WRITE, ADCMD·PERVOL, ADCMD·ALLOCATE}
 use Rattle.machine.specs.Lists.{among, all}
 use Rattle.machine.specs.State.{State, Call, Op, OPEN, CLOSE, ABORT, EVENT, COMMAND}
+use Rattle.machine.specs.Desks.{deskOf}
 use Rattle.machine.specs.Commands.{periodIn, volumeIn}
 use Rattle.machine.specs.Sound.{sound, ids}
 use Rattle.machine.specs.Bytes.{listed}
@@ -26,9 +27,9 @@ use Rattle.machine.specs.Bytes.{listed}
 unfoldable pub steps : Op → List ℕ
 steps OPEN = UNSOUND ∷ NOROOM ∷ BADLENGTH ∷ BADADDRESS ∷ OPENFAIL ∷ []
 steps CLOSE = UNSOUND ∷ NOROOM ∷ NOTOPEN ∷ []
-steps ABORT = UNSOUND ∷ NOROOM ∷ BADID ∷ []
+steps ABORT = UNSOUND ∷ NOROOM ∷ BADID ∷ OTHERDESK ∷ []
 steps (EVENT v) = UNSOUND ∷ NOROOM ∷ BADADDRESS ∷ []
-steps (COMMAND n) = UNSOUND ∷ NOROOM ∷ BADID ∷ INUSE ∷ NOTOPEN ∷ NOCMD ∷ BADLENGTH ∷ BADADDRESS ∷ BADLENGTH ∷ []
+steps (COMMAND n) = UNSOUND ∷ NOROOM ∷ BADID ∷ OTHERDESK ∷ INUSE ∷ NOTOPEN ∷ NOCMD ∷ BADLENGTH ∷ BADADDRESS ∷ BADLENGTH ∷ []
 
 -- "at most 16 combinations", each on the board
 abbrev pub Listed : Call → State → Type 0
@@ -53,8 +54,8 @@ Carries n c = (n ≡ CMD·WRITE) ⊎ (n ≡ ADCMD·PERVOL) → Carried c
 unfoldable pub Passes : Op → Call → State → Type 0
 Passes OPEN c s = T (sound s) × (REQUESTS ≤ c .room) × Listed c s × (length (s .opens) < ENTRIES)
 Passes CLOSE c s = T (sound s) × (REQUESTS ≤ c .room) × T (among (c .key) (s .opens))
-Passes ABORT c s = T (sound s) × (REQUESTS ≤ c .room) × (c .id ≤ 63)
+Passes ABORT c s = T (sound s) × (REQUESTS ≤ c .room) × (c .id ≤ 63) × (deskOf (c .id) ≡ c .desk)
 Passes (EVENT v) c s = T (sound s) × (REQUESTS ≤ c .room) × Mapped c s
 Passes (COMMAND n) c s =
-    T (sound s) × (REQUESTS ≤ c .room) × (c .id ≤ 63) × T (not (among (c .id) (ids s))) × (0 < length (s .opens)) × T (among n listed)
+    T (sound s) × (REQUESTS ≤ c .room) × (c .id ≤ 63) × (deskOf (c .id) ≡ c .desk) × T (not (among (c .id) (ids s))) × (0 < length (s .opens)) × T (among n listed)
     × Reads n c s × Carries n c

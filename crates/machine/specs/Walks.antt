@@ -9,7 +9,8 @@
 --   chan, lock, wait    a channel (key, precedence + 128, locked, stopped, writes), a lock or a WAITCYCLE (id, key, map), a waiting
 --                       request (id, key, precedence + 128, NOWAIT, combinations)
 --   stands              a state: channels, locks, WAITCYCLEs, waiting requests, open keys, last key
---   asks                a call: operation, id, flags, map, precedence + 128, key, combinations, reply records lent
+--   asks                a call of its id's desk: operation, id, flags, map, precedence + 128, key, combinations, reply records lent;
+--                       asksFrom: of any desk
 --   says, reply         an answer (outstanding, error, map, key, last byte); a reply (id, command, error, map, key)
 --   gets                an outcome: answer, replies, next state
 --   unrested, rested    the state of the examples; the same after a walk
@@ -20,6 +21,7 @@ use mathlib.Core.Bool.{Bool, true, false}
 use mathlib.Core.List.{List, [], _∷_, map}
 use mathlib.Core.Option.{Option, none, some}
 use Rattle.machine.specs.State.{Write, Channel, Lock, Request, State, Call, Reply, Answer, Outcome, Op, OPEN, ABORT, COMMAND, free}
+use Rattle.machine.specs.Desks.{deskOf}
 use Rattle.machine.specs.Call.{call}
 use Rattle.machine.specs.Machine.{machine}
 
@@ -58,8 +60,11 @@ wait i k p n ms = record { id = i; key = k; prec = p; impatient = n; combos = ms
 abbrev pub stands : List Channel → List Lock → List Lock → List Request → List ℕ → ℕ → State
 stands cs ls vs ws os k = record { channels = cs; locks = ls; waiters = vs; waiting = ws; opens = os; last = k }
 
+abbrev pub asksFrom : ℕ → Op → ℕ → ℕ → ℕ → ℕ → ℕ → List ℕ → ℕ → Call
+asksFrom d o i f m p k ms n = record { op = o; desk = d; id = i; flags = f; map = m; prec = p; key = k; combos = ms; room = n }
+
 abbrev pub asks : Op → ℕ → ℕ → ℕ → ℕ → ℕ → List ℕ → ℕ → Call
-asks o i f m p k ms n = record { op = o; id = i; flags = f; map = m; prec = p; key = k; combos = ms; room = n }
+asks o i f m p k ms n = asksFrom (deskOf i) o i f m p k ms n
 
 abbrev pub reply : ℕ → ℕ → ℕ → ℕ → ℕ → Reply
 reply i n e m k = record { id = i; command = n; error = e; map = m; key = k }

@@ -16,6 +16,8 @@ pub mod Keeping
 pub mod KeepingSettle
 pub mod KeepingCalls
 pub mod Replies
+pub mod Halves
+pub mod Rooms
 pub mod Cutting
 pub mod Board
 pub mod Fronts

@@ -1,4 +1,4 @@
--- Each command does what it did. Assumes that a WRITE carries no numbers.
+-- Each command does what it did. Assumes that a WRITE carries no numbers, and that a READ is of the desk of every write.
 use Prim.Native.Nat.{ℕ}
 use mathlib.Core.Path.{_≡_, refl, ap, ap₂, sym, _∙_}
 use mathlib.Core.Bool.{Bool, true, false, not, _&&_}
@@ -8,6 +8,7 @@ use lib.ListN.{length, length-map}
 use Rattle.machine.specs.Numbers.{quick, NONE, NOALLOCATION, CMD·READ, CMD·WRITE, ADCMD·LOCK, ADCMD·FREE}
 use Rattle.machine.specs.Lists.{if_then_else_, keep}
 use Rattle.machine.specs.State.{Write, Channel, Reply, CYCLE·ENDED, withChannels}
+use Rattle.machine.specs.Sound.{ids}
 use Rattle.machine.specs.Maps.{odd, half, bit, minus, lowest, change, at}
 use Rattle.machine.specs.Commands.{matches, matching, mismatch, done, pending, finished, silent, freed, setLock, setWrites, cleared, isEmpty, ended, freeing, freeingReplies, each, eachChange, doFree, doLock, front, playing, doRead, cyclesIn, periodIn, volumeIn, writeOf, doWrite, isLast, lastReplies, cycled, frontCycled, eventReplies, happened, doEvent, closed, owned, doClose, abortedWrites, abortedWaits, without, abortedBy, leaving, ledBy, doAbort}
 use Rattle.machine.proofs.Tests.{and-right}
@@ -17,6 +18,7 @@ use Rattle.old_logs.specs.Old
 use Rattle.old_logs.specs.Now.{nowWrite, nowChannel, nowLock, nowRequest, now, nowReply, nowAnswer, nowOutcome, nowCall}
 use Rattle.old_logs.proofs.Lists.{if-out, if-as, keep-map, map-as}
 use Rattle.old_logs.proofs.Maps.{length-now, lowest-now, named-now, change-now, at-now}
+use Rattle.old_logs.proofs.Halves.{Mine, reads-mine}
 use Rattle.old_logs.proofs.Granting.{aborted-now, cut-now, cutReplies-now, dropped-now}
 
 -- ---- which channels match
@@ -114,12 +116,12 @@ unfolding front Old.front
 front-now [] = refl
 front-now (i ∷ is) = refl
 
-pub doRead-now : (c : Old.Call) (s : Old.State) → doRead (nowCall c) (now s) ≡ nowOutcome (Old.doRead c s)
+pub doRead-now : (c : Old.Call) (s : Old.State) → Mine (nowCall c .desk) (ids (now s)) → doRead (nowCall c) (now s) ≡ nowOutcome (Old.doRead c s)
 unfolding doRead matches done Old.doRead Old.matches Old.done
-doRead-now c s =
+doRead-now c s t =
     let m = Old.lowest (length (s .channels)) (c .map) in
     let h = Old.at m (s .channels) in
-    rw (low-now (s .channels) (c .map), at-now m (s .channels), front-now (h .writes))
+    rw (low-now (s .channels) (c .map), reads-mine (nowCall c .desk) m (now s) t, at-now m (s .channels), front-now (h .writes))
     (if-as nowOutcome (Old.matches (c .key) h)
     (λ _. finished-now CMD·READ c (Old.done 0 m (c .key) (if h .stopped then NONE else Old.front (h .writes))) [] s)
     (λ _. finished-now CMD·READ c (Old.done NOALLOCATION 0 (c .key) NONE) [] s))

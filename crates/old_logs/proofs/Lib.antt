@@ -1,5 +1,6 @@
 pub mod Lists
 pub mod Maps
+pub mod Halves
 pub mod Choosing
 pub mod Granting
 pub mod Commands

@@ -1,5 +1,6 @@
 -- Document 02, #102: "An old log without F4 and commands 11, 12 and 14, whose writes all have n 0, must give the same output as before
--- #101." On a board of any number of channels. Assumes nothing else.
+-- #101." Since #109 for a log whose commands name ids of one half, either one. On a board of any number of channels. Assumes nothing
+-- else.
 use Prim.Native.Nat.{ℕ, zero, suc, _+_}
 use mathlib.Core.Path.{_≡_, refl, ap}
 use mathlib.Core.Bool.{Bool, true, false, _&&_}
@@ -11,10 +12,13 @@ use Rattle.machine.specs.Lists.{if_then_else_, all}
 use Rattle.machine.specs.State.{Channel, Call, Op, OPEN, CLOSE, ABORT, EVENT, CYCLE·ENDED, GAVE·UP, COMMAND, free, frees, freshOn}
 use Rattle.machine.specs.Commands.{done, silent}
 use Rattle.machine.specs.Log.{Fed, opened, lines, digit, joined, unhex, opOf, callOf, frame, hexDigit, line, replyLine, answerLine, replyLines, told, outcomeOf, feed, run, log}
+use Rattle.machine.specs.Sound.{ids, writesOf}
+use Rattle.machine_laws.proofs.Replies.{heard}
 use Rattle.machine.proofs.Tests.{and-left, and-right}
 use Rattle.old_logs.specs.Old
 use Rattle.old_logs.specs.Now.{nowChannel, now, nowOp, nowCall, nowReply, nowOutcome, nowFed}
-use Rattle.old_logs.specs.OldLogs.{oldOp, oldCall, oldLine, OldLog}
+use Rattle.old_logs.specs.OldLogs.{oldOp, oldCall, oldLine, OldLog, halfCall, halfLine, OneHalf}
+use Rattle.old_logs.proofs.Halves.{Mine, Stays, halves-one, call-stays}
 use Rattle.old_logs.proofs.Calls.{call-now}
 
 -- ---- from a line to a call
@@ -58,30 +62,35 @@ unfolding replyLines replyLine line hexDigit Old.replyLines Old.replyLine Old.li
 replyLines-now [] = refl
 replyLines-now (r ∷ rs) = rw (replyLines-now rs)
 
-told-now : (o : Old.Outcome) → told (nowOutcome o) ≡ Old.told o
+told-now : (d : ℕ) (o : Old.Outcome) → Mine d (heard (map nowReply (o .replies))) → told (nowOutcome o) ≡ Old.told o
 unfolding told answerLine line hexDigit Old.told Old.answerLine Old.line Old.hexDigit
-told-now o = rw (replyLines-now (o .replies))
+told-now d o m = rw (halves-one d (map nowReply (o .replies)) m, replyLines-now (o .replies))
 
 -- ---- lines in order
 
-outcomeOf-now : (f : Option Old.Call) (s : Old.State) → T (oldCall (nowFrame f)) → outcomeOf (now s) (nowFrame f) ≡ nowOutcome (Old.outcomeOf s f)
-unfolding outcomeOf silent done oldCall Old.outcomeOf Old.silent Old.done
-outcomeOf-now none s t = refl
-outcomeOf-now (some c) s t = call-now c s t
+outcomeOf-now : (d : ℕ) (f : Option Old.Call) (s : Old.State) → Mine d (ids (now s)) → T (halfCall d (nowFrame f)) → T (oldCall (nowFrame f))
+    → (outcomeOf (now s) (nowFrame f) ≡ nowOutcome (Old.outcomeOf s f)) × Stays d (nowOutcome (Old.outcomeOf s f))
+unfolding outcomeOf silent done oldCall halfCall Old.outcomeOf Old.silent Old.done
+outcomeOf-now d none s m h t = (refl, (unfold all in tt, m))
+outcomeOf-now d (some c) s m h t = let e = call-now d c s m h t in (e, rw e at (call-stays d (now s) (nowCall c) m h))
 
-pub feed-now : (s : Old.State) (l : List ℕ) → T (oldLine l) → feed (now s) l ≡ nowFed (Old.feed s l)
-unfolding feed oldLine unhex digit joined Old.feed Old.unhex Old.digit Old.joined
-feed-now s l t =
+pub feed-now : (d : ℕ) (s : Old.State) (l : List ℕ) → Mine d (ids (now s)) → T (halfLine d l) → T (oldLine l)
+    → (feed (now s) l ≡ nowFed (Old.feed s l)) × Mine d (ids (now (Old.feed s l .next)))
+unfolding feed oldLine halfLine unhex digit joined Old.feed Old.unhex Old.digit Old.joined
+feed-now d s l m h t =
     let f = Old.frame (Old.unhex l) in
     let e = frame-now (unhex l) t in
-    let q = outcomeOf-now f s (rw e at t) in
-    rw (e, q, told-now (Old.outcomeOf s f))
+    let q = outcomeOf-now d f s m (rw e at h) (rw e at t) in
+    (rw (e, q .0, told-now d (Old.outcomeOf s f) (q .1 .0)), q .1 .1)
 
-pub run-now : (s : Old.State) (ls : List (List ℕ)) → T (all oldLine ls) → run (now s) ls ≡ nowFed (Old.run s ls)
+pub run-now : (d : ℕ) (s : Old.State) (ls : List (List ℕ)) → Mine d (ids (now s)) → T (all (halfLine d) ls) → T (all oldLine ls) → run (now s) ls ≡ nowFed (Old.run s ls)
 unfolding run all Old.run
-run-now s [] t = refl
-run-now s (l ∷ ls) t =
-    rw (feed-now s l (and-left (oldLine l) (all oldLine ls) t), run-now (Old.feed s l .next) ls (and-right (oldLine l) (all oldLine ls) t))
+run-now d s [] m h t = refl
+run-now d s (l ∷ ls) m h t =
+    let f = feed-now d s l m (and-left (halfLine d l) (all (halfLine d) ls) h) (and-left (oldLine l) (all oldLine ls) t) in
+    let r =
+    run-now d (Old.feed s l .next) ls (f .1) (and-right (halfLine d l) (all (halfLine d) ls) h) (and-right (oldLine l) (all oldLine ls) t) in
+    rw (f .0, r)
 
 -- ---- whole logs, from the fresh device
 
@@ -93,17 +102,27 @@ fresh-now n = ap (λ (cs : List Channel). record { channels = cs; locks = []; wa
     frees-now zero = refl
     frees-now (suc n) = ap (λ (cs : List Channel). free ∷ cs) (frees-now n)
 
+-- nothing is outstanding
+no-writes : (n : ℕ) → writesOf (map nowChannel (Old.frees n)) ≡ []
+unfolding writesOf Old.frees
+no-writes zero = refl
+no-writes (suc n) = no-writes n
+
+fresh-mine : (d n : ℕ) → Mine d (ids (now (Old.freshOn n)))
+unfolding ids
+fresh-mine d n = rw (no-writes n) (unfold all in tt)
+
 -- the output, and with it the state: each write stands as n 0 says, and nobody waits for a cycle
-pub old-run : (n : ℕ) (bs : List ℕ) → OldLog bs → run (freshOn n) (lines bs) ≡ nowFed (Old.run (Old.freshOn n) (Old.lines bs))
+pub old-run : (d n : ℕ) (bs : List ℕ) → OldLog bs → OneHalf d bs → run (freshOn n) (lines bs) ≡ nowFed (Old.run (Old.freshOn n) (Old.lines bs))
 unfolding lines opened Old.lines Old.opened
-old-run n bs t = rw (fresh-now n) (run-now (Old.freshOn n) (lines bs) t)
+old-run d n bs t h = rw (fresh-now n) (run-now d (Old.freshOn n) (lines bs) (fresh-mine d n) h t)
 
-pub old-log : (n : ℕ) (bs : List ℕ) → OldLog bs → run (freshOn n) (lines bs) .output ≡ Old.run (Old.freshOn n) (Old.lines bs) .output
-old-log n bs t = ap (λ (f : Fed). f .output) (old-run n bs t)
+pub old-log : (d n : ℕ) (bs : List ℕ) → OldLog bs → OneHalf d bs → run (freshOn n) (lines bs) .output ≡ Old.run (Old.freshOn n) (Old.lines bs) .output
+old-log d n bs t h = ap (λ (f : Fed). f .output) (old-run d n bs t h)
 
-pub old-log-state : (n : ℕ) (bs : List ℕ) → OldLog bs → run (freshOn n) (lines bs) .next ≡ now (Old.run (Old.freshOn n) (Old.lines bs) .next)
-old-log-state n bs t = ap (λ (f : Fed). f .next) (old-run n bs t)
+pub old-log-state : (d n : ℕ) (bs : List ℕ) → OldLog bs → OneHalf d bs → run (freshOn n) (lines bs) .next ≡ now (Old.run (Old.freshOn n) (Old.lines bs) .next)
+old-log-state d n bs t h = ap (λ (f : Fed). f .next) (old-run d n bs t h)
 
-pub old-log-four : (bs : List ℕ) → OldLog bs → log bs ≡ Old.log bs
+pub old-log-four : (d : ℕ) (bs : List ℕ) → OldLog bs → OneHalf d bs → log bs ≡ Old.log bs
 unfolding log frees Old.log Old.frees
-old-log-four bs t = old-log 4 bs t
+old-log-four d bs t h = old-log d 4 bs t h

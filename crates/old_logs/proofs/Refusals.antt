@@ -1,18 +1,19 @@
--- A call is refused as it was. Assumes that it is an old one: no command 11, 12 or 14, and no WRITE with numbers.
+-- A call is refused as it was, and never with 8. Assumes that it is an old one: no command 11, 12 or 14, and no WRITE with numbers.
 use Prim.Native.Nat.{ℕ, suc}
 use native.Mathlib.Omega.{arith}
-use mathlib.Core.Path.{_≡_, refl}
+use mathlib.Core.Path.{_≡_, refl, ap}
 use mathlib.Core.Bool.{Bool, true, false, not, _&&_}
 use mathlib.Core.List.{List, [], _∷_}
-use lib.Dec.{T, eqb, eqb→eq, leb}
+use lib.Dec.{T, eqb, eqb→eq, eqb-refl, leb}
 use lib.ListN.{length}
-use Rattle.machine.specs.Numbers.{NOROOM, NONE, CMD·WRITE, ADCMD·FINISH, ADCMD·PERVOL, ADCMD·WAITCYCLE}
+use Rattle.machine.specs.Numbers.{NOROOM, OTHERDESK, NONE, CMD·WRITE, ADCMD·FINISH, ADCMD·PERVOL, ADCMD·WAITCYCLE}
 use Rattle.machine.specs.Lists.{if_then_else_}
-use Rattle.machine.specs.State.{COMMAND}
+use Rattle.machine.specs.State.{ABORT, COMMAND}
+use Rattle.machine.specs.Desks.{deskOf, foreign}
 use Rattle.machine.specs.Commands.{done, silent, periodIn, volumeIn}
 use Rattle.machine.specs.Kinds.{Kind, RESET, READ, WRITE, UPDATE, CLEAR, STOP, START, FLUSH, FREE, SETPREC, LOCK, ALLOCATE, UNKNOWN, kind, unknown, allocates, carries}
 use Rattle.machine.specs.Refusals.{Refusal, accepted, refused, first, badList, badMaps, badMap, badNumbers, refusal, refuse}
-use Rattle.machine.proofs.Tests.{by-test, test-false, eqb-false}
+use Rattle.machine.proofs.Tests.{by-test, test-true, test-false, eqb-false}
 use Rattle.old_logs.specs.Old
 use Rattle.old_logs.specs.Now.{now, nowOp, nowCall, nowOutcome}
 use Rattle.old_logs.specs.OldLogs.{oldCommand, oldOp}
@@ -139,27 +140,63 @@ badMap-now : (c : Old.Call) (s : Old.State) → badMap (nowCall c) (now s) ≡ O
 unfolding badMap Old.badMap
 badMap-now c s = rw (length-now (s .channels))
 
+-- #109: a call of a log is its id's desk's
+never-foreign : (c : Old.Call) → foreign (nowCall c) ≡ false
+unfolding foreign
+never-foreign c = ap not (test-true (eqb (deskOf (c .id)) (deskOf (c .id))) (eqb-refl (deskOf (c .id))))
+
 -- a test that is not met says nothing
 command-now : (n : ℕ) (c : Old.Call) (s : Old.State) → OldCommand n (c .combos) → refusal (COMMAND n) (nowCall c) (now s) ≡ nowRefusal (Old.refusal (Old.COMMAND n) c s)
 unfolding refusal badList first Old.refusal Old.badList Old.first
 command-now n c s o =
     let k = Old.kind n in
-    rw (no-bad-numbers n c o, sound-now s, ids-now s, badMaps-now c s, badMap-now c s, kind-now n (c .combos) o, unknown-now k, allocates-now k)
+    rw (no-bad-numbers n c o, never-foreign c, sound-now s, ids-now s, badMaps-now c s, badMap-now c s, kind-now n (c .combos) o, unknown-now k, allocates-now k)
     (simp (← if-out nowRefusal))
+
+abort-now : (c : Old.Call) (s : Old.State) → refusal ABORT (nowCall c) (now s) ≡ nowRefusal (Old.refusal Old.ABORT c s)
+unfolding refusal first Old.refusal Old.first
+abort-now c s = rw (never-foreign c, sound-now s) (simp (← if-out nowRefusal))
 
 pub refusal-now : (op : Old.Op) (c : Old.Call) (s : Old.State) → T (oldOp (nowOp op) (c .combos)) → refusal (nowOp op) (nowCall c) (now s) ≡ nowRefusal (Old.refusal op c s)
 unfolding refusal badList Old.refusal Old.badList
 refusal-now Old.OPEN c s t = rw (sound-now s, badMaps-now c s) (first-now _)
 refusal-now Old.CLOSE c s t = rw (sound-now s) (first-now _)
-refusal-now Old.ABORT c s t = rw (sound-now s) (first-now _)
+refusal-now Old.ABORT c s t = abort-now c s
 refusal-now Old.EVENT c s t = rw (sound-now s, badMap-now c s) (first-now _)
 refusal-now (Old.COMMAND n) c s t = command-now n c s (old-command n (c .combos) (unfold oldOp in t))
 
-pub refuse-now : (op : Old.Op) (e : ℕ) (c : Old.Call) (s : Old.State) → refuse (nowOp op) e (nowCall c) (now s) ≡ nowOutcome (Old.refuse op e c s)
+-- none of the numbers 6 to 8 was given: those up to 8 that now go without a reply are those up to 5 that did
+abbrev pub Silent : Old.Refusal → Type 0
+Silent Old.accepted = Unit {0}
+Silent (Old.refused e) = leb e OTHERDESK ≡ leb e NOROOM
+
+abbrev Silents : List (Bool × ℕ) → Type 0
+Silents [] = Unit {0}
+Silents (t ∷ ts) = (leb (t .1) OTHERDESK ≡ leb (t .1) NOROOM) × Silents ts
+
+first-silent : (ts : List (Bool × ℕ)) → Silents ts → Silent (Old.first ts)
+unfolding Old.first
+first-silent [] q = tt
+first-silent (t ∷ ts) q = go (t .0) (first-silent ts (q .1))
+  where
+    go : (b : Bool) → Silent (Old.first ts) → Silent (if b then Old.refused (t .1) else Old.first ts)
+    go true r = q .0
+    go false r = r
+
+pub was-silent : (op : Old.Op) (c : Old.Call) (s : Old.State) → Silent (Old.refusal op c s)
+unfolding Old.refusal
+was-silent Old.OPEN c s = first-silent _ (refl, (refl, (refl, (refl, (refl, tt)))))
+was-silent Old.CLOSE c s = first-silent _ (refl, (refl, (refl, tt)))
+was-silent Old.ABORT c s = first-silent _ (refl, (refl, (refl, tt)))
+was-silent Old.EVENT c s = first-silent _ (refl, (refl, (refl, tt)))
+was-silent (Old.COMMAND n) c s = first-silent _ (refl, (refl, (refl, (refl, (refl, (refl, (refl, (refl, tt))))))))
+
+pub refuse-now : (op : Old.Op) (e : ℕ) (c : Old.Call) (s : Old.State) → leb e OTHERDESK ≡ leb e NOROOM
+    → refuse (nowOp op) e (nowCall c) (now s) ≡ nowOutcome (Old.refuse op e c s)
 unfolding refuse silent done Old.refuse Old.silent Old.done
-refuse-now Old.OPEN e c s = refl
-refuse-now Old.CLOSE e c s = refl
-refuse-now Old.ABORT e c s = refl
-refuse-now Old.EVENT e c s = refl
-refuse-now (Old.COMMAND n) e c s =
-    if-as nowOutcome (leb e NOROOM) (λ _. refl) (λ _. finished-now n c (Old.done e 0 (c .key) NONE) [] s)
+refuse-now Old.OPEN e c s q = refl
+refuse-now Old.CLOSE e c s q = refl
+refuse-now Old.ABORT e c s q = refl
+refuse-now Old.EVENT e c s q = refl
+refuse-now (Old.COMMAND n) e c s q =
+    rw q (if-as nowOutcome (leb e NOROOM) (λ _. refl) (λ _. finished-now n c (Old.done e 0 (c .key) NONE) [] s))

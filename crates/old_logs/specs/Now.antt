@@ -4,13 +4,15 @@
 --   nowChannel .. nowReply   a channel whose writes are such; a lock, a request, a reply as they are
 --   now s            the state: the same, and no WAITCYCLE
 --   nowOp o          the operation; the event is "a cycle ended"
---   nowCall c, nowAnswer a, nowOutcome o, nowFed f   a call, an answer, an outcome and what a line comes to
+--   nowCall c        a call, of the desk of its id as a log has it
+--   nowAnswer a, nowOutcome o, nowFed f   an answer, an outcome and what a line comes to
 use Prim.Native.Nat.{ℕ}
 use mathlib.Core.Bool.{false}
 use mathlib.Core.List.{[], map}
 use mathlib.Core.Option.{none}
 use Rattle.machine.specs.Numbers.{PERIOD·LEAST, VOLUME·MOST}
 use Rattle.machine.specs.State.{Write, Channel, Lock, Request, State, Reply, Answer, Outcome, Call, Op, OPEN, CLOSE, ABORT, EVENT, CYCLE·ENDED, COMMAND}
+use Rattle.machine.specs.Desks.{deskOf}
 use Rattle.machine.specs.Log.{Fed}
 use Rattle.old_logs.specs.Old
 
@@ -54,9 +56,10 @@ nowOp Old.ABORT = ABORT
 nowOp Old.EVENT = EVENT CYCLE·ENDED
 nowOp (Old.COMMAND n) = COMMAND n
 
+-- #109: "in the log an id byte of 32 or more means B"
 abbrev pub nowCall : Old.Call → Call
 nowCall c =
-    record { op = nowOp (c .op); id = c .id; flags = c .flags; map = c .map; prec = c .prec; key = c .key; combos = c .combos; room = c .room }
+    record { op = nowOp (c .op); desk = deskOf (c .id); id = c .id; flags = c .flags; map = c .map; prec = c .prec; key = c .key; combos = c .combos; room = c .room }
 
 abbrev pub nowFed : Old.Fed → Fed
 nowFed f = record { output = f .output; next = now (f .next) }

@@ -114,9 +114,11 @@ pub extern "C" fn qamhudeer_fresh(channels: u8, state: &mut [u8], table: &mut [u
     starting::fresh(channels, state, table)
 }
 
-// The number of replies; 255 where the answer is not lent six bytes, and nothing moves.
+// A desk's call: the number of replies, of which the answer's last two bytes tell how many are desk A's and desk B's; 255 where the
+// answer is not lent eight bytes, and nothing moves.
 #[no_mangle]
 pub extern "C" fn qamhudeer_call(
+    desk: u8,
     op: u8,
     id: u8,
     flags: u8,
@@ -129,11 +131,12 @@ pub extern "C" fn qamhudeer_call(
     replies: &mut [u8],
     answer: &mut [u8],
 ) -> usize
-    ensures { λ n. ⌜ Crossed op (requestOf op id flags map prec key) (now (combos .entry))
+    ensures { λ n. ⌜ Crossed op (requestOf desk op id flags map prec key) (now (combos .entry))
         (now (state .entry)) (now (table .entry)) (now (replies .entry)) (now (answer .entry))
         n (now (state .exit)) (now (table .exit)) (now (replies .exit)) (now (answer .exit)) ⌝ }
 {
     boundary::call(
+        desk,
         op,
         id,
         flags,

@@ -1,15 +1,16 @@
 -- The machine's refusals of a sound state are each operation's list of tests, with the bound of the board's maps. Assumes nothing.
 use Prim.Native.Nat.{ℕ, _+_, _/_, _^_, _≤_, _<_}
 use mathlib.Core.Path.{_≡_, ap, sym, _∙_}
-use mathlib.Core.Bool.{Bool, _&&_}
+use mathlib.Core.Bool.{Bool, true, false, not, _&&_}
 use mathlib.Core.List.{List, [], _∷_, map}
 use native.Mathlib.Omega.{arith}
-use borrow.Author.Tests.{ltb-false, lt-ltb, le-ltb}
+use borrow.Author.Tests.{eq-eqb, ne-eqb, ltb-false, lt-ltb, le-ltb}
 use lib.Dec.{T, eqb, ltb}
 use lib.ListN.{length}
 use Rattle.machine.specs.Numbers.{NOROOM}
 use Rattle.machine.specs.Lists.{if_then_else_, any, among}
 use Rattle.machine.specs.State.{State as StateM, Call, Op as OpM, Event, OPEN, CLOSE, ABORT, EVENT, CYCLE·ENDED, GAVE·UP, COMMAND}
+use Rattle.machine.specs.Desks.{deskOf, foreign}
 use Rattle.machine.specs.Sound.{sound, soundTone, ids}
 use Rattle.machine.specs.Kinds.{kind, unknown, allocates, carries}
 use Rattle.machine.specs.Refusals.{refused, first, badList, badMaps, badMap, badNumbers, refusal}
@@ -49,8 +50,8 @@ module _ (c : Call) (s : StateM) (ok : T (sound s)) where
     unfolding refusal first
     close-left = rw (test-true (sound s) ok, le-ltb _ _ h)
 
-    abort-left : refusal ABORT c s ≡ first (abortTests (c .id))
-    unfolding refusal first
+    abort-left : refusal ABORT c s ≡ first (abortTests (c .id) (c .desk))
+    unfolding refusal first foreign
     abort-left = rw (test-true (sound s) ok, le-ltb _ _ h)
 
     module _ (bound : ℕ) (wide : 2 ^ length (s .channels) ≡ bound) where
@@ -66,6 +67,7 @@ module _ (c : Call) (s : StateM) (ok : T (sound s)) where
           → refusal (COMMAND n) c s
           ≡ first
           ((ltb 63 (c .id), 4)
+          ∷ (not (eqb (deskOf (c .id)) (c .desk)), 8)
           ∷ (u, 3)
           ∷ (eqb (length (s .opens)) 0, 2)
           ∷ (unknown (kind n), 253)
@@ -73,12 +75,20 @@ module _ (c : Call) (s : StateM) (ok : T (sound s)) where
           ∷ (if allocates (kind n) then any (high bound) (c .combos) else high bound (c .map), 251)
           ∷ (carries (kind n) && wrongNumbers (c .combos), 252)
           ∷ [])
-      unfolding refusal first badList badNumbers soundTone
+      unfolding refusal first foreign badList badNumbers soundTone
       command-left n u e =
           by-test (ltb 63 (c .id)) (λ t. rw (test-true (sound s) ok, le-ltb _ _ h, test-true (ltb 63 (c .id)) t))
           (λ t.
           let g = ltb-false 63 (c .id) (test-false (ltb 63 (c .id)) t) in
           rw (test-true (sound s) ok, le-ltb _ _ h, e (omega arith), maps-below bound c s wide, map-below bound c s wide))
+
+-- ---- the desk of an id, as the code finds it
+
+pub own-desk : {x y d : ℕ} → x ≡ y → x ≡ d → not (eqb y d) ≡ false
+own-desk e f = ap not (eq-eqb _ _ (sym e ∙ f))
+
+pub other-desk : {x y d : ℕ} → x ≡ y → (x ≡ d → ⊥) → not (eqb y d) ≡ true
+other-desk e n = ap not (ne-eqb _ _ (λ f. n (e ∙ f)))
 
 -- ---- the promise
 
@@ -106,7 +116,7 @@ module _ {r : Request} {b : Board} {ms tb : List ℕ} {len : ℕ} (h : Held b tb
   pub close-told : e ≡ numberOf (first (closeTests (r .key) (keysIn (b .state .opens)))) → Refuses Close r b ms tb len e
   close-told q = record { number = q ∙ sym (ap numberOf (close-left (askedOf Close r ms len) (stateIn b tb) (h .sane) (room-six len l))) }
 
-  pub abort-told : e ≡ numberOf (first (abortTests (r .id))) → Refuses Abort r b ms tb len e
+  pub abort-told : e ≡ numberOf (first (abortTests (r .id) (r .desk))) → Refuses Abort r b ms tb len e
   abort-told q = record { number = q ∙ sym (ap numberOf (abort-left (askedOf Abort r ms len) (stateIn b tb) (h .sane) (room-six len l))) }
 
   pub cycle-told : e ≡ numberOf (first (eventTests (top + 1) (r .map))) → Refuses CycleEnded r b ms tb len e

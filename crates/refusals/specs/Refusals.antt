@@ -12,9 +12,10 @@ use mathlib.Core.Bool.{Bool, not, _&&_}
 use mathlib.Core.List.{List, [], _∷_}
 use lib.Dec.{eqb, leb, ltb}
 use lib.ListN.{length}
-use Rattle.machine.specs.Numbers.{OPENFAIL, NOCMD, BADLENGTH, BADADDRESS, NOTOPEN, INUSE, BADID, COMBOS, ENTRIES}
+use Rattle.machine.specs.Numbers.{OPENFAIL, NOCMD, BADLENGTH, BADADDRESS, NOTOPEN, INUSE, BADID, OTHERDESK, COMBOS, ENTRIES}
 use Rattle.machine.specs.Lists.{if_then_else_, any, among}
 use Rattle.machine.specs.State.{Call, Op as OpM, OPEN, CLOSE, ABORT, EVENT, CYCLE·ENDED, GAVE·UP, COMMAND}
+use Rattle.machine.specs.Desks.{deskOf}
 use Rattle.machine.specs.Kinds.{kind, unknown, allocates, carries}
 use Rattle.machine.specs.Refusals.{refusal}
 use Rattle.board.specs.declared.Board.{Board}
@@ -36,6 +37,7 @@ abbrev pub askedOf : Op → Request → List ℕ → ℕ → Call
 askedOf o r ms len =
     record {
       op = opIn o (r .command);
+      desk = r .desk;
       id = r .id;
       flags = r .flags;
       map = r .map;
@@ -51,12 +53,13 @@ openTests bound ms opens = (ltb COMBOS (length ms), BADLENGTH) ∷ (any (high bo
 abbrev pub closeTests : ℕ → List ℕ → List (Bool × ℕ)
 closeTests key os = (not (among key os), NOTOPEN) ∷ []
 
-abbrev pub abortTests : ℕ → List (Bool × ℕ)
-abortTests id = (ltb 63 id, BADID) ∷ []
+abbrev pub abortTests : ℕ → ℕ → List (Bool × ℕ)
+abortTests id desk = (ltb 63 id, BADID) ∷ (not (eqb (deskOf id) desk), OTHERDESK) ∷ []
 
 abbrev pub commandTests : ℕ → Request → List ℕ → List ℕ → ℕ → List (Bool × ℕ)
 commandTests bound r ms tb opens =
     (ltb 63 (r .id), BADID)
+    ∷ (not (eqb (deskOf (r .id)) (r .desk)), OTHERDESK)
     ∷ (used tb (r .id), INUSE)
     ∷ (eqb opens 0, NOTOPEN)
     ∷ (unknown (kind (r .command)), NOCMD)

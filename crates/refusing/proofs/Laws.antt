@@ -1,4 +1,4 @@
--- A refusal sends what is due: the own reply of a command refused with a number above 5, else nothing. Assumes nothing.
+-- A refusal sends what is due: the own reply of a command refused with a number above 8, else nothing. Assumes nothing.
 use Prim.Native.Nat.{ℕ, zero, _<_}
 use mathlib.Core.Path.{_≡_, refl, ap, sym, _∙_}
 use mathlib.Core.Bool.{Bool, true, false}
@@ -28,13 +28,13 @@ sent-none : (l : List ℕ) → sent l 0 [] ≡ l
 unfolding splice
 sent-none l = refl
 
-pub due-late : (o : Op) (e : ℕ) → isDue o e ≡ true → 5 < e
+pub due-late : (o : Op) (e : ℕ) → isDue o e ≡ true → 8 < e
 due-late Open e q = absurd (false-true q)
 due-late Close e q = absurd (false-true q)
 due-late Abort e q = absurd (false-true q)
 due-late CycleEnded e q = absurd (false-true q)
 due-late GaveUp e q = absurd (false-true q)
-due-late Command e q = ltb→lt 5 e (rw q tt)
+due-late Command e q = ltb→lt 8 e (rw q tt)
 
 -- how `refuse` meets its contract
 module _ {o : Op} {e : ℕ} {r : Request} {s : State} {l : List ℕ} {d : Outcome} {l′ : List ℕ} where

@@ -9,7 +9,7 @@ use mathlib.Core.Bool.{Bool, false}
 use mathlib.Core.List.{List, []}
 use lib.Dec.{ltb}
 use lib.ListN.{length}
-use Rattle.machine.specs.Numbers.{NOROOM, NONE}
+use Rattle.machine.specs.Numbers.{OTHERDESK, NONE}
 use Rattle.machine.specs.Lists.{if_then_else_}
 use Rattle.machine.specs.State.{Reply}
 use Rattle.machine.specs.Commands.{done}
@@ -21,14 +21,14 @@ use Rattle.answers.specs.Answers.{answerOf, ownReply}
 use Rattle.refusals.specs.declared.Op.{Op}
 use Rattle.refusals.specs.declared.Op.the-variants.{Open, Close, Abort, CycleEnded, GaveUp, Command}
 
--- "After 1 to 5 the reply list is too; after -3, -4 and -5 it gains only the command's own reply, if due."
+-- "After 1 to 5", and #109: after 8, "the reply list is too; after -3, -4 and -5 it gains only the command's own reply, if due."
 abbrev pub isDue : Op → ℕ → Bool
 isDue Open e = false
 isDue Close e = false
 isDue Abort e = false
 isDue CycleEnded e = false
 isDue GaveUp e = false
-isDue Command e = ltb NOROOM e
+isDue Command e = ltb OTHERDESK e
 
 abbrev pub dueReplies : Op → ℕ → Request → List Reply
 dueReplies o e r = if isDue o e then ownReply r (done e 0 (r .key) NONE) else []

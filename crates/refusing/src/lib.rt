@@ -18,13 +18,13 @@ fn due(op: Op, e: u8) -> bool
         Op::Abort => false,
         Op::CycleEnded => false,
         Op::GaveUp => false,
-        Op::Command => e > 5,
+        Op::Command => e > 8,
     }
 }
 
 // The number is answered, and the state stays.
 pub fn refuse(op: Op, e: u8, r: Request, s: State, replies: &mut [u8]) -> Outcome
-    requires { ⌜ (5 < e → 6 ≤ length (now replies)) ⌝ }
+    requires { ⌜ (8 < e → 6 ≤ length (now replies)) ⌝ }
     ensures { λ d. ⌜ Refused op e r s (now (replies .entry)) d (now (replies .exit)) ⌝ }
 {
     let a = answers::done(e, 0, r.key, 255);

@@ -12,9 +12,14 @@ use Rattle.machine.specs.Commands.{silent}
 use Rattle.machine.specs.Call.{call}
 use Rattle.machine.specs.Log.{Fed as FedM, unhex, frame, told, replyLines, outcomeOf, feed}
 use Rattle.machine_laws.proofs.Replies.{call-replies}
+use Rattle.machine.specs.Lists.{keep}
+use Rattle.machine.specs.Desks.{repliesTo, halves}
+use Rattle.machine_laws.proofs.Halves.{length-halves}
 use Rattle.memory.specs.Splice.{splice}
 use Rattle.memory.proofs.Splice.{length-splice}
 use Rattle.board.specs.declared.Board.{Board}
+use Rattle.reply.proofs.Laws.{length-encodes}
+use Rattle.halves.specs.Halves.{inOrder, Ordering}
 use Rattle.store.specs.Store.{tableOf}
 use Rattle.board.specs.Board.{structOf, stateIn, Held}
 use Rattle.answers.specs.declared.Request.{Request}
@@ -28,7 +33,7 @@ use Rattle.frames.specs.declared.Line.the-variants.{Call}
 use Rattle.frames.specs.Frames.{combosAfter, Reads}
 use Rattle.frames.proofs.Laws.{Asked, asked-frame}
 use Rattle.lines.specs.Lines.{Tells}
-use Rattle.lines.proofs.Laws.{length-told, tells-outcome}
+use Rattle.lines.proofs.Laws.{length-told, ordered-replies, tells-outcome}
 use Rattle.unheard.specs.declared.Fed.{Fed}
 use Rattle.unheard.specs.Unheard.{dull, Dull}
 use Rattle.unheard.proofs.Laws.{fed-parts}
@@ -41,7 +46,7 @@ unfolding feed outcomeOf
 feed-frame s l c e = rw e
 
 pub feed-malformed : (s : StateM) (l : List ℕ) → frame (unhex l) ≡ none → feed s l ≡ record { output = dull; next = s }
-unfolding feed outcomeOf told silent replyLines
+unfolding feed outcomeOf told silent halves repliesTo keep replyLines
 feed-malformed s l e = rw e
 
 -- ---- a line that is no frame
@@ -78,16 +83,26 @@ served-few {o} {r} {s} {ms} {tb} {zs} h w =
     let k = call-replies (stateIn s tb) (askedOf o r ms (length zs)) (h .sane) .1 in
     omega arith
 
-pub served-feeds : {f : Frame} {s : Board} {ms tb l zs out : List ℕ} {d : Outcome} {tb′ l′ : List ℕ} {r : ℕ} {out′ : List ℕ} → 384 ≡ length zs → Asked l ms f
-    → Handled (f .op) (f .request) s (take (f .n) ms) tb zs d tb′ l′ → Tells l′ (d .n) (d .answer) out r out′
+-- and they fit in 64 records in the order of the log
+pub served-order : {o : Op} {r : Request} {s : Board} {ms tb zs os : List ℕ} {d : Outcome} {tb′ l′ : List ℕ} → Held s tb → 384 ≡ length os
+    → Handled o r s ms tb zs d tb′ l′ → Ordering l′ (d .n) os
+served-order {o} {r} {s} {ms} {tb} {zs} {os} {d} h e w =
+    let rs = call (stateIn s tb) (askedOf o r ms (length zs)) .replies in
+    let k = call-replies (stateIn s tb) (askedOf o r ms (length zs)) (h .sane) .1 in
+    let z = ap length (ordered-replies (w .told)) ∙ length-encodes (halves rs) in
+    let y = length-halves rs in
+    record { many = served-few h w; room = omega arith }
+
+pub served-feeds : {f : Frame} {s : Board} {ms tb l zs out : List ℕ} {d : Outcome} {tb′ l′ : List ℕ} (os : List ℕ) {os′ : List ℕ} {r : ℕ} {out′ : List ℕ} → 384 ≡ length zs → Asked l ms f
+    → Handled (f .op) (f .request) s (take (f .n) ms) tb zs d tb′ l′ → os′ ≡ splice os 0 (inOrder (d .n) l′) → Tells os′ (d .n) (d .answer) out r out′
     → Feeds s tb l out (record { state = d .state; n = r }) tb′ out′
-served-feeds {f} {s} {ms} {tb} {l} {zs} {out} n a w t =
+served-feeds {f} {s} {ms} {tb} {l} {zs} {out} os n a w p t =
     let c = askedOf (f .op) (f .request) (take (f .n) ms) (length zs) in
     let e : frame (unhex l) ≡ some c = a .whole ∙ ap (λ (k : ℕ). some (askedOf (f .op) (f .request) (take (f .n) ms) k)) n in
     let q = feed-frame (stateIn s tb) l c e in
     let m = sym (ap (λ (x : FedM). x .next) q) in
     let o = sym (ap (λ (x : FedM). x .output) q) in
-    let u = tells-outcome (w .told) t in
+    let u = tells-outcome os (w .told) p t in
     record {
       struct = w .told .did .struct ∙ ap structOf m;
       table = w .told .did .table ∙ ap tableOf m;

@@ -32,8 +32,10 @@ pub fn feed_sound(s: Board, line: &[u8], table: &mut [u8], out: &mut [u8; 973]) 
     };
     let mut replies = [0u8; 384];
     let d = serve(f, s, &combos, table, &mut replies);
+    let mut ordered = [0u8; 384];
+    halves::order(&replies, d.n, &mut ordered);
     let a = d.answer;
-    let n = lines::tell(&replies, d.n, a, out);
+    let n = lines::tell(&ordered, d.n, a, out);
     let t = d.state;
     Fed { state: t, n }
 }

@@ -12,8 +12,9 @@ TABLE = 1472
 abbrev pub REPLIES : ℕ
 REPLIES = 384
 
+-- the six bytes of document 01's answer, and a number for each desk's replies
 abbrev pub ANSWER : ℕ
-ANSWER = 6
+ANSWER = 8
 
 -- document 02, #107: "memory stays at one line": its length in two bytes, and the 527 bytes that are kept of a line
 abbrev pub PORT : ℕ

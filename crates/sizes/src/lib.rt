@@ -25,7 +25,7 @@ pub fn replies_size() -> usize
 pub fn answer_size() -> usize
     ensures { λ r. ⌜ r ≡ ANSWER ⌝ }
 {
-    6
+    8
 }
 
 pub fn port_size() -> usize

@@ -178,7 +178,7 @@ Harmless (COMMAND n) = T (not (allocates (kind n)))
 small : (s : State) (c : Call) (n : ℕ) → T (not (allocates (kind n))) → refusal (COMMAND n) c s ≡ accepted → c .map < 2 ^ length (s .channels)
 unfolding refusal badMap
 small s c n a e =
-    let v = first-none _ e .1 .1 .1 .1 .1 .1 .1 .0 in
+    let v = first-none _ e .1 .1 .1 .1 .1 .1 .1 .1 .0 in
     let w = rw (test-false (allocates (kind n)) a) at v in
     ltb→lt (c .map) (2 ^ length (s .channels)) (nn (ltb (c .map) (2 ^ length (s .channels))) w)
   where

@@ -117,11 +117,11 @@ module _ (p : Party) (s : State) (r : Ready p s) where
 
   command-known : (k : ℕ) (c : Call) → refusal (COMMAND k) c s ≡ accepted → T (not (unknown (kind k)))
   unfolding refusal
-  command-known k c e = first-none _ e .1 .1 .1 .1 .1 .0
+  command-known k c e = first-none _ e .1 .1 .1 .1 .1 .1 .0
 
   command-map : (k : ℕ) (c : Call) → T (allowed p (kind k) c s) → refusal (COMMAND k) c s ≡ accepted → T (ltb (c .map) (2 ^ length (s .channels)))
   unfolding refusal badMap
-  command-map k c a e = go (kind k) a (first-none _ e .1 .1 .1 .1 .1 .1 .1 .0)
+  command-map k c a e = go (kind k) a (first-none _ e .1 .1 .1 .1 .1 .1 .1 .1 .0)
     where
       nn : (b : Bool) → T (not (not b)) → T b
       nn true w = tt
@@ -165,7 +165,7 @@ module _ (p : Party) (s : State) (r : Ready p s) where
   refuse-own CLOSE x c t = absurd (t .sends)
   refuse-own ABORT x c t = silent-own p (r .real) _ [] [] s _ (none-own p (r .real)) refl
   refuse-own (EVENT v) x c t = silent-own p (r .real) _ [] [] s _ (none-own p (r .real)) refl
-  refuse-own (COMMAND k) x c t = go (leb x 5)
+  refuse-own (COMMAND k) x c t = go (leb x 8)
     where
       m : T (p .mine (c .id))
       m = and-right (eqb (c .key) (p .key)) (p .mine (c .id)) (t .party)

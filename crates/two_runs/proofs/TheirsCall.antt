@@ -1,17 +1,19 @@
 -- Any call of the others is nothing to the K party, whether it is refused or accepted, and with the settling that follows: it
 -- replies to none of its ids, leaves its part of the state, and leaves a state that settling may follow again.
 -- Assumes nothing.
-use Prim.Native.Nat.{_+_, _≤_, ℕ}
+use Prim.Native.Nat.{_+_, _<_, _≤_, ℕ}
 use mathlib.Core.Path.{_∙_, _≡_, ap₂, refl}
 use mathlib.Core.List.{List, [], _∷_}
 use mathlib.Core.Bool.{Bool, _&&_, _||_, false, not, true}
-use lib.Dec.{T, eqb, leb, leb→le}
+use native.Mathlib.Omega.{arith}
+use lib.Dec.{T, eqb, leb, leb→le, nleb→lt}
 use lib.ListN.{length}
 use Rattle.machine.specs.Numbers.{ALLOCFAILED}
 use Rattle.machine.specs.Lists.{all, keep}
 use Rattle.machine.specs.State.{Channel, ABORT, CLOSE, COMMAND, Call, EVENT, Event, OPEN, Op, Outcome, State}
 use Rattle.machine.specs.Maps.{at, change, half, lowest, odd}
 use Rattle.machine.specs.Choosing.{look}
+use Rattle.machine.specs.Desks.{foreign}
 use Rattle.machine.specs.Commands.{doAbort, doClose, doEvent, doRead, done, each, eachChange, matches, matching, flushed, reset, same, setPrec, setStop, silent}
 use Rattle.machine.specs.Allocating.{doAllocate, doOpen, opening}
 use Rattle.machine.specs.Call.{accept, answering, call, openSettling, perform, settling}
@@ -19,6 +21,7 @@ use Rattle.machine.specs.Kinds.{ALLOCATE, CLEAR, FLUSH, FREE, Kind, LOCK, READ,
 use Rattle.machine.specs.Refusals.{Refusal, accepted, badMap, refusal, refuse, refused}
 use Rattle.machine.specs.Settling.{settle}
 use Rattle.machine.proofs.Tests.{and-left, and-right, if-elim}
+use Rattle.machine_laws.proofs.Refusals.{first-past}
 use Rattle.machine_laws.proofs.Choosing.{look-spares}
 use Rattle.machine.proofs.Steps.{first-none}
 use Rattle.machine_laws.proofs.Sound.{parts, in-use-few}
@@ -83,6 +86,11 @@ event-off p s v c t e = go (badMap c s) (holds p (at (lowest (length (s .channel
     go true d u v = absurd v
     go false d u v = u
 
+-- what is not of the other half
+own-half : (a b : Bool) → T (a || b) → T (not a) → T b
+own-half true b t u = absurd u
+own-half false b t u = t
+
 -- settling after what was mild
 settling-mild : (p : Party) (s : State) (o : Outcome) → Mild p s o → Mild p s (settling o)
 unfolding settling
@@ -91,31 +99,44 @@ settling-mild p s o m =
     record { quiet = own-append p (o .replies) (settle (o .next) .replies) (m .quiet) (t .quiet); still = t .still ∙ m .still; loop = t .loop }
 
 accept-mild : (p : Party) (s : State) (o : Op) (c : Call) → Ready p s → Theirs p s o c → refusal o c s ≡ accepted → Mild p s (accept o c s)
-unfolding accept avoids modest openSettling doOpen
+unfolding accept refusal avoids modest openSettling doOpen
 accept-mild p s OPEN c r t e =
     let l = look (c .prec) (c .combos) (s .channels) in
     let m = open-mild p c s l (ready-loop p s r) (in-use-few s (parts s (r .sane))) (t .apart) (look-spares (p .floor) (c .prec) (c .combos) (s .channels) (leb→le (c .prec) (p .floor) (t .low))) in
     if-elim (Mild p s) (eqb (opening l c s .answer .error) ALLOCFAILED) (λ _. m) (λ _. settling-mild p s (opening l c s) m)
 accept-mild p s CLOSE c r t e = settling-mild p s (doClose c s) (close-mild p c s (ready-loop p s r) (t .apart))
-accept-mild p s ABORT c r t e = settling-mild p s (doAbort c s) (abort-mild p c s (t .apart) (ready-loop p s r))
+accept-mild p s ABORT c r t e = settling-mild p s (doAbort c s) (abort-mild p c s (own-half (foreign c) (not (p .mine (c .id))) (t .apart) (first-none _ e .1 .1 .1 .0)) (ready-loop p s r))
 accept-mild p s (EVENT v) c r t e = settling-mild p s (doEvent v c s) (event-mild p v c s (ready-loop p s r) (event-off p s v c (t .apart) e))
 accept-mild p s (COMMAND k) c r t e =
     let a = peeks (kind k) || not (eqb (c .key) (p .key)) in
     let b = not (p .mine (c .id)) in
+    let u = own-half (foreign c) (a && b) (t .apart) (first-none _ e .1 .1 .1 .0) in
     settling-mild p s (perform (kind k) c s)
-    (perform-mild p c s (and-right a b (t .apart)) (ready-loop p s r) (kind k) (and-left a b (t .apart)) (in-use-few s (parts s (r .sane))) (modest-kind p k c (t .low)))
+    (perform-mild p c s (and-right a b u) (ready-loop p s r) (kind k) (and-left a b u) (in-use-few s (parts s (r .sane))) (modest-kind p k c (t .low)))
 
 -- ---- refusals
 
-refuse-mild : (p : Party) (e : ℕ) (s : State) (o : Op) (c : Call) → Loop p s → Theirs p s o c → Mild p s (refuse o e c s)
+-- refused with a number that is told, the call names an id of its own half
+told-own : (k : ℕ) (c : Call) (s : State) (e : ℕ) → T (not (leb e 8)) → refusal (COMMAND k) c s ≡ refused e → T (not (foreign c))
+unfolding refusal
+told-own k c s e l r =
+    let b : 8 < e = nleb→lt e 8 l in
+    let f = first-past _ _ e r (λ x. omega arith) in
+    let g = first-past _ _ e (f .1) (λ x. omega arith) in
+    let h = first-past _ _ e (g .1) (λ x. omega arith) in
+    first-past _ _ e (h .1) (λ x. omega arith) .0
+
+refuse-mild : (p : Party) (e : ℕ) (s : State) (o : Op) (c : Call) → Loop p s → Theirs p s o c → refusal o c s ≡ refused e → Mild p s (refuse o e c s)
 unfolding refuse silent ownReplies keep avoids
-refuse-mild p e s OPEN c lp t = record { quiet = refl; still = refl; loop = lp }
-refuse-mild p e s CLOSE c lp t = record { quiet = refl; still = refl; loop = lp }
-refuse-mild p e s ABORT c lp t = record { quiet = refl; still = refl; loop = lp }
-refuse-mild p e s (EVENT v) c lp t = record { quiet = refl; still = refl; loop = lp }
-refuse-mild p e s (COMMAND k) c lp t =
-    if-elim (Mild p s) (leb e 5) (λ _. record { quiet = refl; still = refl; loop = lp })
-    (λ _. finished-mild p c s (and-right (peeks (kind k) || not (eqb (c .key) (p .key))) (not (p .mine (c .id))) (t .apart)) lp k (done e 0 (c .key) 255))
+refuse-mild p e s OPEN c lp t q = record { quiet = refl; still = refl; loop = lp }
+refuse-mild p e s CLOSE c lp t q = record { quiet = refl; still = refl; loop = lp }
+refuse-mild p e s ABORT c lp t q = record { quiet = refl; still = refl; loop = lp }
+refuse-mild p e s (EVENT v) c lp t q = record { quiet = refl; still = refl; loop = lp }
+refuse-mild p e s (COMMAND k) c lp t q =
+    let a = peeks (kind k) || not (eqb (c .key) (p .key)) in
+    let b = not (p .mine (c .id)) in
+    if-elim (Mild p s) (leb e 8) (λ _. record { quiet = refl; still = refl; loop = lp })
+    (λ l. finished-mild p c s (and-right a b (own-half (foreign c) (a && b) (t .apart) (told-own k c s e l q))) lp k (done e 0 (c .key) 255))
 
 -- ---- the call
 
@@ -125,4 +146,4 @@ theirs-mild p s c r t = go (refusal (c .op) c s) refl
   where
     go : (f : Refusal) → refusal (c .op) c s ≡ f → Mild p s (answering f c s)
     go accepted e = accept-mild p s (c .op) c r t e
-    go (refused x) e = refuse-mild p x s (c .op) c (ready-loop p s r) t
+    go (refused x) e = refuse-mild p x s (c .op) c (ready-loop p s r) t e

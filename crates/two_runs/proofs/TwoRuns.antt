@@ -16,6 +16,7 @@ use Rattle.machine.specs.Lists.{all, if_then_else_}
 use Rattle.machine.specs.State.{ABORT, CLOSE, COMMAND, Call, Channel, EVENT, Event, Lock, OPEN, Op, State}
 use Rattle.machine.specs.Maps.{bit, half, lowest, odd}
 use Rattle.machine.specs.Choosing.{Look, fails, grants, held, look}
+use Rattle.machine.specs.Desks.{foreign}
 use Rattle.machine.specs.Commands.{cyclesIn, doAbort, doClose, doEvent, doFinish, doFree, doLock, doPervol, doRead, doWaitcycle, doWrite, each, eachChange, finished, silent}
 use Rattle.machine.specs.Allocating.{allocating, doAllocate, doOpen, opening, waits}
 use Rattle.machine.specs.Call.{accept, answering, call, inRange, openSettling, perform, settling}
@@ -26,6 +27,7 @@ use Rattle.machine.specs.Sound.{sound}
 use Rattle.machine.proofs.Tests.{and-both, and-left, and-right, by-test, test-false, test-true}
 use Rattle.machine_laws.proofs.Maps.{half-bit, odd-bit}
 use Rattle.machine_laws.proofs.Sound.{parts}
+use Rattle.machine_laws.proofs.Rooms.{room-unread}
 use Rattle.machine_laws.proofs.KeepingCalls.{Counted, call-sound}
 use Rattle.two_runs.specs.TwoRuns.{ByK, ByOthers, Demand3, Keeps, Party, Run, Start, Step, maySend, ofK, calls, counted, filled, inBytes, lends, noted, onK, our, own, mask, ownReplies, reached, said, seen, their, view, waitersOf}
 use Rattle.two_runs.proofs.Part.{Ready, fittingLock, ours-of, ownLocks, ownReplies-twice, project, projectOut, theirs-of, view-part, waiters-part}
@@ -43,68 +45,9 @@ module _ (c : Call) (full : T (lends c)) where
   unfolding lends
   room-enough = test-false (ltb (c .room) REQUESTS) (not-T (ltb (c .room) REQUESTS) (λ t. omega (arith, ltb→lt (c .room) REQUESTS t, leb→le REQUESTS (c .room) full)))
 
-  filled-refusal : (o : Op) (s : State) → refusal o (filled c) s ≡ refusal o c s
-  unfolding refusal filled badList badMaps badMap badNumbers
-  filled-refusal OPEN s = rw room-enough
-  filled-refusal CLOSE s = rw room-enough
-  filled-refusal ABORT s = rw room-enough
-  filled-refusal (EVENT v) s = rw room-enough
-  filled-refusal (COMMAND n) s = rw room-enough
-
-  filled-look : (l : Look) (s : State) → allocating l (filled c) s ≡ allocating l c s
-  unfolding filled allocating waits finished silent
-  filled-look fails s = refl
-  filled-look (held m) s = refl
-  filled-look (grants m) s = refl
-
-  filled-open : (l : Look) (s : State) → opening l (filled c) s ≡ opening l c s
-  unfolding filled opening silent
-  filled-open fails s = refl
-  filled-open (held m) s = refl
-  filled-open (grants m) s = refl
-
-  filled-perform : (k : Kind) (s : State) → perform k (filled c) s ≡ perform k c s
-  unfolding filled perform eachChange each finished silent doRead doWrite doFree doFinish doPervol doLock doWaitcycle doAllocate
-  filled-perform RESET s = refl
-  filled-perform READ s = refl
-  filled-perform WRITE s = refl
-  filled-perform UPDATE s = refl
-  filled-perform CLEAR s = refl
-  filled-perform STOP s = refl
-  filled-perform START s = refl
-  filled-perform FLUSH s = refl
-  filled-perform FREE s = refl
-  filled-perform SETPREC s = refl
-  filled-perform FINISH s = refl
-  filled-perform PERVOL s = refl
-  filled-perform LOCK s = refl
-  filled-perform WAITCYCLE s = refl
-  filled-perform ALLOCATE s = filled-look (look (c .prec) (c .combos) (s .channels)) s
-  filled-perform UNKNOWN s = refl
-
-  filled-accept : (o : Op) (s : State) → accept o (filled c) s ≡ accept o c s
-  unfolding filled accept doOpen doClose doAbort doEvent silent
-  filled-accept OPEN s = ap openSettling (filled-open (look (c .prec) (c .combos) (s .channels)) s)
-  filled-accept CLOSE s = refl
-  filled-accept ABORT s = refl
-  filled-accept (EVENT v) s = refl
-  filled-accept (COMMAND n) s = ap settling (filled-perform (kind n) s)
-
-  filled-refuse : (o : Op) (e : ℕ) (s : State) → refuse o e (filled c) s ≡ refuse o e c s
-  unfolding filled refuse finished silent
-  filled-refuse OPEN e s = refl
-  filled-refuse CLOSE e s = refl
-  filled-refuse ABORT e s = refl
-  filled-refuse (EVENT v) e s = refl
-  filled-refuse (COMMAND n) e s = refl
-
   filled-same : (s : State) → call s (filled c) ≡ call s c
-  unfolding call filled
-  filled-same s = rw (filled-refusal (c .op) s) (go (refusal (c .op) c s))
-    where
-      go : (f : Refusal) → answering f (filled c) s ≡ answering f c s
-      go accepted = unfold answering in filled-accept (c .op) s
-      go (refused e) = unfold answering in filled-refuse (c .op) e s
+  unfolding filled lends
+  filled-same s = room-unread c REQUESTS (omega arith) (leb→le REQUESTS (c .room) full) s
 
 -- ---- the same event by its lowest bit
 
@@ -237,10 +180,10 @@ bytes-count : (c : Call) → T (inBytes c) → Counted (c .op) c
 unfolding inBytes
 bytes-count c t = count-of (c .op) c (and-right (inRange c) (counted (c .op) c) t)
 
-theirs-ready : (p : Party) (s : State) (c : Call) → Ready p s → OfOthers p s c → Ready p (call s c .next)
+pub theirs-ready : (p : Party) (s : State) (c : Call) → Ready p s → OfOthers p s c → Ready p (call s c .next)
 theirs-ready p s c r b = ready-from p (call s c .next) (call-sound s c (bytes-range c (b .fits)) (bytes-count c (b .fits)) (r .sane)) (theirs-mild p s c r (theirs-of p s c b) .loop)
 
-ours-ready : (p : Party) (s : State) (c : Call) → Ready p s → OfK p s c → Ready p (call s c .next)
+pub ours-ready : (p : Party) (s : State) (c : Call) → Ready p s → OfK p s c → Ready p (call s c .next)
 ours-ready p s c r b = ready-from p (call s c .next) (call-sound s c (bytes-range c (b .fits)) (bytes-count c (b .fits)) (r .sane)) (ours-loop p s r c (ours-of p s c b))
 
 -- ---- a run shows what the K party's calls show, made alone from its part of the state
@@ -275,7 +218,7 @@ core p s xs ys a h k e = part-sees-the-same p s s xs ys a a refl h k e
 
 -- ---- the customer's premises, from them
 
-begins-of : (p : Party) (s : State) → Start p s → Begins p s
+pub begins-of : (p : Party) (s : State) → Start p s → Begins p s
 begins-of p s a =
     record { sane = a .sane; real = a .real; entered = a .entered; high = a .high; low = a .low; none = a .none; owns = a .owns; idle = a .idle }
 
@@ -319,7 +262,7 @@ goes-of p s (their c ∷ xs) k l f =
       goes-of p (call s c .next) xs (k .1) (and-right (lends c) (all lends (calls xs)) l) (and-right (inBytes c) (all inBytes (calls xs)) f),
     )
 
-run-goes : (p : Party) (s : State) (xs : List Step) → Run p s xs → Goes p s xs
+pub run-goes : (p : Party) (s : State) (xs : List Step) → Run p s xs → Goes p s xs
 run-goes p s xs h = goes-of p s xs (h .keeps) (h .full) (h .fits)
 
 pub K-sees-the-same : Demand3

@@ -188,9 +188,9 @@ accept-wide k (EVENT v) c s p r e =
     settling-wide k (doEvent v c s) (doEvent v c (widen k s)) (event-wide k s v c (map-on c s (n .1 .1 .0))) (sound-fit (doEvent v c s .next) (event-sound v c s p))
 accept-wide k (COMMAND j) c s p r e =
     let n = first-none _ e in
-    settling-wide k (perform (kind j) c s) (perform (kind j) c (widen k s)) (perform-wide k (kind j) c s p (n .1 .1 .1 .1 .1 .1 .1 .0))
+    settling-wide k (perform (kind j) c s) (perform (kind j) c (widen k s)) (perform-wide k (kind j) c s p (n .1 .1 .1 .1 .1 .1 .1 .1 .0))
     (go (is-write (kind j))
-    (perform-sound (kind j) c s p r (id-small (c .id) (n .1 .1 .0)) (n .1 .1 .1 .0) (n .1 .1 .1 .1 .1 .1 .0) (n .1 .1 .1 .1 .1 .1 .1 .0) (n .1 .1 .1 .1 .1 .1 .1 .1 .0)))
+    (perform-sound (kind j) c s p r (id-small (c .id) (n .1 .1 .0)) (n .1 .1 .1 .1 .0) (n .1 .1 .1 .1 .1 .1 .1 .0) (n .1 .1 .1 .1 .1 .1 .1 .1 .0) (n .1 .1 .1 .1 .1 .1 .1 .1 .1 .0)))
   where
     go : (kind j ≡ WRITE) ⊎ (kind j ≡ WRITE → ⊥) → ((kind j ≡ WRITE → cyclesIn (c .combos) ≤ CYCLES) → Parts (perform (kind j) c s .next))
         → Fit (perform (kind j) c s .next)
@@ -203,7 +203,7 @@ refuse-wide k OPEN x c s = refl
 refuse-wide k CLOSE x c s = refl
 refuse-wide k ABORT x c s = refl
 refuse-wide k (EVENT v) x c s = refl
-refuse-wide k (COMMAND n) x c s = go (leb x 5)
+refuse-wide k (COMMAND n) x c s = go (leb x 8)
   where
     a : Outcome
     a = silent (done x 0 (c .key) NONE) [] s
@@ -267,6 +267,6 @@ module _ (k : ℕ) (c : Call) (s : State) where
     accepted-wide (EVENT v) e = let n = first-none _ e in none-first _ (sane, (n .1 .0, (badMap-wide (n .1 .1 .0), tt)))
     accepted-wide (COMMAND j) e =
         let n = first-none _ e in
-        let i : T (not (among (c .id) (ids (widen k s)))) = rw (ids-wide k s) (n .1 .1 .1 .0) in
-        let m = n .1 .1 .1 .1 in
-        none-first _ (sane, (n .1 .0, (n .1 .1 .0, (i, (m .0, (m .1 .0, (m .1 .1 .0, (bad-wide (allocates (kind j)) (m .1 .1 .1 .0), m .1 .1 .1 .1))))))))
+        let i : T (not (among (c .id) (ids (widen k s)))) = rw (ids-wide k s) (n .1 .1 .1 .1 .0) in
+        let m = n .1 .1 .1 .1 .1 in
+        none-first _ (sane, (n .1 .0, (n .1 .1 .0, (n .1 .1 .1 .0, (i, (m .0, (m .1 .0, (m .1 .1 .0, (bad-wide (allocates (kind j)) (m .1 .1 .1 .0), m .1 .1 .1 .1)))))))))

@@ -11,7 +11,7 @@ use Rattle.boundary.proofs.call.Statement.{statement}
 use Rattle.boundary.proofs.call.Tie as tie
 
 returns : tie.Need-returns
-returns c = let n : length (c .before .before .before .before .before .before .args .answer .now) ≡ 6 → ⊥ = c .if1 .taken in no-answer n
+returns c = let n : length (c .before .before .before .before .before .before .args .answer .now) ≡ 8 → ⊥ = c .if1 .taken in no-answer n
 
 whole-requires : tie.Need-whole-requires
 whole-requires c κs = search needs
@@ -71,7 +71,7 @@ returns-3 c =
     let w = e .before in
     let a = w .before .before .before .before .before .before .before .before .args in
     was-carried (w .before .before .if1 .left) (yes-T _ (sym (w .whole .ensures) ∙ not-false _ (e .if2 .left))) (o .op-of .ensures)
-    (request-made (a .op) (a .id) (a .flags) (a .map) (a .prec) (a .key) (p .stored .ensures)) (k .carry .ensures)
+    (request-made (a .desk) (a .op) (a .id) (a .flags) (a .map) (a .prec) (a .key) (p .stored .ensures)) (k .carry .ensures)
 
 pub call-spec : {M : Type 1} → statement M
 call-spec =

@@ -1,6 +1,9 @@
--- `carry` meets its contract: the outcome is that of the call on what was loaded. Assumes nothing.
+-- `carry` meets its contract: the outcome is that of the desk's call on what was loaded, and at most 32
+-- replies in each half fit the answer's bytes. Assumes nothing.
 use mathlib.Core.Path.{refl}
+use native.Mathlib.Omega.{arith}
 use Rattle.image.proofs.Laws.{whole-long}
+use Rattle.desk_call.proofs.Promise.{few-each-half}
 use borrow.Author.Needs.{needs}
 use Rattle.boundary.proofs.carry.Statement.{statement}
 use Rattle.boundary.proofs.carry.Tie as tie
@@ -15,7 +18,16 @@ save-requires : tie.Need-save-requires
 save-requires c κs = whole-long _ (c .before .before .before .before .before .before .before .before .before .before .before .before .before .before .before .before .before .pre .0)
 
 put-answer-requires : tie.Need-put-answer-requires
-put-answer-requires c κs = c .before .before .before .before .before .before .before .before .before .before .before .before .before .before .before .before .before .before .before .before .before .pre .1
+put-answer-requires c κs =
+    let k = c .before .before .before .before .before .before .before .before .before .before .before in
+    let f = few-each-half (k .call .ensures) in
+    (k .before .before .before .before .before .before .before .before .before .before .pre .1, omega arith, omega arith)
+
+add-result : tie.Need-add-result
+add-result c =
+    let k = c .before .before .before .before .before .before .before .before .before .before .before .before .before .before .before in
+    let f = few-each-half (k .call .ensures) in
+    omega arith
 
 same-length : tie.Need-same-length
 same-length c = search needs
@@ -31,14 +43,14 @@ same-length-4 c = search needs
 
 returns : tie.Need-returns
 returns c =
-    let p = c .before .before in
+    let p = c .before .before .before in
     let v = p .before .before .before .before in
     let k = v .before .before .before .before .before .before .before .before in
     let l = k .before .before .before in
     record {
       outcome = k .call .result;
       called = rw (l .load .ensures) at (k .call .ensures);
-      count = refl;
+      count = omega arith;
       state = v .save .ensures;
       answer = p .put-answer .ensures;
     }
@@ -51,6 +63,7 @@ carry-spec =
     call-requires
     save-requires
     put-answer-requires
+    add-result
     same-length
     same-length-2
     same-length-3

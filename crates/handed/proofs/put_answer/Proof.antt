@@ -1,4 +1,4 @@
--- `put_answer` meets its contract: six stores over six bytes. Assumes nothing.
+-- `put_answer` meets its contract: eight stores over eight bytes, the last two of numbers that fit. Assumes nothing.
 use native.Mathlib.Omega.{arith}
 use lib.ListN.{length-set}
 use Rattle.handed.proofs.Laws.{answer-stored}
@@ -33,11 +33,23 @@ slice-write-answer-5 c = simp length-set (omega arith)
 slice-write-answer-6 : tie.Need-slice-write-answer-6
 slice-write-answer-6 c = simp length-set (omega arith)
 
+cast-answer-3 : tie.Need-cast-answer-3
+cast-answer-3 c = search needs
+
+slice-write-answer-7 : tie.Need-slice-write-answer-7
+slice-write-answer-7 c = simp length-set (omega arith)
+
+cast-answer-4 : tie.Need-cast-answer-4
+cast-answer-4 c = search needs
+
+slice-write-answer-8 : tie.Need-slice-write-answer-8
+slice-write-answer-8 c = simp length-set (omega arith)
+
 same-length : tie.Need-same-length
 same-length c = search needs
 
 returns : tie.Need-returns
-returns c = let s = c .before .before .before .before in answer-stored (s .args .answer .now) (s .args .a) (s .pre) (c .before .before .mark .ensures)
+returns c = let s = c .before .before .before .before in answer-stored (s .args .answer .now) (s .args .a) (s .args .na) (s .args .nb) (s .pre .0) (c .before .before .mark .ensures)
 
 pub put-answer-spec : {M : Type 1} → statement M
 put-answer-spec =
@@ -52,5 +64,9 @@ put-answer-spec =
     cast-answer-2
     slice-write-answer-5
     slice-write-answer-6
+    cast-answer-3
+    slice-write-answer-7
+    cast-answer-4
+    slice-write-answer-8
     same-length
     returns)

@@ -1,0 +1,10 @@
+pub mod Lists
+pub mod Part
+pub mod Settle
+pub mod Commands
+pub mod Abort
+pub mod Keys
+pub mod OneDesk
+pub mod After
+pub mod Witness
+pub mod Needed

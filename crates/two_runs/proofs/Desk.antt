@@ -1,0 +1,147 @@
+-- Demand 3 for a desk: a call of another desk that names one of the desk's ids is refused with 8, and one that names none does not use
+-- them; so the others' calls are such as demand 3 asks.
+-- Assumes nothing.
+use Prim.Native.Nat.{ℕ}
+use mathlib.Core.Path.{_≡_, refl, subst}
+use mathlib.Core.Bool.{Bool, true, false, not, _&&_, _||_}
+use mathlib.Core.List.{List, [], _∷_}
+use lib.Dec.{T, T-not, not-T, eqb, eqb→eq}
+use lib.ListN.{length}
+use Rattle.machine.specs.State.{State, Call, Op, OPEN, CLOSE, ABORT, EVENT, GAVE·UP, COMMAND, free}
+use Rattle.machine.specs.Desks.{deskOf, foreign}
+use Rattle.machine.specs.Kinds.{kind}
+use Rattle.machine.specs.Call.{call}
+use Rattle.machine.specs.Machine.{machine}
+use Rattle.machine.specs.Walks.{plays, asksFrom}
+use Rattle.machine.proofs.Tests.{and-both, by-test, test-true, test-false}
+use Rattle.two_runs.specs.TwoRuns.{Start, Step, our, their, own, seen, claim, peeks, avoids, Keeps, Run}
+use Rattle.two_runs.specs.Desk.{ofDesk, fromOther, spares, ByOtherDesk, KeepsApart, RunOfDesk, Demand3·desk}
+use Rattle.two_runs.proofs.TwoRuns.{K-sees-the-same}
+use Rattle.two_runs.proofs.Premises.{premises, starts-all}
+
+-- a call of another desk names no id of this one, or is of the other half
+apart-or-foreign : (d : ℕ) (c : Call) → T (not (eqb (c .desk) d)) → T (eqb (deskOf (c .id)) d) → T (foreign c)
+unfolding foreign
+apart-or-foreign d c n t =
+    not-T (eqb (deskOf (c .id)) (c .desk))
+    (λ e. T-not (eqb (c .desk) d) n
+    (subst (λ (x : ℕ). T (eqb x d)) (eqb→eq (deskOf (c .id)) (c .desk) e) t))
+
+pub avoids-of : (d k f : ℕ) (o : Op) (c : Call) (s : State) → T (fromOther d o c) → T (spares (ofDesk d k f) o c s) → T (avoids (ofDesk d k f) o c s)
+unfolding fromOther spares avoids
+avoids-of d k f OPEN c s n t = t
+avoids-of d k f CLOSE c s n t = t
+avoids-of d k f ABORT c s n t =
+    by-test (eqb (deskOf (c .id)) d) (λ u. rw (test-true (foreign c) (apart-or-foreign d c n u)) tt)
+    (λ u. rw (test-false (eqb (deskOf (c .id)) d) u) (go (foreign c)))
+  where
+    go : (b : Bool) → T (b || true)
+    go true = tt
+    go false = tt
+avoids-of d k f (EVENT v) c s n t = t
+avoids-of d k f (COMMAND m) c s n t =
+    by-test (eqb (deskOf (c .id)) d) (λ u. rw (test-true (foreign c) (apart-or-foreign d c n u)) tt)
+    (λ u. go (foreign c) (and-both (peeks (kind m) || not (eqb (c .key) k)) (not (eqb (deskOf (c .id)) d)) t u))
+  where
+    a : Bool
+    a = (peeks (kind m) || not (eqb (c .key) k)) && not (eqb (deskOf (c .id)) d)
+
+    go : (b : Bool) → T a → T (b || a)
+    go true h = tt
+    go false h = h
+
+keeps-of : (d k f : ℕ) (s : State) (xs : List Step) → KeepsApart d (ofDesk d k f) s xs → Keeps (ofDesk d k f) s xs
+keeps-of d k f s [] h = tt
+keeps-of d k f s (our c ∷ xs) h = (h .0, keeps-of d k f (call s c .next) xs (h .1))
+keeps-of d k f s (their c ∷ xs) h =
+    (record { apart = avoids-of d k f (c .op) c s (h .0 .other) (h .0 .apart); low = h .0 .low }, keeps-of d k f (call s c .next) xs (h .1))
+
+run-of : (d k f : ℕ) (s : State) (xs : List Step) → RunOfDesk d (ofDesk d k f) s xs → Run (ofDesk d k f) s xs
+run-of d k f s xs h = record { keeps = keeps-of d k f s xs (h .keeps); full = h .full; fits = h .fits }
+
+pub desk-sees-the-same : Demand3·desk
+desk-sees-the-same d k f s xs ys a h g e = K-sees-the-same (ofDesk d k f) s xs ys a (run-of d k f s xs h) (run-of d k f s ys g) e
+
+-- ---- two runs that meet the premises: desk B has key 1 on channel 0
+
+-- channel 0 with the writes 33 and 34 and who waits for a cycle; channel 1 is desk A's
+abbrev pub begun : State
+begun =
+    record {
+      channels =
+          record { key = 1; prec = 138; locked = false; stopped = false; writes = plays 33 2 200 50 ∷ plays 34 1 124 64 ∷ [] }
+          ∷ record { key = 7; prec = 138; locked = false; stopped = false; writes = plays 2 1 124 64 ∷ [] }
+          ∷ free
+          ∷ free
+          ∷ [];
+      locks = [];
+      waiters = record { id = 35; key = 1; map = 1 } ∷ [];
+      waiting = [];
+      opens = 1 ∷ 7 ∷ [];
+      last = 7;
+    }
+
+-- desk B reads, the driver gives up a write, desk B stops
+abbrev alone : List Step
+alone = our (asksFrom 1 (COMMAND 2) 40 0 1 128 1 [] 64) ∷ our (asksFrom 0 (EVENT GAVE·UP) 0 0 1 0 0 [] 64) ∷ our (asksFrom 1 (COMMAND 6) 63 0 1 128 1 [] 64) ∷ []
+
+-- desk A names desk B's ids, to abort a write and to write with its own key, and gets 8; it takes two channels, its own write ends
+abbrev beside : List Step
+beside =
+    their (asksFrom 0 ABORT 34 0 0 0 1 [] 64)
+    ∷ our (asksFrom 1 (COMMAND 2) 40 0 1 128 1 [] 64)
+    ∷ their (asksFrom 0 (COMMAND 3) 41 0 2 128 7 [] 64)
+    ∷ their (asksFrom 0 (COMMAND 32) 3 0 0 138 0 (12 ∷ []) 64)
+    ∷ their (asksFrom 1 (EVENT GAVE·UP) 33 0 2 0 1 [] 64)
+    ∷ our (asksFrom 1 (EVENT GAVE·UP) 9 0 3 0 0 [] 64)
+    ∷ our (asksFrom 1 (COMMAND 6) 63 0 1 128 1 [] 64)
+    ∷ []
+
+pub begins : Start (ofDesk 1 1 138) begun
+begins = starts-all (ofDesk 1 1 138) begun (unfold machine claim premises in tt)
+
+alone-keeps : RunOfDesk 1 (ofDesk 1 1 138) begun alone
+unfolding machine claim fromOther spares
+alone-keeps =
+    record { keeps = (record { party = tt; sends = tt; high = tt }, (record { party = tt; sends = tt; high = tt }, (record { party = tt; sends = tt; high = tt }, tt))); full = tt; fits = tt }
+
+beside-keeps : RunOfDesk 1 (ofDesk 1 1 138) begun beside
+unfolding machine claim fromOther spares
+beside-keeps =
+    record {
+      keeps = (
+        record { other = tt; apart = tt; low = tt },
+        (
+          record { party = tt; sends = tt; high = tt },
+          (
+            record { other = tt; apart = tt; low = tt },
+            (
+              record { other = tt; apart = tt; low = tt },
+              (
+                record { other = tt; apart = tt; low = tt },
+                (record { party = tt; sends = tt; high = tt }, (record { party = tt; sends = tt; high = tt }, tt)),
+              ),
+            ),
+          ),
+        ),
+      );
+      full = tt;
+      fits = tt;
+    }
+
+pub same-calls : own alone ≡ own beside
+unfolding machine claim
+same-calls = refl
+
+pub alike : seen (ofDesk 1 1 138) begun alone ≡ seen (ofDesk 1 1 138) begun beside
+alike = desk-sees-the-same 1 1 138 begun alone beside begins alone-keeps beside-keeps same-calls
+
+-- three answers, four replies (READ's, the write 33 and the WAITCYCLE 35, STOP's) and the channels four times
+pub how-many : length (seen (ofDesk 1 1 138) begun alone) ≡ 11
+unfolding machine claim
+how-many = refl
+
+-- desk A's two calls are answered 8
+pub kept-off : (call begun (asksFrom 0 ABORT 34 0 0 0 1 [] 64) .answer .error ≡ 8) × (call begun (asksFrom 0 (COMMAND 3) 41 0 2 128 7 [] 64) .answer .error ≡ 8)
+unfolding machine
+kept-off = (refl, refl)
