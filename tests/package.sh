@@ -25,8 +25,8 @@ leave() {
     not_run "$*"
 }
 
+unset PACKAGE_CHECKED PACKAGE_DIST
 number=$(version)
-package=dist/qamhudeer-$number.tar.gz
 documents=share/doc/qamhudeer
 
 # ---- The commands at the top
@@ -42,11 +42,16 @@ refuses() {
     [ $? -eq 2 ] && [ ! -s "$work/out" ] && [ -s "$work/error" ]
 }
 
+# names_it COMMAND: the message names the option.
+names_it() {
+    refuses "$1" --no-such-option && grep -q -e "^${1##*/}: " "$work/error" && grep -q -e --no-such-option "$work/error"
+}
+
 # Every file at the top that can be run is a command.
 for command in ./* bench/run; do
     if [ -f "$command" ] && [ -x "$command" ]; then
         check "$command --help" explains "$command"
-        check "$command refuses --no-such-option" refuses "$command" --no-such-option
+        check "$command refuses --no-such-option" names_it "$command"
     fi
 done
 check "./package refuses a word" refuses ./package unpack
@@ -60,9 +65,9 @@ check "bench/run refuses an --against of no program" refuses bench/run --against
 
 # ---- The package
 
-# built FILE: the package, kept as this file.
+# built NAME: the package, kept by this name. What stands in dist is left alone.
 built() {
-    rm -f "$package" && ./package && cp "$package" "$1"
+    PACKAGE_DIST=$work/$1 ./package && mv "$work/$1/qamhudeer-$number.tar.gz" "$work/$1.tar.gz"
 }
 
 # plain_entries: names in order, one owner, two modes, the commit's time; nothing of the day or of this machine.
@@ -131,18 +136,28 @@ made_cxx() {
         (cd "$away" && $cxx -std=c++11 -O2 -Wall -Wextra -pedantic -Werror -o in-c++ program.cc $words) && gives in-c++
 }
 
-# cxx_ready: a C++ compiler for x86-64, as linker_ready finds one for C.
-cxx_ready() {
-    cxx=
-    if [ "$(uname -m)" != x86_64 ]; then
-        cross="${CXX_X86_64:-x86_64-linux-gnu-g++} -static"
-        works $cross || { install_packages g++-x86-64-linux-gnu && works $cross; } && cxx=$cross
-        return
+# find_cxx: a C++ compiler for x86-64, as linker_ready finds one for C.
+find_cxx() {
+    if [ "$(uname -m)" = x86_64 ]; then
+        set -- ${CXX:-} g++ c++ clang++
+    else
+        set -- "${CXX_X86_64:-x86_64-linux-gnu-g++} -static"
     fi
-    for one in ${CXX:-} g++ c++ clang++; do
-        ! works $one || { cxx=$one; return; }
+    for cxx; do
+        echo 'int main() { return 0; }' | $cxx -std=c++11 -x c++ -o "$work/try" - >/dev/null 2>&1 && return
     done
+    cxx=
     return 1
+}
+
+cxx_ready() {
+    find_cxx && return
+    if [ "$(uname -m)" = x86_64 ]; then
+        install_packages g++
+    else
+        install_packages g++-x86-64-linux-gnu
+    fi
+    find_cxx
 }
 
 # program_built WHERE: against $prefix, with no file of this tree in reach but the program.
@@ -153,10 +168,10 @@ program_built() {
     [ -z "$cxx" ] || check "a program in C++, against the $1 package" made_cxx
 }
 
-check "the package is built" built "$work/one.tar.gz"
+check "the package is built" built one
 [ -s "$work/one.tar.gz" ] || finish
 rm -rf target/staticlib
-check "and built again, its library too" built "$work/two.tar.gz"
+check "and built again, its library too" built two
 check "both have the same bytes" cmp "$work/one.tar.gz" "$work/two.tar.gz"
 check "names in order, one owner, the commit's time" plain_entries
 check "it unpacks to one folder" unpacked
@@ -207,10 +222,7 @@ if command -v pkg-config >/dev/null || { install_packages pkg-config && command 
     pkg_version() { echo "version $(flags --modversion)"; }
     one_version "pkg-config" pkg_version
     if linker_ready; then
-        if ! cxx_ready && [ "$(uname -m)" = x86_64 ]; then
-            install_packages g++ && cxx_ready
-        fi
-        [ -n "$cxx" ] || leave "a program in C++ with the package: no C++ compiler is here, and none could be installed"
+        cxx_ready || leave "a program in C++ with the package: no C++ compiler is here, and none could be installed"
         program_built installed
         prefix=$work/moved
         mv "$tree" "$prefix"
