@@ -87,7 +87,7 @@ has_all() {
     cmp target/staticlib/libqamhudeer.a "$tree/lib/libqamhudeer.a" && cmp include/qamhudeer.h "$tree/include/qamhudeer.h" &&
         [ -s "$tree/lib/pkgconfig/qamhudeer.pc" ] && cmp docs/desk.md "$tree/$documents/desk.md" &&
         cmp CHANGELOG.md "$tree/$documents/CHANGELOG.md" || return
-    for example in examples/*; do
+    for example in examples/*.c examples/*.out; do
         cmp "$example" "$tree/$documents/$example" || return
     done
 }
