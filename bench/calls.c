@@ -1,5 +1,5 @@
-/* The library's call beside the second program's, in one process: calls NAME REPETITIONS <LOG. The log's frames are read
-   first, and both play them once, to be compared. Then each plays them from a fresh device, in turns, and writes a line
+/* The library's call beside the second program's, in one process: calls NAME REPETITIONS CHANNELS <LOG. The log's frames are
+   read first, and both play them once, to be compared. Then each plays them from a fresh device, in turns, and writes a line
    'NAME REPETITION library|second SECONDS SECONDS 0 CALLS', with the seconds of the processor; so bench/run has them.
    Malformed lines are no calls. The library reads and writes its state as bytes; the second program has a struct at hand. */
 #define _DEFAULT_SOURCE
@@ -14,6 +14,7 @@
 
 static struct Frame *frame;
 static size_t frames;
+static uint8_t channels;
 
 static uint8_t state[QAMHUDEER_STATE_SIZE], table[QAMHUDEER_TABLE_SIZE];
 static uint8_t replies[QAMHUDEER_REPLIES_SIZE], answer[QAMHUDEER_ANSWER_SIZE];
@@ -49,7 +50,7 @@ static size_t library_call(const struct Frame *f)
 
 static void library_fresh(void)
 {
-    if (qamhudeer_fresh(4, state, sizeof state, table, sizeof table) != 0)
+    if (qamhudeer_fresh(channels, state, sizeof state, table, sizeof table) != 0)
         exit(2);
 }
 
@@ -73,7 +74,7 @@ static int same_outcome(size_t n, const struct Answer *a)
 static void compare(void)
 {
     library_fresh();
-    arbiter_fresh(&arbiter, 4);
+    arbiter_fresh(&arbiter, channels);
     for (size_t i = 0; i < frames; i++) {
         size_t n = library_call(&frame[i]);
         struct Answer a = arbiter_call(&arbiter, &frame[i], &list);
@@ -112,7 +113,7 @@ static double play_second(void)
 {
     double began = now();
 
-    arbiter_fresh(&arbiter, 4);
+    arbiter_fresh(&arbiter, channels);
     for (size_t i = 0; i < frames; i++)
         arbiter_call(&arbiter, &frame[i], &list);
     return now() - began;
@@ -121,10 +122,11 @@ static double play_second(void)
 int main(int words, char **word)
 {
     double library, second;
-    long repetitions = words == 3 ? strtol(word[2], NULL, 10) : 0;
+    long repetitions = words == 4 ? strtol(word[2], NULL, 10) : 0;
 
-    if (repetitions < 1) {
-        fputs("usage: calls NAME REPETITIONS <LOG\n", stderr);
+    channels = words == 4 ? (uint8_t)strtol(word[3], NULL, 10) : 0;
+    if (repetitions < 1 || (channels != 4 && channels != 8)) {
+        fputs("usage: calls NAME REPETITIONS 4|8 <LOG\n", stderr);
         return 2;
     }
     read_log();

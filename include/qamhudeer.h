@@ -22,6 +22,11 @@
 extern "C" {
 #endif
 
+/* ---- the version: the first number moves where a desk's source may have to change (CHANGELOG.md says what). It stands here
+ * alone; the package and the programs take it from this line. */
+
+#define QAMHUDEER_VERSION "6.1.0"
+
 /* ---- sizes in bytes */
 
 #define QAMHUDEER_STATE_SIZE 823 /* of either board */

@@ -1,7 +1,7 @@
 # The library for C, for the scripts that link it. POSIX sh; it is read by '.' behind program.sh, with root set to the top.
 #
 #   library                  the archive
-#   library_ready            proves and builds it where it is missing or older than what it is made from
+#   library_ready [again]    proves and builds it where it is missing or older than what it is made from; again: in any case
 #   install_packages WORDS   installs packages of Debian, where that may be done
 #   linker_ready             finds a C compiler for x86-64, which the library is for. On another machine that is Debian's
 #                            gcc-x86-64-linux-gnu, installed where it is missing and may be, and the kit's emulator runs programs
@@ -35,7 +35,7 @@ old_library() {
 
 # The archive's time becomes that of the build's start, so that what is edited while rt runs counts as newer.
 library_ready() {
-    old_library || return 0
+    [ "${1:-}" = again ] || old_library || return 0
     has_kit || return
     complain "the library is proved and built, which may take minutes:"
     mkdir -p "$root/target" && began=$(mktemp "$root/target/began.XXXXXX") && said=$(mktemp "$root/target/said.XXXXXX") || return

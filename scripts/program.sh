@@ -5,6 +5,7 @@
 #   watched FILE WORDS  runs rt with these words; all that it says goes to FILE, and how far it is to standard error
 #   log_options WORDS  the log program's options, checked; in log_words as the program takes them
 #   help        what a script's own head says of its use
+#   version     the version, as the header has it
 #   play WORDS  runs the program with these arguments, through the kit's emulator where the machine is not x86-64
 #   how         words before the program's: exec, or timeout 60
 #
@@ -18,6 +19,10 @@ complain() {
 
 help() {
     sed -n '2,/^[^#]/s/^#\( \|$\)//p' "$0"
+}
+
+version() {
+    sed -n 's/^#define QAMHUDEER_VERSION "\([0-9.]*\)"$/\1/p' "$root/include/qamhudeer.h"
 }
 
 # The program's first word is the number of channels; a second one shows them.
@@ -34,6 +39,7 @@ log_options() {
             ;;
         --show) log_show=show ;;
         --help) help; exit 0 ;;
+        --version) echo "${0##*/} $(version)"; exit 0 ;;
         *) complain "there is no option '$1'; --help tells more"; return 2 ;;
         esac
         shift

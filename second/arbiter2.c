@@ -2,10 +2,14 @@
    each call's replies and answer to standard output.
 
      arbiter2 [--channels 4|8] [--show]
+     arbiter2 --version
 
    --show: then also a line B0 for each channel of the board. A wrong option gets a
-   message and status 2. */
+   message and status 2. The version is that of the header for C, the only thing that
+   is taken from there. */
 #include "log.h"
+
+#include "../include/qamhudeer.h"
 
 #include <stdio.h>
 #include <string.h>
@@ -38,8 +42,12 @@ int main(int count, char **argument)
     struct Frame frame;
     enum Line line;
 
+    if (count == 2 && strcmp(argument[1], "--version") == 0) {
+        puts("arbiter2 " QAMHUDEER_VERSION);
+        return fflush(stdout) != 0;
+    }
     if (!read_options(count, argument, &options)) {
-        fputs("usage: arbiter2 [--channels 4|8] [--show] <LOG\n", stderr);
+        fputs("usage: arbiter2 [--channels 4|8] [--show] <LOG | arbiter2 --version\n", stderr);
         return 2;
     }
     setvbuf(stdout, buffer, _IOFBF, sizeof buffer);

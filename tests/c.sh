@@ -1,7 +1,7 @@
 #!/bin/sh
 # The C side: the header by itself as C99 and as C++, the library held against it, document 01's log and the example desks
-# of examples/ and docs/desk.md through the library. The last line is 'N passed, M failed'. What cannot be run here is told by a line 'NOT RUN: ..', and
-# counts as neither. scripts/library.sh says which compilers are used.
+# of examples/ and docs/desk.md through the library, and the stack that it takes. The last line is 'N passed, M failed'. What
+# cannot be run here is told by a line 'NOT RUN: ..', and counts as neither. scripts/library.sh says which compilers are used.
 . "$(dirname "$0")/begin.sh"
 left=0
 
@@ -67,6 +67,15 @@ page() {
     tried "$1" "$work/page$2.out" "$work/page$2.c" /dev/null
 }
 
+# The stack that the page says, of a call and of a fragment; and no more than that is taken on a generated log.
+stack_said() {
+    sed -n 's/.*`qamhudeer_call` took less than \([0-9]*\),\([0-9]*\) bytes of stack and `qamhudeer_feed` less than \([0-9]*\),\([0-9]*\),.*/\1\2 \3\4/p' docs/desk.md
+}
+
+stack_taken() {
+    run_c "$work/stack" $(stack_said) <crates/arbiter_log/stdin
+}
+
 if ! library_ready; then
     failed=$((failed + 1))
     echo "FAILED: the library is not built"
@@ -79,6 +88,9 @@ elif linker_ready; then
     tried "the example of two desks" examples/two_desks.out examples/two_desks.c /dev/null
     tried "the example desk that wants stereo" examples/stereo.out examples/stereo.c /dev/null
     tried "a log byte by byte through the service port" second/sample.out examples/port.c second/sample.log
+    # Names are bound at the start: to bind one on the way takes a stack of its own, which differs from machine to machine.
+    check "tests/stack.c compiles" link_c "$work/stack" -pthread -Wl,-z,now tests/stack.c
+    check "the library takes no more stack than docs/desk.md says" stack_taken
     page "the desk of docs/desk.md" 2 1
     page "the desk of docs/desk.md that cuts a message" 3 2
 else
