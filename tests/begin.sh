@@ -1,8 +1,10 @@
 # What every test here begins with: the top as root and as the folder, the library's functions, a folder for its work, what it
 # counts. POSIX sh; it is read by '.'.
 #
-#   die WORDS    the test cannot go on
-#   finish       the last line, 'N passed, M failed', and the status
+#   die WORDS               the test cannot go on
+#   check NAME COMMAND..    one test; what the command says is shown where it fails
+#   leave WHAT              something cannot be run here; left is then 1
+#   finish                  the last line, 'N passed, M failed', and the status
 set -u
 LC_ALL=C
 export LC_ALL
@@ -15,10 +17,28 @@ trap 'exit 2' HUP INT TERM
 cd "$root" || exit 2
 passed=0
 failed=0
+left=0
 
 die() {
     complain "$*"
     exit 2
+}
+
+check() {
+    name=$1
+    shift
+    if "$@" >"$work/said" 2>&1; then
+        passed=$((passed + 1))
+    else
+        failed=$((failed + 1))
+        tail -n 20 "$work/said"
+        echo "FAILED: $name"
+    fi
+}
+
+leave() {
+    left=1
+    not_run "$*"
 }
 
 finish() {

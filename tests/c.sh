@@ -3,25 +3,6 @@
 # of examples/ and docs/desk.md through the library, and the stack that it takes. The last line is 'N passed, M failed'. What
 # cannot be run here is told by a line 'NOT RUN: ..', and counts as neither. scripts/library.sh says which compilers are used.
 . "$(dirname "$0")/begin.sh"
-left=0
-
-# check NAME COMMAND..
-check() {
-    name=$1
-    shift
-    if "$@" >"$work/said" 2>&1; then
-        passed=$((passed + 1))
-    else
-        failed=$((failed + 1))
-        tail -n 20 "$work/said"
-        echo "FAILED: $name"
-    fi
-}
-
-leave() {
-    left=1
-    not_run "$*"
-}
 
 # ---- The header by itself. Only its syntax is at stake, so that the machine's own compilers will do.
 

@@ -5,25 +5,6 @@
 # 'NOT RUN: ..', and counts as neither. scripts/library.sh says which compilers are used.
 . "$(dirname "$0")/begin.sh"
 . "$root/scripts/commit.sh"
-left=0
-
-# check NAME COMMAND..
-check() {
-    name=$1
-    shift
-    if "$@" >"$work/said" 2>&1; then
-        passed=$((passed + 1))
-    else
-        failed=$((failed + 1))
-        tail -n 20 "$work/said"
-        echo "FAILED: $name"
-    fi
-}
-
-leave() {
-    left=1
-    not_run "$*"
-}
 
 unset PACKAGE_CHECKED PACKAGE_DIST
 number=$(version)

@@ -3,7 +3,6 @@
 # programs, each of which must be found, then the command ./stereo. The last line is 'N passed, M failed'. What cannot be run here
 # is told by a line 'NOT RUN: ..', and counts as neither.
 . "$(dirname "$0")/begin.sh"
-left=0
 
 pass() {
     passed=$((passed + 1))

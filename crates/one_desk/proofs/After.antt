@@ -45,6 +45,10 @@ Fewer f = (p : ℕ → Bool) (k : ℕ) (c : Channel) → T (has p k (f c)) → T
 abbrev Less : List Channel → List Channel → Type 0
 Less cs ds = (p : ℕ → Bool) (k : ℕ) → T (any (has p k) ds) → T (any (has p k) cs)
 
+or-rest : (a b : Bool) → T (a || b) → T (not a) → T b
+or-rest true b t u = absurd u
+or-rest false b t u = t
+
 -- ---- one channel
 
 -- no write is left
@@ -232,11 +236,7 @@ module _ (d : ℕ) (c : Call) where
         (λ u. or-right (has p k e) (New p k)
         (and-both (eqb (c .key) k) (ofDesk d (c .id) && p (c .id))
         (subst (λ (i : ℕ). T (eqb i k)) (eqb→eq (e .key) (c .key) (and-right (not (eqb (c .key) 0)) (eqb (e .key) (c .key)) h)) x)
-        (and-both (ofDesk d (c .id)) (p (c .id)) own (last (wrote p (e .writes)) (p (c .id)) (behind p (e .writes) (and-right a b t)) u))))
-      where
-        last : (a b : Bool) → T (a || b) → T (not a) → T b
-        last true b v w = absurd w
-        last false b v w = v
+        (and-both (ofDesk d (c .id)) (p (c .id)) own (or-rest (wrote p (e .writes)) (p (c .id)) (behind p (e .writes) (and-right a b t)) u))))
 
     joined : (m : ℕ) (cs : List Channel) → T (matches (c .key) (at (lowest (length cs) m) cs))
         → Grown d c cs (change (setWrites (at (lowest (length cs) m) cs .writes ++ writeOf c ∷ [])) (lowest (length cs) m) cs)
@@ -331,11 +331,7 @@ key-of r p k [] t u = absurd u
 key-of r p k (c ∷ cs) t u =
     by-test (has p k c)
     (λ v. subst (λ (i : ℕ). T (r i)) (eqb→eq (c .key) k (and-left (eqb (c .key) k) (wrote p (c .writes)) v)) (and-left (r (c .key)) (all (λ e. r (e .key)) cs) t))
-    (λ v. key-of r p k cs (and-right (r (c .key)) (all (λ e. r (e .key)) cs) t) (rest (has p k c) (any (has p k) cs) u v))
-  where
-    rest : (a b : Bool) → T (a || b) → T (not a) → T b
-    rest true b x y = absurd y
-    rest false b x y = x
+    (λ v. key-of r p k cs (and-right (r (c .key)) (all (λ e. r (e .key)) cs) t) (or-rest (has p k c) (any (has p k) cs) u v))
 
 all-keys : (r : ℕ → Bool) → ((k : ℕ) → T (r k)) → (cs : List Channel) → T (all (λ c. r (c .key)) cs)
 unfolding all
