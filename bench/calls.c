@@ -16,7 +16,7 @@ static struct Frame *frame;
 static size_t frames;
 static uint8_t channels;
 
-static uint8_t state[QAMHUDEER_STATE_SIZE], table[QAMHUDEER_TABLE_SIZE];
+static uint8_t state[QAMHUDEER_STATE_SIZE], table[QAMHUDEER_TABLE_SIZE], display[QAMHUDEER_DISPLAY_SIZE];
 static uint8_t replies[QAMHUDEER_REPLIES_SIZE], answer[QAMHUDEER_ANSWER_SIZE];
 
 static struct Arbiter arbiter;
@@ -44,13 +44,14 @@ static void read_log(void)
 
 static size_t library_call(const struct Frame *f)
 {
-    return qamhudeer_call(f->desk, f->operation, f->id, f->flags, f->map, (uint8_t)f->precedence, f->key, f->combination,
-                          f->length, state, sizeof state, table, sizeof table, replies, sizeof replies, answer, sizeof answer);
+    return qamhudeer_call(f->desk, f->operation, f->id, f->flags, f->map, (uint8_t)f->precedence, f->key, f->combination, f->length,
+                          state, sizeof state, table, sizeof table, display, sizeof display, replies, sizeof replies, answer,
+                          sizeof answer);
 }
 
 static void library_fresh(void)
 {
-    if (qamhudeer_fresh(channels, state, sizeof state, table, sizeof table) != 0)
+    if (qamhudeer_fresh(channels, state, sizeof state, table, sizeof table, display, sizeof display) != 0)
         exit(2);
 }
 

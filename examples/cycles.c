@@ -9,6 +9,7 @@
 /* All that the arbiter needs, kept here from call to call. */
 static uint8_t state[QAMHUDEER_STATE_SIZE];
 static uint8_t table[QAMHUDEER_TABLE_SIZE];
+static uint8_t display[QAMHUDEER_DISPLAY_SIZE];
 static uint8_t replies[QAMHUDEER_REPLIES_SIZE];
 static uint8_t answer[QAMHUDEER_ANSWER_SIZE];
 
@@ -26,7 +27,7 @@ static void call(const char *what, uint8_t op, uint8_t id, uint8_t flags, unsign
     size_t i;
 
     qamhudeer_call(QAMHUDEER_DESK_A, op, id, flags, hall[0], 0, (uint16_t)key, bytes, n, state, sizeof state, table, sizeof table,
-                   replies, sizeof replies, answer, sizeof answer);
+                   display, sizeof display, replies, sizeof replies, answer, sizeof answer);
     printf("%s\n", what);
     for (i = 0; i < answer[QAMHUDEER_ANSWER_REPLIES_A]; i++) {
         const uint8_t *r = replies + i * QAMHUDEER_REPLY_SIZE;
@@ -42,7 +43,7 @@ int main(void)
 {
     unsigned key;
 
-    if (qamhudeer_fresh(4, state, sizeof state, table, sizeof table) != 0)
+    if (qamhudeer_fresh(4, state, sizeof state, table, sizeof table, display, sizeof display) != 0)
         return 1;
     call("open with channel 0", QAMHUDEER_OPEN, 0, 0, 0, hall, sizeof hall);
     key = 256u * answer[QAMHUDEER_ANSWER_KEY] + answer[QAMHUDEER_ANSWER_KEY + 1];

@@ -9,6 +9,7 @@
 /* All that the arbiter needs, kept here from call to call. */
 static uint8_t state[QAMHUDEER_STATE_SIZE];
 static uint8_t table[QAMHUDEER_TABLE_SIZE];
+static uint8_t display[QAMHUDEER_DISPLAY_SIZE];
 static uint8_t replies[QAMHUDEER_REPLIES_SIZE];
 static uint8_t answer[QAMHUDEER_ANSWER_SIZE];
 
@@ -35,8 +36,9 @@ static void tell_replies(size_t first, size_t count)
 /* One call of the desk that has the id, told line by line: the replies to A, those to B, then the answer. */
 static void call(const char *what, uint8_t op, uint8_t id, uint8_t flags, uint8_t map, int prec, unsigned key, const uint8_t *combos, size_t n)
 {
-    qamhudeer_call(id < QAMHUDEER_FIRST_OF_B ? QAMHUDEER_DESK_A : QAMHUDEER_DESK_B, op, id, flags, map, (uint8_t)prec, (uint16_t)key,
-                   combos, n, state, sizeof state, table, sizeof table, replies, sizeof replies, answer, sizeof answer);
+    qamhudeer_call(id < QAMHUDEER_FIRST_OF_B ? QAMHUDEER_DESK_A : QAMHUDEER_DESK_B, op, id, flags, map, (uint8_t)prec,
+                   (uint16_t)key, combos, n, state, sizeof state, table, sizeof table, display, sizeof display, replies,
+                   sizeof replies, answer, sizeof answer);
     printf("%s\n", what);
     tell_replies(0, answer[QAMHUDEER_ANSWER_REPLIES_A]);
     tell_replies(QAMHUDEER_FIRST_OF_B, answer[QAMHUDEER_ANSWER_REPLIES_B]);
@@ -47,7 +49,7 @@ static void call(const char *what, uint8_t op, uint8_t id, uint8_t flags, uint8_
 int main(void)
 {
     unsigned mine, theirs;
-    if (qamhudeer_fresh(4, state, sizeof state, table, sizeof table) != 0)
+    if (qamhudeer_fresh(4, state, sizeof state, table, sizeof table, display, sizeof display) != 0)
         return 1;
 
     /* No combinations and key 0: the device is opened, and the desk gets a key. */

@@ -7,6 +7,7 @@
 
 static uint8_t state[QAMHUDEER_STATE_SIZE]; /* one size for both boards */
 static uint8_t table[QAMHUDEER_TABLE_SIZE];
+static uint8_t display[QAMHUDEER_DISPLAY_SIZE];
 static uint8_t replies[QAMHUDEER_REPLIES_SIZE];
 static uint8_t answer[QAMHUDEER_ANSWER_SIZE];
 
@@ -21,14 +22,14 @@ static void tell(const char *what)
 static void call(uint8_t op, uint8_t id, uint8_t map, int prec, uint16_t key, size_t n, const char *what)
 {
     qamhudeer_call(QAMHUDEER_DESK_A, op, id, IOF_QUICK, map, (uint8_t)prec, key, halls, n, state, sizeof state, table, sizeof table,
-                   replies, sizeof replies, answer, sizeof answer);
+                   display, sizeof display, replies, sizeof replies, answer, sizeof answer);
     tell(what);
 }
 
 static int desk(uint8_t channels)
 {
     printf("a board of %d channels\n", channels);
-    if (qamhudeer_fresh(channels, state, sizeof state, table, sizeof table) != 0)
+    if (qamhudeer_fresh(channels, state, sizeof state, table, sizeof table, display, sizeof display) != 0)
         return 1; /* neither 4 nor 8, or a length is wrong */
     call(QAMHUDEER_OPEN, 0, 0, 0, 7, 0, "open with key 7");
     call(ADCMD_ALLOCATE, 1, 0, 10, 7, sizeof halls, "the upper halls, or 0 and 7");

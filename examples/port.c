@@ -8,6 +8,7 @@
 
 static uint8_t state[QAMHUDEER_STATE_SIZE];
 static uint8_t table[QAMHUDEER_TABLE_SIZE];
+static uint8_t display[QAMHUDEER_DISPLAY_SIZE];
 static uint8_t port[QAMHUDEER_PORT_SIZE]; /* all 0: a fresh one */
 static uint8_t out[QAMHUDEER_ROOM_SIZE];
 
@@ -16,8 +17,8 @@ static int feed(const uint8_t *fragment, size_t length)
     size_t used, written;
 
     do {
-        if (qamhudeer_feed(fragment, length, port, sizeof port, state, sizeof state, table, sizeof table, out, sizeof out,
-                           &used, &written) != 0)
+        if (qamhudeer_feed(fragment, length, port, sizeof port, state, sizeof state, table, sizeof table, display, sizeof display,
+                           out, sizeof out, &used, &written) != 0)
             return 1; /* no port, or no room for the output of a line */
         fwrite(out, 1, written, stdout);
         fragment += used;
@@ -31,12 +32,13 @@ int main(void)
     uint8_t byte;
     size_t written;
 
-    if (qamhudeer_fresh(4, state, sizeof state, table, sizeof table) != 0 || feed(port, 0) != 0)
+    if (qamhudeer_fresh(4, state, sizeof state, table, sizeof table, display, sizeof display) != 0 || feed(port, 0) != 0)
         return 1; /* an empty fragment changes nothing */
     while (fread(&byte, 1, 1, stdin) == 1)
         if (feed(&byte, 1) != 0)
             return 1;
-    if (qamhudeer_feed_end(port, sizeof port, state, sizeof state, table, sizeof table, out, sizeof out, &written) != 0)
+    if (qamhudeer_feed_end(port, sizeof port, state, sizeof state, table, sizeof table, display, sizeof display, out, sizeof out,
+                           &written) != 0)
         return 1;
     fwrite(out, 1, written, stdout);
     return fflush(stdout) != 0;

@@ -8,6 +8,7 @@
 
 static uint8_t state[QAMHUDEER_STATE_SIZE];
 static uint8_t table[QAMHUDEER_TABLE_SIZE];
+static uint8_t display[QAMHUDEER_DISPLAY_SIZE];
 static uint8_t replies[QAMHUDEER_REPLIES_SIZE];
 static uint8_t answer[QAMHUDEER_ANSWER_SIZE];
 
@@ -18,8 +19,8 @@ static size_t count;
 /* An allocation from the list at this precedence. NOWAIT: it fails rather than wait. */
 static void allocate(uint8_t id, int prec)
 {
-    qamhudeer_call(QAMHUDEER_DESK_A, ADCMD_ALLOCATE, id, IOF_QUICK | ADIOF_NOWAIT, 0, (uint8_t)prec, 0, maps, count, state, sizeof state,
-                   table, sizeof table, replies, sizeof replies, answer, sizeof answer);
+    qamhudeer_call(QAMHUDEER_DESK_A, ADCMD_ALLOCATE, id, IOF_QUICK | ADIOF_NOWAIT, 0, (uint8_t)prec, 0, maps, count, state,
+                   sizeof state, table, sizeof table, display, sizeof display, replies, sizeof replies, answer, sizeof answer);
     printf("allocation at %d: error %d, map %02X\n", prec, QAMHUDEER_ERROR(answer[QAMHUDEER_ANSWER_ERROR]), answer[QAMHUDEER_ANSWER_MAP]);
 }
 
@@ -40,10 +41,10 @@ int main(void)
         return 1;
     printf("for two left and two right it is %saccepted\n", qamhudeer_stereo_accepts(2, 2, maps, count) ? "" : "not ");
 
-    if (qamhudeer_fresh(4, state, sizeof state, table, sizeof table) != 0)
+    if (qamhudeer_fresh(4, state, sizeof state, table, sizeof table, display, sizeof display) != 0)
         return 1;
-    qamhudeer_call(QAMHUDEER_DESK_A, QAMHUDEER_OPEN, 0, 0, 0, 0, 0, maps, 0, state, sizeof state, table, sizeof table, replies,
-                   sizeof replies, answer, sizeof answer);
+    qamhudeer_call(QAMHUDEER_DESK_A, QAMHUDEER_OPEN, 0, 0, 0, 0, 0, maps, 0, state, sizeof state, table, sizeof table, display,
+                   sizeof display, replies, sizeof replies, answer, sizeof answer);
 
     /* The first pair of the list, then the pair that is left. The third finds none, unless it may steal: from the lower of the two. */
     allocate(1, 10);

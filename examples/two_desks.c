@@ -9,6 +9,7 @@
 /* One board, so that both desks lend the same state and table. */
 static uint8_t state[QAMHUDEER_STATE_SIZE];
 static uint8_t table[QAMHUDEER_TABLE_SIZE];
+static uint8_t display[QAMHUDEER_DISPLAY_SIZE];
 static uint8_t replies[QAMHUDEER_REPLIES_SIZE];
 static uint8_t answer[QAMHUDEER_ANSWER_SIZE];
 
@@ -32,7 +33,7 @@ static void tell_replies(const char *desk, size_t first, size_t count)
 static void call(const char *what, uint8_t desk, uint8_t op, uint8_t id, uint8_t flags, int prec, unsigned key, size_t n)
 {
     qamhudeer_call(desk, op, id, flags, hall[0], (uint8_t)prec, (uint16_t)key, hall, n, state, sizeof state, table, sizeof table,
-                   replies, sizeof replies, answer, sizeof answer);
+                   display, sizeof display, replies, sizeof replies, answer, sizeof answer);
     printf("%s: %s\n", desk == QAMHUDEER_DESK_A ? "A" : "B", what);
     tell_replies("A", 0, answer[QAMHUDEER_ANSWER_REPLIES_A]);
     tell_replies("B", QAMHUDEER_FIRST_OF_B, answer[QAMHUDEER_ANSWER_REPLIES_B]);
@@ -44,7 +45,7 @@ int main(void)
 {
     unsigned key;
 
-    if (qamhudeer_fresh(4, state, sizeof state, table, sizeof table) != 0)
+    if (qamhudeer_fresh(4, state, sizeof state, table, sizeof table, display, sizeof display) != 0)
         return 1;
     call("open with channel 0 at 10", QAMHUDEER_DESK_A, QAMHUDEER_OPEN, 0, 0, 10, 0, sizeof hall);
     key = 256u * answer[QAMHUDEER_ANSWER_KEY] + answer[QAMHUDEER_ANSWER_KEY + 1];

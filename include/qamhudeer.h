@@ -2,12 +2,13 @@
  *
  * Two desks, A and B, share one board, its channels and its waiting list. A has the request ids 0 to 31, B has 32 to 63.
  *
- * The arbiter keeps nothing. The caller lends four pieces of memory to each call, as a pointer and a length:
+ * The arbiter keeps nothing. The caller lends five pieces of memory to each call, as a pointer and a length:
  *   state    QAMHUDEER_STATE_SIZE bytes, kept from call to call
  *   table    QAMHUDEER_TABLE_SIZE bytes, the 64 request blocks, kept from call to call
+ *   display  QAMHUDEER_DISPLAY_SIZE bytes, the numbers of the wall display, kept from call to call
  *   replies  QAMHUDEER_REPLIES_SIZE bytes, room for 64 replies, 32 for each desk
  *   answer   QAMHUDEER_ANSWER_SIZE bytes
- * A call also reads a list of combinations, or a write's numbers. No two of these five overlap, nobody else writes to them
+ * A call also reads a list of combinations, or a write's numbers. No two of these six overlap, nobody else writes to them
  * during the call, and no pointer is null, also where its length is 0. There is no other duty: whatever the bytes are and
  * whatever the numbers, each function returns, and each comment below says what every byte that was lent holds afterwards.
  * That is proved of the code (crates/qamhudeer).
@@ -25,12 +26,15 @@ extern "C" {
 /* ---- the version: the first number moves where a desk's source may have to change (CHANGELOG.md says what). It stands here
  * alone; the package and the programs take it from this line. */
 
-#define QAMHUDEER_VERSION "6.1.0"
+#define QAMHUDEER_VERSION "7.0.0"
 
 /* ---- sizes in bytes */
 
 #define QAMHUDEER_STATE_SIZE 823 /* of either board */
 #define QAMHUDEER_TABLE_SIZE 1472
+#define QAMHUDEER_DISPLAY_SIZE 18
+#define QAMHUDEER_RECORDS_SIZE 256 /* 64 records of the waiting requests */
+#define QAMHUDEER_RECORD_SIZE 4
 #define QAMHUDEER_REPLIES_SIZE 384
 #define QAMHUDEER_ANSWER_SIZE 8
 #define QAMHUDEER_REPLY_SIZE 6
@@ -58,6 +62,21 @@ extern "C" {
 #define QAMHUDEER_OFFSET_OF_OPENS 755
 #define QAMHUDEER_OFFSET_OF_LAST 820
 #define QAMHUDEER_OFFSET_OF_CHANNELS 822
+
+/* ---- the wall display: for the duty managers, and no part of what a desk sees. Of channel c, of 0 to 7, the number of its writes
+ * and the number of waiting requests that name it stand at 2 * c and 2 * c + 1; then how many waiting requests the last settling
+ * looked at, at most 2,080. A call corrects the numbers by what it changed and never counts them anew, modulo 256; no call is
+ * refused for them. Where they agreed with a count before a call they agree after it, and on a fresh device all are 0. */
+
+#define QAMHUDEER_DISPLAY_WRITES(c) (2 * (c))
+#define QAMHUDEER_DISPLAY_NAMING(c) (2 * (c) + 1)
+#define QAMHUDEER_DISPLAY_LOOKS 16 /* two bytes */
+
+/* A record of a waiting request: record n begins at n * QAMHUDEER_RECORD_SIZE. */
+#define QAMHUDEER_RECORD_ID 0
+#define QAMHUDEER_RECORD_PRECEDENCE 1 /* in two's complement */
+#define QAMHUDEER_RECORD_HELD 2       /* 1: what it chooses now names a locked channel; else 0 */
+#define QAMHUDEER_RECORD_DESK 3
 
 /* ---- a port: what stands of a line that has not ended. All 0 is a fresh one. */
 
@@ -174,7 +193,7 @@ extern "C" {
 #define QAMHUDEER_NOTOPEN 2   /* a command where no key is open; CLOSE where its key is not */
 #define QAMHUDEER_INUSE 3     /* the id is outstanding */
 #define QAMHUDEER_BADID 4     /* an id above 63 */
-#define QAMHUDEER_NOROOM 5    /* the reply list has room for fewer than 64 replies */
+#define QAMHUDEER_NOROOM 5    /* the reply list has room for fewer than 64 replies, the list of records for fewer than 64 */
 #define QAMHUDEER_OTHERDESK 8 /* an id of the other desk's half; from a caller that is no desk, any id */
 
 /* Refusals of the maker of stereo lists, and of a port. */
@@ -182,19 +201,23 @@ extern "C" {
 #define QAMHUDEER_TOOSMALL 12 /* room for fewer maps than QAMHUDEER_STEREO_ROOM, or less room than QAMHUDEER_ROOM_SIZE */
 #define QAMHUDEER_STEREO_ROOM 4
 
-/* The result of a call whose answer has no room. */
+/* The result of a call whose answer or display has another size. */
 #define QAMHUDEER_UNANSWERED 255
 
 /* ---- functions */
 
-/* A fresh device on a board of 4 or 8 channels. Where channels is one of these, state_len is QAMHUDEER_STATE_SIZE and table_len
- * is QAMHUDEER_TABLE_SIZE: returns 0, the state is that of a fresh device, and each byte of the table is 0. Otherwise: returns
- * 1, and no byte has changed. */
-uint8_t qamhudeer_fresh(uint8_t channels, uint8_t *state, size_t state_len, uint8_t *table, size_t table_len);
+/* A fresh device on a board of 4 or 8 channels. Where channels is one of these, state_len is QAMHUDEER_STATE_SIZE, table_len is
+ * QAMHUDEER_TABLE_SIZE and display_len is QAMHUDEER_DISPLAY_SIZE: returns 0, the state is that of a fresh device, and each byte of
+ * the table and of the display is 0. Otherwise: returns 1, and no byte has changed. */
+uint8_t qamhudeer_fresh(uint8_t channels,
+                        uint8_t *state, size_t state_len,
+                        uint8_t *table, size_t table_len,
+                        uint8_t *display, size_t display_len);
 
 /* One call of a desk. The precedence is in two's complement, so that -128 to 127 are handed over as they are.
  *
- * Where answer_len is not QAMHUDEER_ANSWER_SIZE: returns QAMHUDEER_UNANSWERED, and no byte has changed.
+ * Where answer_len is not QAMHUDEER_ANSWER_SIZE, or display_len not QAMHUDEER_DISPLAY_SIZE: returns QAMHUDEER_UNANSWERED, and no
+ * byte has changed.
  *
  * Otherwise the answer holds eight new bytes, and the result is the number of replies to both desks, at most 64. Of the reply
  * list the records of those to A, at most 32 from the first on, and of those to B, at most 32 from QAMHUDEER_FIRST_OF_B on, are
@@ -203,18 +226,28 @@ uint8_t qamhudeer_fresh(uint8_t channels, uint8_t *state, size_t state_len, uint
  * Where the state's bytes hold no state (another length, or a mark that is neither 0 nor 1), and where state and table are not
  * sound: the answer is done, QAMHUDEER_UNSOUND, map 0, the key given, 255, 0, 0; there are no replies; no other byte has changed.
  *
- * Where they are sound: answer, replies, state and table are those of the rules, and state and table are sound again. After a
- * refusal (1 to 5, 8, -1, -3, -4, -5) no byte of state and table has changed. */
+ * Where they are sound: answer, replies, state, table and display are those of the rules, and state and table are sound again.
+ * After a refusal (1 to 5, 8, -1, -3, -4, -5) no byte of state, table and display has changed. */
 size_t qamhudeer_call(uint8_t desk, uint8_t op, uint8_t id, uint8_t flags, uint8_t map, uint8_t prec, uint16_t key,
                       const uint8_t *combos, size_t combos_len,
                       uint8_t *state, size_t state_len,
                       uint8_t *table, size_t table_len,
+                      uint8_t *display, size_t display_len,
                       uint8_t *replies, size_t replies_len,
                       uint8_t *answer, size_t answer_len);
 
+/* Who waits: a record for each waiting request, in the order in which they are looked at, at the front of `records`. Returns 0, and
+ * *count is their number, at most 64. Where state and table are not sound: returns QAMHUDEER_UNSOUND. Then records_len below
+ * QAMHUDEER_RECORDS_SIZE: returns QAMHUDEER_NOROOM. After a refusal *count is 0. No byte of `records` changes but those of the
+ * records counted. */
+uint8_t qamhudeer_waiting(const uint8_t *state, size_t state_len,
+                          const uint8_t *table, size_t table_len,
+                          uint8_t *records, size_t records_len,
+                          size_t *count);
+
 /* A log that comes in fragments, of any length and some of them empty: the lines of frames that docs/desk.md shows, as a
  * service port delivers them. A frame with an id of 32 or more is desk B's, any other A's. The port keeps what stands of a line;
- * state and table are those of the calls.
+ * state, table and display are those of the calls.
  *
  * qamhudeer_feed takes the fragment up to its first LF, or all of it, and *used is how many bytes that are. Where a line has
  * ended it is answered: its replies, those to A first, and its answer, a line each, stand at the front of `out`, and *written is
@@ -222,22 +255,24 @@ size_t qamhudeer_call(uint8_t desk, uint8_t op, uint8_t id, uint8_t flags, uint8
  * that the log has ended: what stands of a last line is answered as a line, and the port is then as fresh; where nothing stands,
  * nothing is written.
  *
- * Both return 0; and before anything is taken QAMHUDEER_UNSOUND where port_len is not QAMHUDEER_PORT_SIZE or more than 527
- * characters are said to stand in it, then QAMHUDEER_TOOSMALL where out_len is below QAMHUDEER_ROOM_SIZE. After a refusal *used
- * and *written are 0, and no byte has changed. Otherwise no byte of `out` has changed but those written, and no byte of the port
+ * Both return 0; and before anything is taken QAMHUDEER_UNSOUND where port_len is not QAMHUDEER_PORT_SIZE, more than 527 characters
+ * are said to stand in it or display_len is not QAMHUDEER_DISPLAY_SIZE, then QAMHUDEER_TOOSMALL where out_len is below
+ * QAMHUDEER_ROOM_SIZE. After a refusal *used and *written are 0, and no byte has changed. Otherwise no byte of `out` has changed but those written, and no byte of the port
  * but its length and the characters put behind those that stood.
  *
  * A line of more than 526 characters is malformed however it was cut, and so answered. On a state that is not sound each frame
- * is answered QAMHUDEER_UNSOUND, and state and table stay as they are. */
+ * is answered QAMHUDEER_UNSOUND, and state, table and display stay as they are. */
 uint8_t qamhudeer_feed(const uint8_t *fragment, size_t fragment_len,
                        uint8_t *port, size_t port_len,
                        uint8_t *state, size_t state_len,
                        uint8_t *table, size_t table_len,
+                       uint8_t *display, size_t display_len,
                        uint8_t *out, size_t out_len,
                        size_t *used, size_t *written);
 uint8_t qamhudeer_feed_end(uint8_t *port, size_t port_len,
                            uint8_t *state, size_t state_len,
                            uint8_t *table, size_t table_len,
+                           uint8_t *display, size_t display_len,
                            uint8_t *out, size_t out_len,
                            size_t *written);
 
@@ -254,6 +289,8 @@ uint8_t qamhudeer_stereo_accepts(uint8_t left, uint8_t right, const uint8_t *map
 /* The sizes and offsets above, as the library has them: each returns the number of its name. */
 size_t qamhudeer_state_size(void);
 size_t qamhudeer_table_size(void);
+size_t qamhudeer_display_size(void);
+size_t qamhudeer_records_size(void);
 size_t qamhudeer_replies_size(void);
 size_t qamhudeer_answer_size(void);
 size_t qamhudeer_channel_size(void);

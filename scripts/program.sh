@@ -25,9 +25,9 @@ version() {
     sed -n 's/^#define QAMHUDEER_VERSION "\([0-9.]*\)"$/\1/p' "$root/include/qamhudeer.h"
 }
 
-# The program's first word is the number of channels; a second one shows them.
+# The program's first word is the number of channels; in a second one c shows them, and d the wall display.
 log_options() {
-    log_words=4 log_show=
+    log_words=4 log_channels= log_display=
     while [ $# -gt 0 ]; do
         case $1 in
         --channels)
@@ -37,14 +37,15 @@ log_options() {
             esac
             shift
             ;;
-        --show) log_show=show ;;
+        --show) log_channels=c ;;
+        --display) log_display=d ;;
         --help) help; exit 0 ;;
         --version) echo "${0##*/} $(version)"; exit 0 ;;
         *) complain "there is no option '$1'; --help tells more"; return 2 ;;
         esac
         shift
     done
-    log_words="$log_words $log_show"
+    log_words="$log_words $log_channels$log_display"
 }
 
 has_kit() {

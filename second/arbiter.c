@@ -113,6 +113,38 @@ static void end_request(struct Arbiter *a, uint8_t id, int error, unsigned map,
     memset(q, 0, sizeof *q);
 }
 
+/* ---- The wall display: request #110 ---- */
+
+/* "Keep the two numbers beside the state, corrected at each call and never recounted": one
+   more or one less where a write joins or leaves its queue, however the numbers stood. */
+static void correct_writes(unsigned c, int by, struct Replies *r)
+{
+    if (r->display != NULL)
+        r->display->writes[c] = (uint8_t)(r->display->writes[c] + by);
+}
+
+/* The same where a request joins or leaves those that wait. It counts once for a channel,
+   however many of its combinations name it. */
+static void correct_naming(const struct Request *q, int by, struct Replies *r)
+{
+    unsigned named = 0;
+
+    if (r->display == NULL)
+        return;
+    for (unsigned i = 0; i < q->length; i++)
+        named |= q->combination[i];
+    for (unsigned c = 0; c < MOST_CHANNELS; c++)
+        if (names(named, c))
+            r->display->naming[c] = (uint8_t)(r->display->naming[c] + by);
+}
+
+/* "How many waiting requests the last settling looked at." */
+static void report_looks(unsigned looks, struct Replies *r)
+{
+    if (r->display != NULL)
+        r->display->looks = (uint16_t)looks;
+}
+
 /* ---- Channels ---- */
 
 /* "A write is in progress at the front of a queue that isn't stopped." */
@@ -131,6 +163,7 @@ static void forget(struct Channel *channel)
 /* The front write ends, however. Who waits for its cycle is replied apart. */
 static void end_front(struct Arbiter *a, unsigned c, int error, unsigned map, struct Replies *r)
 {
+    correct_writes(c, -1, r);
     end_request(a, remove_id(&a->channel[c].writes, 0), error, map, r);
     forget(&a->channel[c]);
 }
@@ -343,21 +376,32 @@ static void wait_in_order(struct Arbiter *a, uint8_t id)
     insert_id(&a->waiting, at, id);
 }
 
+/* The waiting request at this place is granted or dropped. */
+static void end_waiting(struct Arbiter *a, unsigned at, int error, unsigned map, struct Replies *r)
+{
+    uint8_t id = remove_id(&a->waiting, at);
+
+    correct_naming(&a->request[id], -1, r);
+    end_request(a, id, error, map, r);
+}
+
 /* "Walk from the head. ... Granted: grant, reply, remove, and start again at the head.
-   A walk to the end without a grant finishes. The choice is made afresh at each look." */
+   A walk to the end without a grant finishes. The choice is made afresh at each look."
+   Each request reached is a look, those granted and dropped too. */
 static void settle(struct Arbiter *a, struct Replies *r)
 {
-    unsigned at = 0;
+    unsigned at = 0, looks = 0;
 
     while (at < a->waiting.count) {
         uint8_t id = a->waiting.id[at];
         struct Request *q = &a->request[id];
         uint8_t chosen;
 
+        looks++;
         switch (arbiter_look(a, q->precedence, q->combination, q->length, &chosen)) {
         case LOOK_FAILS:
             if (q->nowait)
-                end_request(a, remove_id(&a->waiting, at), ADIOERR_ALLOCFAILED, 0, r);
+                end_waiting(a, at, ADIOERR_ALLOCFAILED, 0, r);
             else
                 at++;
             break;
@@ -367,11 +411,12 @@ static void settle(struct Arbiter *a, struct Replies *r)
             break;
         case LOOK_GRANTED:
             q->key = grant(a, q->key, q->precedence, chosen, r);
-            end_request(a, remove_id(&a->waiting, at), DONE, chosen, r);
+            end_waiting(a, at, DONE, chosen, r);
             at = 0;
             break;
         }
     }
+    report_looks(looks, r);
 }
 
 /* ---- Answers ---- */
@@ -452,6 +497,7 @@ static struct Answer allocate(struct Arbiter *a, const struct Frame *f, struct R
     q->length = f->length;
     memcpy(q->combination, f->combination, f->length);
     wait_in_order(a, f->id);
+    correct_naming(q, 1, r);
     return leave_outstanding(a, f, r);
 }
 
@@ -520,6 +566,7 @@ static struct Answer on_one_channel(struct Arbiter *a, const struct Frame *f,
         q->period = sound.period;
         q->volume = (uint8_t)sound.volume;
         insert_id(&channel->writes, channel->writes.count, f->id);
+        correct_writes(c, 1, r);
         return leave_outstanding(a, f, r);
     }
     /* It "is outstanding if one is" in progress, "else done at once". */
@@ -717,14 +764,17 @@ static struct Answer abort_request(struct Arbiter *a, const struct Frame *f,
 
     if (error != DONE)
         return refuse(f, error);
-    if (a->request[f->id].command == ADCMD_ALLOCATE)
+    if (a->request[f->id].command == ADCMD_ALLOCATE) {
         place = &a->waiting;
+        correct_naming(&a->request[f->id], -1, r);
+    }
     if (a->request[f->id].command == ADCMD_WAITCYCLE)
         place = &a->cycles;
     if (a->request[f->id].command == CMD_WRITE)
         for (unsigned c = 0; c < a->channels; c++)
             if (find_id(&a->channel[c].writes, f->id) < a->channel[c].writes.count) {
                 place = &a->channel[c].writes;
+                correct_writes(c, -1, r);
                 if (place->id[0] == f->id) {
                     front = 1u << c;
                     forget(&a->channel[c]);
@@ -808,6 +858,38 @@ struct Answer arbiter_call(struct Arbiter *a, const struct Frame *f, struct Repl
     case CALL_CYCLE_ENDED: case CALL_GAVE_UP: return event(a, f, r);
     default: return command(a, f, r);
     }
+}
+
+struct Answer arbiter_call_shown(struct Arbiter *a, struct Display *d, const struct Frame *f, struct Replies *r)
+{
+    struct Answer made;
+
+    r->display = d;
+    made = arbiter_call(a, f, r);
+    r->display = NULL;
+    return made;
+}
+
+/* "One for each waiting request (id, precedence, held or not, desk), to be filled in order; a
+   list shorter than 64 gets 5 and is not written." */
+int arbiter_waiting(const struct Arbiter *a, struct Waiting *record, size_t capacity, size_t *count)
+{
+    *count = 0;
+    if (!arbiter_sound(a))
+        return REFUSED_UNSOUND;
+    if (capacity < REQUESTS)
+        return REFUSED_REPLIES;
+    while (*count < a->waiting.count) {
+        uint8_t id = a->waiting.id[*count], chosen;
+        const struct Request *q = &a->request[id];
+        struct Waiting *w = &record[(*count)++];
+
+        w->id = id;
+        w->precedence = q->precedence;
+        w->held = arbiter_look(a, q->precedence, q->combination, q->length, &chosen) == LOOK_HELD;
+        w->desk = (uint8_t)arbiter_desk(id);
+    }
+    return DONE;
 }
 
 /* "A fresh device has four free channels, nothing outstanding, open count 0, last

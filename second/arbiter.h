@@ -113,12 +113,30 @@ struct Reply {
     uint16_t key;
 };
 
+/* Request #110: the numbers of the wall display. They stand beside the state and are no part of what makes it sound:
+   any numbers may be handed in, and a call corrects them by what it moves, modulo 256. */
+struct Display {
+    uint8_t writes[MOST_CHANNELS];          /* of each channel's queue, the whole of it */
+    uint8_t naming[MOST_CHANNELS];          /* the waiting requests that name the channel, each once */
+    uint16_t looks;                         /* of the last settling */
+};
+
+/* What the display lends for each waiting request. */
+struct Waiting {
+    uint8_t id;
+    int8_t precedence;
+    uint8_t held;                           /* 0 or 1, by a choice made now */
+    uint8_t desk;                           /* 0 is A, 1 is B */
+};
+
 /* The caller lends capacity records; a call fills those for desk A from the first on and those for desk B from
-   record 32 on, and says how many each has. Made has the places of all, in the order in which they were made. */
+   record 32 on, and says how many each has. Made has the places of all, in the order in which they were made.
+   Display is lent for one call by arbiter_call_shown, and NULL for a call that keeps no numbers. */
 struct Replies {
     struct Reply *record;
     size_t capacity, count[DESKS];
     uint8_t made[REQUESTS];
+    struct Display *display;
 };
 
 struct Answer {
@@ -137,6 +155,13 @@ int arbiter_sound(const struct Arbiter *a);
 
 /* One call of any kind. Any state, frame and capacity get an answer. */
 struct Answer arbiter_call(struct Arbiter *a, const struct Frame *f, struct Replies *r);
+
+/* The same call, with the display's numbers corrected by what it moves. A fresh device's are all 0. */
+struct Answer arbiter_call_shown(struct Arbiter *a, struct Display *d, const struct Frame *f, struct Replies *r);
+
+/* The waiting requests in order, into the first of so many records; *count is their number. 1 for a state that is not
+   sound, then 5 for fewer than 64 records, then 0. After 1 and 5 *count is 0 and no record is written. */
+int arbiter_waiting(const struct Arbiter *a, struct Waiting *record, size_t capacity, size_t *count);
 
 /* The desk of an id: A has 0 to 31, B all others. */
 unsigned arbiter_desk(unsigned id);

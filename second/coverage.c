@@ -1,7 +1,8 @@
 /* Plays logs, each on a fresh device, and counts the answers and the replies by what
    caused them: coverage-count SHORT|LONG|EIGHT LOG... Prints a row for each, and fails if a
    row that is due was never reached. Some rows are due in LONG logs only, some on four
-   channels only. */
+   channels only. coverage-count DISPLAY|DISPLAY8 LOG... prints the rows of the wall display
+   alone, for logs on four channels or on eight; each of them is due. */
 #include "log.h"
 
 #include <stdio.h>
@@ -251,6 +252,60 @@ enum {
 static const uint8_t crossing[B_FIRST_END - B_FIRST + 1] = {
     CMD_RESET, CMD_FLUSH, ADCMD_FREE, ADCMD_FINISH, ADCMD_SETPREC, ADCMD_ALLOCATE, CALL_OPEN, CALL_CLOSE, CALL_ABORT,
     CALL_CYCLE_ENDED, CALL_GAVE_UP
+};
+
+/* Request #110: what the wall display shows. */
+static struct DisplayRow {
+    const char *name;
+    unsigned long count;
+} display_rows[] = {
+    {"looks 0: settled with nobody waiting", 0},
+    {"the same after looks above 0", 0},
+    {"looks of all who wait, no grant", 0},
+    {"looks above w", 0},
+    {"looks above 64", 0},
+    {"looks w(w+1)/2, w above 1", 0},
+    {"looks left by a call that does not settle", 0},
+    {"left above 0: 2", 0},
+    {"left above 0: 3", 0},
+    {"left above 0: 4", 0},
+    {"left above 0: -3", 0},
+    {"left above 0: -4", 0},
+    {"left above 0: OPEN answered -11", 0},
+    {"left above 0: malformed", 0},
+    {"after -10: looks above 0", 0},
+    {"after ALLOCATE's -11: looks above 0", 0},
+    {"after \"not aborted\": looks above 0", 0},
+    {"a grant, then looks from the head", 0},
+    {"three grants or more in a settling", 0},
+    {"a grant not at the head", 0},
+    {"a request dropped", 0},
+    {"dropped, while a held one stays", 0},
+    {"dropped and granted in a settling", 0},
+    {"a waiting request aborted", 0},
+    {"named twice by a request, counted once", 0},
+    {"naming of 32 or more", 0},
+    {"naming of all channels, above 0", 0},
+    {"writes of 4 or more", 0},
+    {"writes of a stopped channel", 0},
+    {"several writes of a channel end in a call", 0},
+    {"writes and naming both change in a call", 0},
+    {"held and not held in one list", 0},
+    {"a held one behind one not held", 0},
+    {"held no more, and waiting", 0},
+    {"held now, and not before", 0},
+    {"both desks in one list", 0},
+    {"A's and B's at one precedence, B's first", 0},
+    {"a list of 32 of one desk", 0},
+    {"a list of 64", 0},
+    {"a list of none, after one", 0}
+};
+enum {
+    NOBODY, NOBODY_AGAIN, NO_GRANT, ABOVE_W, ABOVE_64, AT_BOUND, LEFT, LEFT_2, LEFT_3, LEFT_4, LEFT_NOCMD, LEFT_LENGTH,
+    LEFT_OPEN, LEFT_MALFORMED, AFTER_MISMATCH, AFTER_FAILED, AFTER_NOT_ABORTED, FROM_HEAD, THREE_GRANTS, NOT_AT_HEAD,
+    DROPPED, DROPPED_BESIDE_HELD, DROPPED_GRANTED, WAITING_ABORTED, NAMED_TWICE, NAMING_32, NAMING_ALL, WRITES_4,
+    WRITES_STOPPED, WRITES_END, BOTH_NUMBERS, HELD_AND_NOT, HELD_BEHIND, HELD_NO_MORE, HELD_NOW, BOTH_DESKS, B_BEFORE_A,
+    HALF_LIST, FULL_LIST, LIST_GONE
 };
 
 #define COUNT_OF(array) (sizeof (array) / sizeof *(array))
@@ -730,7 +785,150 @@ static void count_call(const struct Arbiter *before, const struct Arbiter *after
         count_new_key(before, answer->key);
 }
 
-static int is_long, is_eight;               /* what the logs are */
+/* ---- The wall display: request #110 ---- */
+
+struct Shown {
+    struct Display display;
+    struct Waiting record[REQUESTS];
+    size_t count;
+};
+
+/* The call has not settled: the looks are those of before. */
+static void count_left(const struct Frame *f, const struct Answer *answer, unsigned looks)
+{
+    display_rows[LEFT].count++;
+    if (looks == 0)
+        return;
+    display_rows[LEFT_2].count += answer->error == REFUSED_CLOSED;
+    display_rows[LEFT_3].count += answer->error == REFUSED_OUTSTANDING;
+    display_rows[LEFT_4].count += answer->error == REFUSED_ID;
+    display_rows[LEFT_NOCMD].count += answer->error == IOERR_NOCMD;
+    display_rows[LEFT_LENGTH].count += answer->error == IOERR_BADLENGTH;
+    display_rows[LEFT_OPEN].count += f->operation == CALL_OPEN && answer->error == ADIOERR_ALLOCFAILED;
+}
+
+/* The call has settled: the replies tell what that granted and dropped. */
+static void count_settled(const struct Arbiter *before, const struct Frame *f, const struct Answer *answer,
+                          const struct Replies *replies, const struct Shown *was, const struct Shown *is)
+{
+    unsigned looks = is->display.looks, grants = 0, drops = 0, behind = 0, start, held = 0;
+
+    for (size_t i = 0; i < arbiter_replied(replies); i++) {
+        const struct Reply *r = reply_at(replies, i);
+
+        if (r->command != ADCMD_ALLOCATE || (r->id == f->id && !answer->outstanding && f->operation == ADCMD_ALLOCATE))
+            continue;
+        grants += r->error == DONE;
+        drops += r->error == ADIOERR_ALLOCFAILED;
+        behind += r->error == DONE && before->waiting.count > 0 && r->id != before->waiting.id[0] && grants == 1;
+    }
+    start = (unsigned)is->count + grants + drops;
+    for (size_t i = 0; i < is->count; i++)
+        held += is->record[i].held;
+    display_rows[NOBODY].count += start == 0;
+    display_rows[NOBODY_AGAIN].count += start == 0 && was->display.looks > 0;
+    display_rows[NO_GRANT].count += grants == 0 && drops == 0 && start > 1 && looks == start;
+    display_rows[ABOVE_W].count += looks > start;
+    display_rows[ABOVE_64].count += looks > REQUESTS;
+    display_rows[AT_BOUND].count += start > 1 && looks == start * (start + 1) / 2;
+    display_rows[AFTER_MISMATCH].count += looks > 0 && answer->error == ADIOERR_NOALLOCATION;
+    display_rows[AFTER_FAILED].count += looks > 0 && answer->error == ADIOERR_ALLOCFAILED;
+    display_rows[AFTER_NOT_ABORTED].count += looks > 0 && f->operation == CALL_ABORT && answer->last == 0;
+    display_rows[FROM_HEAD].count += grants > 0 && is->count > 0;
+    display_rows[THREE_GRANTS].count += grants >= 3;
+    display_rows[NOT_AT_HEAD].count += behind > 0;
+    display_rows[DROPPED].count += drops > 0;
+    display_rows[DROPPED_BESIDE_HELD].count += drops > 0 && held > 0;
+    display_rows[DROPPED_GRANTED].count += drops > 0 && grants > 0;
+}
+
+/* How many of its combinations name the channel. */
+static unsigned times_named(const struct Request *q, unsigned c)
+{
+    unsigned times = 0;
+
+    for (unsigned i = 0; i < q->length; i++)
+        times += q->combination[i] >> c & 1;
+    return times;
+}
+
+/* The two numbers of each channel. */
+static void count_numbers(const struct Arbiter *after, const struct Frame *f, const struct Answer *answer,
+                          const struct Shown *was, const struct Shown *is)
+{
+    unsigned all = 0, moved = 0, named = 0;
+
+    for (unsigned c = 0; c < after->channels; c++) {
+        display_rows[NAMING_32].count += is->display.naming[c] >= 32;
+        display_rows[WRITES_4].count += is->display.writes[c] >= 4;
+        display_rows[WRITES_STOPPED].count += is->display.writes[c] > 0 && after->channel[c].stopped;
+        display_rows[WRITES_END].count += is->display.writes[c] + 1 < was->display.writes[c];
+        all += is->display.naming[c] > 0;
+        moved += is->display.writes[c] != was->display.writes[c];
+        named += is->display.naming[c] != was->display.naming[c];
+        if (f->operation == ADCMD_ALLOCATE && answer->outstanding && times_named(&after->request[f->id], c) > 1)
+            display_rows[NAMED_TWICE].count += is->display.naming[c] == was->display.naming[c] + 1;
+    }
+    display_rows[NAMING_ALL].count += all == after->channels;
+    display_rows[BOTH_NUMBERS].count += moved > 0 && named > 0;
+}
+
+static const struct Waiting *record_of(const struct Shown *s, unsigned id)
+{
+    for (size_t i = 0; i < s->count; i++)
+        if (s->record[i].id == id)
+            return &s->record[i];
+    return NULL;
+}
+
+/* The list of records. */
+static void count_records(const struct Shown *was, const struct Shown *is)
+{
+    unsigned held = 0, of_b = 0, behind = 0, b_before_a = 0;
+
+    for (size_t i = 0; i < is->count; i++) {
+        const struct Waiting *w = &is->record[i], *old = record_of(was, w->id);
+
+        held += w->held;
+        of_b += w->desk == DESK_B;
+        behind += i > 0 && w->held && !w[-1].held;
+        b_before_a += i > 0 && w->desk == DESK_A && w[-1].desk == DESK_B && w[-1].precedence == w->precedence;
+        display_rows[HELD_NO_MORE].count += old != NULL && old->held && !w->held;
+        display_rows[HELD_NOW].count += old != NULL && !old->held && w->held;
+    }
+    display_rows[HELD_AND_NOT].count += held > 0 && held < is->count;
+    display_rows[HELD_BEHIND].count += behind > 0;
+    display_rows[BOTH_DESKS].count += of_b > 0 && of_b < is->count;
+    display_rows[B_BEFORE_A].count += b_before_a > 0;
+    display_rows[HALF_LIST].count += of_b == HALF || is->count - of_b == HALF;
+    display_rows[FULL_LIST].count += is->count == REQUESTS;
+    display_rows[LIST_GONE].count += is->count == 0 && was->count > 0;
+}
+
+/* "After every call, except one answered 1 to 5, -1, -3, -4 or -5 and an OPEN answered -11." */
+static int settled(const struct Frame *f, const struct Answer *answer)
+{
+    switch (answer->error) {
+    case DONE: case ADIOERR_NOALLOCATION: return 1;
+    case ADIOERR_ALLOCFAILED: return f->operation != CALL_OPEN;
+    default: return 0;
+    }
+}
+
+static void count_display(const struct Arbiter *before, const struct Arbiter *after, const struct Frame *f,
+                          const struct Answer *answer, const struct Replies *replies, const struct Shown *was,
+                          const struct Shown *is)
+{
+    if (settled(f, answer))
+        count_settled(before, f, answer, replies, was, is);
+    else
+        count_left(f, answer, is->display.looks);
+    display_rows[WAITING_ABORTED].count += f->operation == CALL_ABORT && answer->last == 1 && record_of(was, f->id) != NULL;
+    count_numbers(after, f, answer, was, is);
+    count_records(was, is);
+}
+
+static int is_long, is_eight, is_display;   /* what the logs are */
 
 /* One row, per thousand lines; 1 if it is due and was never reached. */
 static int print_row(const char *name, unsigned long count, int due)
@@ -744,6 +942,7 @@ static void play(FILE *log, unsigned channels)
     static struct Arbiter state, before;
     static struct Reply record[REQUESTS];
     struct Replies replies = {.record = record, .capacity = REQUESTS};
+    struct Shown is = {.count = 0}, was;
     struct Frame frame;
     enum Line line;
 
@@ -754,7 +953,9 @@ static void play(FILE *log, unsigned channels)
         lines++;
         if (line == LINE_FRAME) {
             before = state;
-            answer = arbiter_call(&state, &frame, &replies);
+            was = is;
+            answer = arbiter_call_shown(&state, &is.display, &frame, &replies);
+            arbiter_waiting(&state, is.record, REQUESTS, &is.count);
             for (size_t i = 0; i < arbiter_replied(&replies); i++) {
                 const struct Reply *reply = reply_at(&replies, i);
 
@@ -763,8 +964,11 @@ static void play(FILE *log, unsigned channels)
             count_call(&before, &state, &frame, &answer, &replies);
             count_cuts(&before, &state, &frame, &answer, &replies);
             count_desks(&before, &frame, &answer, &replies);
+            count_display(&before, &state, &frame, &answer, &replies, &was, &is);
             if (frame.operation == CALL_CYCLE_ENDED || frame.operation == CALL_GAVE_UP)
                 count_event(&before, &frame, &answer);
+        } else {
+            display_rows[LEFT_MALFORMED].count += is.display.looks > 0;
         }
         count_answer(&answer);
     }
@@ -775,7 +979,8 @@ int main(int count, char **argument)
     int missing = 0;
 
     is_long = count > 1 && strcmp(argument[1], "LONG") == 0;
-    is_eight = count > 1 && strcmp(argument[1], "EIGHT") == 0;
+    is_eight = count > 1 && (strcmp(argument[1], "EIGHT") == 0 || strcmp(argument[1], "DISPLAY8") == 0);
+    is_display = count > 1 && strncmp(argument[1], "DISPLAY", 7) == 0;
     for (int i = 2; i < count; i++) {
         FILE *log = fopen(argument[i], "rb");
 
@@ -787,18 +992,20 @@ int main(int count, char **argument)
         fclose(log);
     }
     if (lines == 0) {
-        fputs("usage: coverage-count SHORT|LONG|EIGHT LOG...\n", stderr);
+        fputs("usage: coverage-count SHORT|LONG|EIGHT|DISPLAY|DISPLAY8 LOG...\n", stderr);
         return 2;
     }
     printf("| %-42s | %8s | %8s |\n", "", "count", "per 1000");
     printf("|--------------------------------------------|----------|----------|\n");
-    for (size_t i = 0; i < COUNT_OF(answer_rows); i++)
+    for (size_t i = 0; i < COUNT_OF(display_rows) && is_display; i++)
+        missing += print_row(display_rows[i].name, display_rows[i].count, ALWAYS);
+    for (size_t i = 0; i < COUNT_OF(answer_rows) && !is_display; i++)
         missing += print_row(answer_rows[i].name, answer_rows[i].count, answer_rows[i].due);
     /* "Maps above 255 can't occur, so -5 isn't given there." */
-    for (size_t i = 0; i < COUNT_OF(reply_rows); i++)
+    for (size_t i = 0; i < COUNT_OF(reply_rows) && !is_display; i++)
         missing += print_row(reply_rows[i].name, reply_rows[i].count,
                              reply_rows[i].error == IOERR_BADADDRESS ? ONLY_FOUR : ALWAYS);
-    for (size_t i = 0; i < COUNT_OF(call_rows); i++)
+    for (size_t i = 0; i < COUNT_OF(call_rows) && !is_display; i++)
         missing += print_row(call_rows[i].name, call_rows[i].count, call_rows[i].due);
     printf("\n%lu lines, %d rows missing, %lu unexpected\n", lines, missing, unexpected);
     return missing != 0 || unexpected != 0;

@@ -1,5 +1,5 @@
 #!/bin/sh
-# Counts what the generated logs reach: seeds 1 to 20 at 1000 lines on each board, then the long styles.
+# Counts what the generated logs reach: seeds 1 to 20 at 1000 lines on each board, the wall display on each, then the long styles.
 cd "$(dirname "$0")" || exit 1
 work=$(mktemp -d) || exit 1
 trap 'rm -rf "$work"' EXIT
@@ -16,6 +16,17 @@ done
 echo
 echo "The same on eight channels"
 ./coverage-count EIGHT "$work"/eight.* || exit 1
+
+for board in 4 8; do
+    for seed in 1 2 3 4 5 6 7 8 9 10; do
+        ./generate $seed 1000 display $board >"$work/display.$seed"
+    done
+    rows=DISPLAY
+    [ $board -eq 4 ] || rows=DISPLAY8
+    echo
+    echo "The wall display: style display, seeds 1 to 10, 1000 lines each, on $board channels"
+    ./coverage-count $rows "$work"/display.* || exit 1
+done
 
 for seed in 1 2 3 4 5 6; do
     ./generate $seed 70000 keys >"$work/long.keys.$seed"

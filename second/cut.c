@@ -1,5 +1,6 @@
 /* Plays a log from standard input through the service port, in fragments of random lengths, some of them empty:
-   cut SEED [CHANNELS]. Its output must be that of arbiter2. */
+   cut SEED [CHANNELS [display]]. Its output must be that of arbiter2; with the last word, behind it the lines of the wall display
+   at the end. */
 #include "chance.h"
 #include "port.h"
 
@@ -9,12 +10,13 @@
 int main(int count, char **argument)
 {
     static struct Arbiter state;
-    static struct Port port;
+    static struct Display display;
+    static struct Port port = {.display = &display};
     static char fragment[1000], text[LONGEST_OUTPUT];
     size_t length, written;
 
-    if (count < 2 || count > 3) {
-        fputs("usage: cut SEED [CHANNELS] <LOG\n", stderr);
+    if (count < 2 || count > 4) {
+        fputs("usage: cut SEED [CHANNELS [display]] <LOG\n", stderr);
         return 2;
     }
     chance_seed(strtoull(argument[1], NULL, 10));
@@ -30,5 +32,7 @@ int main(int count, char **argument)
     } while (!feof(stdin) && !ferror(stdin));
     port_end(&port, &state, text, &written);
     fwrite(text, 1, written, stdout);
+    if (count > 3)
+        log_write_display(stdout, &state, &display);
     return ferror(stdin) || fflush(stdout) != 0 || ferror(stdout);
 }

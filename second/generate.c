@@ -35,7 +35,8 @@ struct Style {
 
 enum {
     MIX, LOCKS, NOWAIT, QUEUES, FULL, ABORTS, PRECEDENCES, REFUSALS, MALFORMED, LISTS,
-    BYTES, TIES, CUTS, CYCLES, TWO_DESKS, OPENS, KEYS, MANY_LOCKS, MANY_STEALS, MANY_ENTRIES, MANY_WAITING, STYLES
+    BYTES, TIES, CUTS, CYCLES, TWO_DESKS, OPENS, KEYS, MANY_LOCKS, MANY_STEALS, MANY_ENTRIES, MANY_WAITING,
+    DISPLAY, STYLES
 };
 #define SHORT_STYLES KEYS       /* 1 to 15 take part in the mix */
 #define LONG_STRETCH 67500ul    /* lines in which the keys reach their end */
@@ -65,8 +66,15 @@ static const struct Style styles[STYLES] = {
     {"many-locks",  {1, 0, 2, 1, 1, 2, 4, 2, 2, 2, 2, 1, 4, 8,60, 3, 0, 0, 0, 0, 0}, 90, 0,  5,  0, 50},
     {"many-steals", {1, 0, 1, 1, 0, 1,30, 0, 0, 1, 1, 0, 1,36, 0,36, 0, 0, 0, 0, 0},100, 0,  5,  0, 50},
     {"many-entries",{6, 4, 3, 1, 1, 1, 4, 1, 1, 1, 1, 1, 9, 9, 2,55, 0, 0, 0, 0, 0}, 60, 0,100,  0, 40},
-    {"many-waiting",{1, 0, 4, 4, 1, 8, 8, 4, 4, 4, 4, 2, 0, 1, 0,55, 0, 0, 0, 0, 0},  0, 0,  5,  0, 56}
+    {"many-waiting",{1, 0, 4, 4, 1, 8, 8, 4, 4, 4, 4, 2, 0, 1, 0,55, 0, 0, 0, 0, 0},  0, 0,  5,  0, 56},
+    /* Behind those, so that the numbers of the styles and the logs of the mix stay what they were. */
+    {"display",     {3, 2, 7, 3, 1, 2,26, 0, 0, 2, 2, 2, 5,20,14,36, 2, 1, 0, 2, 1}, 50, 3,  8,  2, 20}
 };
+
+static int measures(const struct Style *s)
+{
+    return s >= &styles[MANY_LOCKS] && s <= &styles[MANY_WAITING];
+}
 
 /* ---- The device as it stands ---- */
 
@@ -332,6 +340,88 @@ static unsigned pick_unknown(void)
     return number;
 }
 
+/* ---- Tides ---- */
+
+/* Style display goes by tides. While they rise nearly every call is a request that waits, and what else is outstanding is
+   aborted, until 64 wait; while they fall holders are lowered or freed, so that many are granted in one settling. */
+static enum { CALM, RISING, FALLING } tide;
+
+/* A request that is outstanding and does not wait; REQUESTS where there is none. */
+static unsigned pick_not_waiting(void)
+{
+    unsigned id = below(REQUESTS), tries = 0;
+
+    while (tries < REQUESTS && (!outstanding(id) || state.request[id].command == ADCMD_ALLOCATE)) {
+        id = (id + 1) % REQUESTS;
+        tries++;
+    }
+    return tries < REQUESTS ? id : REQUESTS;
+}
+
+static void turn_tide(void)
+{
+    if (tide == CALM && below(150) == 0)
+        tide = RISING;
+    else if (tide == RISING && percent(state.waiting.count == REQUESTS ? 20 : 1))
+        tide = FALLING;
+    else if (tide == FALLING && percent(state.waiting.count < 3 ? 25 : 1))
+        tide = CALM;
+}
+
+static enum Kind pick_by_tide(enum Kind kind)
+{
+    static const enum Kind falls[6] = {ABORT, ABORT, SETPREC, SETPREC, FREE, CLOSE};
+
+    turn_tide();
+    if (tide == RISING)
+        return pick_not_waiting() < REQUESTS && percent(20) ? ABORT : ALLOCATE;
+    return tide == FALLING && percent(80) ? falls[below(6)] : kind;
+}
+
+/* Rising, one who would have all channels stands above the others: it holds them, or is held by who locked one. */
+static void make_rising(struct Frame *f)
+{
+    if (f->operation == CALL_ABORT) {
+        unsigned id = pick_not_waiting();
+
+        f->id = (uint8_t)(id < REQUESTS ? id : f->id);
+    }
+    if (f->operation != ADCMD_ALLOCATE)
+        return;
+    f->flags = (uint8_t)(f->flags & ~(unsigned)ADIOF_NOWAIT);
+    f->precedence = (int8_t)((int)below(12) - 6);
+    if (percent(8)) {
+        f->precedence = (int8_t)(120 + below(8));
+        f->length = 1;
+        f->combination[0] = (uint8_t)all_channels();
+    }
+}
+
+/* Falling, all that a key holds is lowered or let go. */
+static void make_falling(struct Frame *f)
+{
+    if (f->operation != ADCMD_SETPREC && f->operation != ADCMD_FREE && f->operation != CALL_CLOSE)
+        return;
+    f->key = state.channel[pick_channel()].key;
+    f->map = (uint8_t)channels_of(f->key);
+    f->precedence = (int8_t)(percent(50) ? -128 : (int)below(12) - 6);
+}
+
+static void make_by_tide(struct Frame *f)
+{
+    /* A channel is named by several combinations of one request, and one channel by many requests. */
+    for (unsigned i = 0; i < f->length && f->operation == ADCMD_ALLOCATE; i++) {
+        if (i > 0 && percent(50))
+            f->combination[i] |= f->combination[i - 1];
+        else if (percent(60))
+            f->combination[i] = (uint8_t)(1u << below(state.channels));
+    }
+    if (tide == RISING)
+        make_rising(f);
+    if (tide == FALLING)
+        make_falling(f);
+}
+
 /* ---- Frames ---- */
 
 /* One thing is wrong: the id, the map or the list. */
@@ -424,7 +514,7 @@ static void make_frame(struct Frame *f, enum Kind kind, const struct Style *s)
         f->operation = (uint8_t)pick_unknown();
         break;
     case WRITE: case PERVOL:
-        if (s < &styles[MANY_LOCKS])
+        if (!measures(s))
             pick_sound(f, s);
         break;
     case FLUSH: case RESET:
@@ -465,6 +555,8 @@ static void make_frame(struct Frame *f, enum Kind kind, const struct Style *s)
         }
         f->id = (uint8_t)pick_id_of(pick_desk(f->key), kind == ABORT);
     }
+    if (s == &styles[DISPLAY])
+        make_by_tide(f);
     if (percent(s->wrong))
         spoil(f);
 }
@@ -494,15 +586,15 @@ static enum Kind pick_kind(unsigned style)
     unsigned sum = 0, at, kind = 0;
 
     /* The driver goes on with what plays, open or not. */
-    if (state.open.count == 0 && style < MANY_LOCKS && state.channel[pick_playing()].writes.count > 0 && percent(40))
+    if (state.open.count == 0 && !measures(s) && state.channel[pick_playing()].writes.count > 0 && percent(40))
         return percent(50) ? CYCLE : GIVE_UP;
     /* Closed, most calls would be refused with 2. */
     if (state.open.count == 0 && percent(style == REFUSALS ? 30 : 80))
         return OPEN;
-    if (count_outstanding() > s->drain && percent(50)) {
+    if (count_outstanding() > s->drain && percent(50) && (style != DISPLAY || tide != RISING)) {
         static const enum Kind drains[7] = {ABORT, CYCLE, FLUSH, FREE, CLOSE, RESET, GIVE_UP};
 
-        return style == MANY_WAITING ? ABORT : drains[below(style < MANY_LOCKS ? 7 : 6)];
+        return style == MANY_WAITING ? ABORT : drains[below(measures(s) ? 6 : 7)];
     }
     for (unsigned i = 0; i < KINDS; i++)
         sum += s->weight[i];
@@ -511,7 +603,7 @@ static enum Kind pick_kind(unsigned style)
         at -= s->weight[kind++];
     if (kind == CLOSE && state.open.count == 1 && style != REFUSALS && percent(60))
         return OPEN;
-    return (enum Kind)kind;
+    return style == DISPLAY ? pick_by_tide((enum Kind)kind) : (enum Kind)kind;
 }
 
 /* The long style counts up with one cheap call a line; 1 if this line is such a one. First

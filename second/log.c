@@ -131,3 +131,38 @@ void log_write_channels(FILE *out, const struct Arbiter *a)
         fwrite(line, 1, spell(line, byte, sizeof byte), out);
     }
 }
+
+/* "Each channel's number of writes and the number of waiting allocations naming it", and the looks. */
+static void write_numbers(FILE *out, const struct Arbiter *a, const struct Display *d)
+{
+    char line[2 * (1 + 2 * MOST_CHANNELS + 2) + 1];
+    uint8_t byte[1 + 2 * MOST_CHANNELS + 2] = {0xE0};
+    size_t count = 1;
+
+    for (unsigned c = 0; c < a->channels; c++) {
+        byte[count++] = d->writes[c];
+        byte[count++] = d->naming[c];
+    }
+    byte[count++] = (uint8_t)(d->looks >> 8);
+    byte[count++] = (uint8_t)(d->looks & 255);
+    fwrite(line, 1, spell(line, byte, count), out);
+}
+
+void log_write_display(FILE *out, const struct Arbiter *a, const struct Display *d)
+{
+    struct Waiting record[REQUESTS];
+    size_t count;
+
+    write_numbers(out, a, d);
+    arbiter_waiting(a, record, REQUESTS, &count);
+    for (size_t i = 0; i < count; i++) {
+        char line[ANSWER_LINE];
+        uint8_t byte[5] = {0xE1, 0, 0, 0, 0};
+
+        byte[1] = record[i].id;
+        byte[2] = (uint8_t)record[i].precedence;
+        byte[3] = record[i].held;
+        byte[4] = record[i].desk;
+        fwrite(line, 1, spell(line, byte, sizeof byte), out);
+    }
+}

@@ -29,4 +29,8 @@ size_t log_spell(char *text, const struct Replies *replies, const struct Answer 
 /* A line B0 for each channel of the board: its number, key, precedence, marks (1 locked, 2 stopped) and number of writes. */
 void log_write_channels(FILE *out, const struct Arbiter *a);
 
+/* A line E0: for each channel of the board its writes and the waiting requests naming it, then the looks, high byte first.
+   Then a line E1 for each waiting request in order: id, precedence, held, desk. */
+void log_write_display(FILE *out, const struct Arbiter *a, const struct Display *d);
+
 #endif

@@ -10,7 +10,7 @@ static size_t answer_line(struct Port *p, struct Arbiter *a, char *text)
 
     if (log_decode(p->line, p->started, &f)) {
         if (a != NULL) {
-            answer = arbiter_call(a, &f, &replies);
+            answer = arbiter_call_shown(a, p->display, &f, &replies);
         } else {
             answer.error = REFUSED_UNSOUND;
             answer.key = f.key;

@@ -10,6 +10,7 @@
 struct Port {
     size_t started;                     /* how many characters of a line stand, at most PORT_LINE */
     char line[PORT_LINE];
+    struct Display *display;            /* request #110: the numbers that each line's call corrects; NULL where none are kept */
 };
 
 /* Takes the fragment up to its first LF, or all of it; the result is how many bytes that are. Where a line has ended it is

@@ -12,22 +12,24 @@ checks="$checks -fsanitize=address,undefined -fno-sanitize-recover=all"
 parts="arbiter.c log.c chance.c"
 $CC $checks -o "$work/arbiter2" arbiter2.c $parts &&
     $CC $checks -o "$work/generate" generate.c $parts &&
+    $CC $checks -o "$work/recount" recount.c $parts &&
     $CC $checks -o "$work/test" test.c stereo.c $parts || exit 1
 played=0
 
 # play NAME: $work/log through both programs.
 play() {
-    "$work/arbiter2" <"$work/log" >"$work/checked" && ./arbiter2 <"$work/log" >"$work/plain" &&
+    "$work/arbiter2" --display <"$work/log" >"$work/checked" && ./arbiter2 --display <"$work/log" >"$work/plain" &&
         cmp "$work/checked" "$work/plain" || { echo "FAILED: $1"; exit 1; }
     played=$((played + 1))
 }
 
 "$work/test" || exit 1
+"$work/generate" 1 2000 display 8 >"$work/log" && "$work/recount" 8 1 <"$work/log" || exit 1
 seed=0
 while [ $seed -lt "$SEEDS" ]; do
     seed=$((seed + 1))
     for style in mix locks nowait queues full aborts precedences refusals malformed lists bytes ties cuts cycles desks opens keys \
-        many-locks many-steals many-entries many-waiting; do
+        many-locks many-steals many-entries many-waiting display; do
         "$work/generate" $seed 2000 $style >"$work/log" || exit 1
         ./generate $seed 2000 $style | cmp - "$work/log" || exit 1
         play "style $style, seed $seed"

@@ -1,6 +1,6 @@
 /* Tests of the arbiter's C functions: the marked examples M1 to M14, what a log cannot
-   reach (refusals 1, 5 and 8, states not settled) and the sound test; then the two events, the two desks and the
-   stereo lists. */
+   reach (refusals 1, 5 and 8, states not settled) and the sound test; then the two events, the two desks, the wall
+   display and the stereo lists. */
 #include "arbiter.h"
 #include "stereo.h"
 
@@ -21,6 +21,7 @@ static void check(int holds, const char *what)
 
 static struct Reply record[REQUESTS + 1];
 static struct Replies replies = {.record = record, .capacity = REQUESTS};
+static struct Display shown;                /* corrected by every call, whatever the state */
 
 static size_t told(void)
 {
@@ -43,7 +44,7 @@ static struct Answer call_from(unsigned desk, struct Arbiter *a, unsigned operat
     f.key = (uint16_t)key;
     f.length = (uint8_t)strlen(list);
     memcpy(f.combination, list, f.length);
-    return arbiter_call(a, &f, &replies);
+    return arbiter_call_shown(a, &shown, &f, &replies);
 }
 
 /* The same of the desk that has the id. */
@@ -947,6 +948,337 @@ static void test_apart(void)
     }
 }
 
+/* ---- The wall display: request #110 ---- */
+
+/* The two numbers of each of the first four channels, channel 0 first. */
+static int numbers(const char *writes, const char *naming)
+{
+    return memcmp(shown.writes, writes, 4) == 0 && memcmp(shown.naming, naming, 4) == 0;
+}
+
+/* Two writes on channel 0 and three on channel 1 of key 5 at precedence 1, one on channel 2 of key 6 at 2. Nobody waits. */
+static void writing_state(struct Arbiter *a)
+{
+    memset(&shown, 0, sizeof shown);
+    arbiter_fresh(a, 4);
+    call(a, CALL_OPEN, 0, 0, 0, 1, 5, "\3");
+    call(a, CALL_OPEN, 0, 0, 0, 2, 6, "\4");
+    for (unsigned id = 0; id < 6; id++)
+        call(a, CMD_WRITE, id, 0, id < 2 ? 1 : id < 5 ? 2 : 4, 0, id < 5 ? 5 : 6, "");
+}
+
+/* "Each channel's number of writes": the whole queue, however one of them joins or ends. */
+static void test_shown_writes(void)
+{
+    static const struct {
+        unsigned operation, id, flags, map;
+        int precedence;
+        unsigned key;
+        const char *list, *writes, *what;
+    } ends[] = {
+        {CALL_CYCLE_ENDED, 0, 0, 1, 0, 0, "", "\1\3\1", "F3: the last cycle"},
+        {CALL_GAVE_UP, 0, 0, 2, 0, 0, "", "\2\2\1", "F4"},
+        {ADCMD_FINISH, 9, 0, 3, 0, 5, "", "\1\2\1", "FINISH of two channels"},
+        {ADCMD_FINISH, 9, ADIOF_SYNCCYCLE, 3, 0, 5, "", "\2\3\1", "a synced FINISH ends none"},
+        {CMD_FLUSH, 9, 0, 2, 0, 5, "", "\2\0\1", "FLUSH"},
+        {CMD_RESET, 9, 0, 3, 0, 5, "", "\0\0\1", "RESET"},
+        {ADCMD_FREE, 9, 0, 7, 0, 5, "", "\0\0\1", "FREE, and not of another's"},
+        {CALL_CLOSE, 0, 0, 0, 0, 5, "", "\0\0\1", "CLOSE"},
+        {CALL_ABORT, 2, 0, 0, 0, 0, "", "\2\2\1", "ABORT of a front write"},
+        {CALL_ABORT, 4, 0, 0, 0, 0, "", "\2\2\1", "ABORT of a write behind it"},
+        {CALL_ABORT, 9, 0, 0, 0, 0, "", "\2\3\1", "ABORT of an idle id"},
+        {ADCMD_ALLOCATE, 9, 0, 0, 5, 7, "\5", "\0\3\0", "a steal"},
+        {CALL_OPEN, 0, 0, 0, 5, 7, "\6", "\2\0\0", "a steal by OPEN"},
+        {CALL_OPEN, 0, 0, 0, 1, 7, "\6", "\2\3\1", "an OPEN that fails"},
+        {CMD_WRITE, 9, 0, 6, 0, 5, "", "\2\4\1", "WRITE: the lowest bit"},
+        {CMD_WRITE, 9, 0, 4, 0, 5, "", "\2\3\1", "WRITE: -10"},
+        {CMD_WRITE, 0, 0, 1, 0, 5, "", "\2\3\1", "WRITE: 3"},
+        {CMD_STOP, 9, 0, 3, 0, 5, "", "\2\3\1", "STOP keeps them"},
+        {ADCMD_WAITCYCLE, 9, 0, 1, 0, 5, "", "\2\3\1", "a WAITCYCLE is no write"},
+        {ADCMD_LOCK, 9, 0, 1, 0, 5, "", "\2\3\1", "nor is a LOCK"}
+    };
+    struct Arbiter a;
+
+    for (size_t i = 0; i < sizeof ends / sizeof *ends; i++) {
+        writing_state(&a);
+        check(numbers("\2\3\1", "\0\0\0"), "writes joined");
+        call(&a, ends[i].operation, ends[i].id, ends[i].flags, ends[i].map, ends[i].precedence, ends[i].key, ends[i].list);
+        check(numbers(ends[i].writes, "\0\0\0"), ends[i].what);
+    }
+    /* Settling's grant ends writes too: the request waits at 1 for channel 0, which is then lowered. */
+    writing_state(&a);
+    call(&a, ADCMD_ALLOCATE, 9, 0, 0, 1, 7, "\1");
+    check(numbers("\2\3\1", "\1\0\0"), "it waits");
+    call(&a, ADCMD_SETPREC, 10, 0, 1, 0, 5, "");
+    check(numbers("\0\3\1", "\0\0\0"), "granted by settling: its writes and its waiting end");
+    /* A cycle that is not the last. */
+    writing_state(&a);
+    a.request[0].cycles = 2;
+    call(&a, CALL_CYCLE_ENDED, 0, 0, 1, 0, 0, "");
+    check(numbers("\2\3\1", "\0\0\0"), "F3: a cycle is left");
+    call(&a, ADCMD_FINISH, 9, ADIOF_SYNCCYCLE, 2, 0, 5, "");
+    call(&a, CALL_CYCLE_ENDED, 0, 0, 2, 0, 0, "");
+    check(numbers("\2\2\1", "\0\0\0"), "F3: a remembered FINISH");
+}
+
+/* Reading 41: a request counts once for a channel, however many of its combinations name it. */
+static void test_shown_naming(void)
+{
+    struct Arbiter a, b;
+    struct Display kept;
+
+    memset(&shown, 0, sizeof shown);
+    arbiter_fresh(&a, 4);
+    call(&a, CALL_OPEN, 0, 0, 0, 9, 5, "\17");
+    call(&a, ADCMD_ALLOCATE, 1, 0, 0, 1, 0, "\1\3\1\5\3");
+    check(numbers("\0\0\0\0", "\1\1\1\0"), "named once, twice and five times: one");
+    call(&a, ADCMD_ALLOCATE, 40, 0, 0, 2, 0, "\14\4");
+    check(numbers("\0\0\0\0", "\1\1\2\1"), "two requests name channel 2");
+    call(&a, ADCMD_ALLOCATE, 2, ADIOF_NOWAIT, 0, 2, 0, "\17");
+    check(numbers("\0\0\0\0", "\1\1\2\1"), "one that fails with NOWAIT does not wait");
+    call(&a, CALL_OPEN, 0, 0, 0, 2, 0, "\17");
+    check(numbers("\0\0\0\0", "\1\1\2\1"), "nor does an OPEN");
+    call(&a, ADCMD_ALLOCATE, 1, 0, 0, 2, 0, "\17");
+    check(numbers("\0\0\0\0", "\1\1\2\1"), "nor one whose id is outstanding");
+    b = a;
+    kept = shown;
+    call(&a, CALL_ABORT, 1, 0, 0, 0, 0, "");
+    check(numbers("\0\0\0\0", "\0\0\1\1"), "ABORT");
+    a = b;
+    shown = kept;
+    call(&a, CALL_CLOSE, 0, 0, 0, 0, 5, "");
+    check(a.waiting.count == 0 && numbers("\0\0\0\0", "\0\0\0\0"), "both granted by one CLOSE");
+    /* Held with NOWAIT, then failing: dropped. */
+    a = b;
+    shown = kept;
+    call(&a, ADCMD_LOCK, 3, 0, 8, 0, 5, "");
+    call(&a, ADCMD_ALLOCATE, 4, ADIOF_NOWAIT, 0, 20, 0, "\10\11");
+    check(numbers("\0\0\0\0", "\2\1\2\2"), "held");
+    call(&a, ADCMD_SETPREC, 3, 0, 9, 20, 5, "");
+    check(numbers("\0\0\0\0", "\1\1\2\1") && a.request[4].command == 0, "dropped");
+    /* Combination 0 names nothing; an empty list does not wait. */
+    call(&a, ADCMD_ALLOCATE, 3, 0, 0, 2, 0, "");
+    check(numbers("\0\0\0\0", "\1\1\2\1"), "the empty list");
+    /* The numbers of channels behind the board are nobody's. */
+    for (unsigned c = 4; c < MOST_CHANNELS; c++)
+        check(shown.writes[c] == 0 && shown.naming[c] == 0, "behind four channels");
+    arbiter_fresh(&a, 8);
+    memset(&shown, 0, sizeof shown);
+    call(&a, CALL_OPEN, 0, 0, 0, 9, 5, "\377");
+    call(&a, ADCMD_ALLOCATE, 1, 0, 0, 1, 0, "\201\200");
+    call(&a, CMD_WRITE, 2, 0, 0x80, 0, 5, "");
+    check(shown.naming[0] == 1 && shown.naming[7] == 1 && shown.naming[6] == 0 && shown.writes[7] == 1, "the eighth channel");
+}
+
+/* "Where they agreed with a count"; where they did not, the same steps, modulo 256, and no call is refused for them. */
+static void test_shown_wrong(void)
+{
+    struct Arbiter a, b;
+
+    writing_state(&a);
+    b = a;
+    memset(&shown, 0xFF, sizeof shown);
+    check(same_answer(call(&a, CMD_WRITE, 9, 0, 1, 0, 5, ""), 1, 0, 0, 5, 255) && shown.writes[0] == 0, "255 and one are 0");
+    check(shown.writes[1] == 255 && shown.writes[7] == 255 && shown.naming[0] == 255, "the others stay");
+    check(same_answer(call(&a, ADCMD_ALLOCATE, 10, 0, 0, 0, 7, "\3"), 1, 0, 0, 7, 255)
+          && shown.naming[0] == 0 && shown.naming[1] == 0 && shown.naming[2] == 255 && shown.looks == 1, "the same of naming");
+    memset(&shown, 0, sizeof shown);
+    call(&b, CMD_FLUSH, 9, 0, 3, 0, 5, "");
+    check(shown.writes[0] == 254 && shown.writes[1] == 253 && shown.writes[2] == 0, "0 less two is 254");
+    call(&a, CALL_ABORT, 10, 0, 0, 0, 0, "");
+    check(shown.naming[0] == 255 && shown.naming[1] == 255, "0 less one is 255");
+    /* Without a display the call is the same. */
+    b = a;
+    call(&a, CALL_CLOSE, 0, 0, 0, 0, 5, "");
+    {
+        struct Frame f = {DESK_A, CALL_CLOSE, 0, 0, 0, 0, 5, 0, {0}};
+        struct Display kept = shown;
+
+        arbiter_call(&b, &f, &replies);
+        check(memcmp(&a, &b, sizeof a) == 0 && memcmp(&kept, &shown, sizeof kept) == 0, "no numbers, the same state");
+    }
+}
+
+/* A call, and the looks after it. */
+static int looks_after(struct Arbiter *a, unsigned operation, unsigned id, unsigned flags, unsigned map, int precedence,
+                       unsigned key, const char *list, unsigned looks)
+{
+    call(a, operation, id, flags, map, precedence, key, list);
+    return shown.looks == looks;
+}
+
+/* Reading 42: what leaves the number, and what sets it. */
+static void test_looks_left(void)
+{
+    struct Arbiter a, b;
+
+    memset(&shown, 0, sizeof shown);
+    arbiter_fresh(&a, 4);
+    shown.looks = 777;
+    check(looks_after(&a, CMD_CLEAR, 0, 0, 0, 0, 5, "", 777), "2 leaves the looks");
+    check(looks_after(&a, CALL_CLOSE, 0, 0, 0, 0, 5, "", 777), "CLOSE's 2");
+    check(looks_after(&a, CALL_CYCLE_ENDED, 0, 0, 16, 0, 5, "", 777), "-5 of an event");
+    check(looks_after(&a, CALL_OPEN, 0, 0, 0, 9, 5, "\17", 0), "settled with nobody waiting: 0");
+    for (unsigned id = 1; id < 4; id++)
+        check(looks_after(&a, ADCMD_ALLOCATE, id, 0, 0, 3, 6, "\1", id), "the one that joins is looked at too");
+    call(&a, ADCMD_LOCK, 5, 0, 8, 0, 5, "");
+    b = a;
+    shown.looks = 777;
+    check(looks_after(&b, CMD_CLEAR, 64, 0, 0, 0, 5, "", 777), "4");
+    call_from(DESK_B, &b, CMD_CLEAR, 0, 0, 0, 0, 5, "");
+    check(shown.looks == 777, "8");
+    check(looks_after(&b, CMD_CLEAR, 1, 0, 0, 0, 5, "", 777), "3");
+    check(looks_after(&b, 15, 0, 0, 0, 0, 5, "", 777), "-3");
+    check(looks_after(&b, CMD_WRITE, 0, 0, 1, 0, 5, "\1", 777), "-4 of a WRITE");
+    check(looks_after(&b, ADCMD_ALLOCATE, 0, 0, 0, 0, 5, "\1\1\1\1\1\1\1\1\1\1\1\1\1\1\1\1\1", 777), "-4 of an ALLOCATE");
+    check(looks_after(&b, CMD_CLEAR, 0, 0, 16, 0, 5, "", 777), "-5");
+    check(looks_after(&b, CALL_OPEN, 0, 0, 0, 3, 5, "\1", 777), "OPEN's -11");
+    check(looks_after(&b, CALL_OPEN, 0, 0, 0, 30, 5, "\10", 777), "OPEN's -11, held");
+    while (b.open.count < MOST_OPENS)
+        enter(&b, 5);
+    check(looks_after(&b, CALL_OPEN, 0, 0, 0, 0, 5, "", 777), "-1");
+    replies.capacity = REQUESTS - 1;
+    check(looks_after(&b, CMD_CLEAR, 0, 0, 0, 0, 5, "", 777), "5");
+    replies.capacity = REQUESTS;
+    b.channel[0].locked = 2;
+    check(looks_after(&b, CMD_CLEAR, 0, 0, 0, 0, 5, "", 777), "1");
+    b = a;
+    check(looks_after(&b, CMD_CLEAR, 0, 0, 1, 0, 7, "", 3), "-10 settles");
+    shown.looks = 777;
+    check(looks_after(&b, ADCMD_ALLOCATE, 0, ADIOF_NOWAIT, 0, 3, 5, "\1", 3), "ALLOCATE's -11 settles");
+    shown.looks = 777;
+    check(looks_after(&b, CALL_ABORT, 0, 0, 0, 0, 5, "", 3), "not aborted settles");
+    shown.looks = 777;
+    check(looks_after(&b, CALL_CYCLE_ENDED, 0, 0, 0, 0, 5, "", 3), "an event of map 0 settles");
+    check(looks_after(&b, CALL_ABORT, 2, 0, 0, 0, 5, "", 2), "the aborted one is no longer looked at");
+    check(looks_after(&b, CALL_CLOSE, 0, 0, 0, 0, 5, "", 2), "one granted, then the other, which fails");
+}
+
+/* "Walk from the head ... Granted: grant, reply, remove, and start again at the head." */
+static void test_looks_walks(void)
+{
+    struct Arbiter a, b;
+
+    /* Channel 0 at 100, channel 1 free; three wait: the second can be granted. */
+    arbiter_fresh(&a, 4);
+    enter(&a, 5);
+    a.channel[0].key = 5;
+    a.channel[0].precedence = 100;
+    put_waiting(&a, 1, 9, 7, 0, 1);
+    b = a;
+    put_waiting(&a, 2, 8, 7, 0, 2);
+    put_waiting(&a, 40, 7, 7, 0, 1);
+    check(looks_after(&a, CMD_CLEAR, 10, 0, 0, 0, 5, "", 4), "two, then two from the head");
+    /* The same, the first with NOWAIT: it is dropped, and not met again. */
+    a = b;
+    a.request[1].nowait = 1;
+    put_waiting(&a, 2, 8, 7, 0, 2);
+    put_waiting(&a, 40, 7, 7, 0, 1);
+    check(looks_after(&a, CMD_CLEAR, 10, 0, 0, 0, 5, "", 3) && told() == 3, "a dropped one is a look");
+    /* One alone, granted: then a walk over nobody. */
+    arbiter_fresh(&a, 4);
+    enter(&a, 5);
+    put_waiting(&a, 1, 9, 7, 0, 1);
+    check(looks_after(&a, CMD_CLEAR, 10, 0, 0, 0, 5, "", 1), "w is 1: w(w+1)/2");
+    a = b;
+    put_waiting(&a, 2, 8, 7, 0, 2);
+    check(looks_after(&a, CMD_CLEAR, 10, 0, 0, 0, 5, "", 3), "w is 2: w(w+1)/2");
+    /* The bound at three. The second is held by the lock on channel 2, at 3; channel 3 is at 5. The third takes channel 1, and
+       now the second's first combination is the dearer: it takes channel 3. */
+    a = b;
+    a.channel[2].key = a.channel[3].key = 6;
+    a.channel[2].precedence = 3;
+    a.channel[2].locked = 1;
+    a.channel[3].precedence = 5;
+    put_waiting(&a, 2, 8, 7, 0, 6);
+    a.request[2].length = 2;
+    a.request[2].combination[1] = 8;
+    put_waiting(&a, 3, 7, 7, 0, 2);
+    check(looks_after(&a, CMD_CLEAR, 10, IOF_QUICK, 0, 0, 5, "", 6) && told() == 2 && same_reply(0, 3, ADCMD_ALLOCATE, 0, 2, 7)
+          && same_reply(1, 2, ADCMD_ALLOCATE, 0, 8, 7), "w is 3: w(w+1)/2");
+}
+
+/* 64 wait on eight channels, of them 57 for channel 0 at 100. The others stand last and take a free channel each: seven walks
+   of 58, and one of 57. */
+static void test_looks_many(void)
+{
+    struct Arbiter a;
+    struct Waiting w[REQUESTS];
+    size_t count;
+
+    arbiter_fresh(&a, 8);
+    enter(&a, 5);
+    a.channel[0].key = 5;
+    a.channel[0].precedence = 100;
+    for (unsigned id = 0; id < REQUESTS; id++)
+        put_waiting(&a, id, id < 57 ? 9 : 8, 7, 0, id < 57 ? 1 : 2u << (id - 57));
+    check(arbiter_sound(&a) && arbiter_waiting(&a, w, REQUESTS, &count) == 0 && count == 64, "64 records");
+    check(looks_after(&a, CALL_CYCLE_ENDED, 0, 0, 0, 0, 0, "", 463) && a.waiting.count == 57, "463 looks");
+    check(looks_after(&a, CMD_CLEAR, 63, 0, 0, 0, 5, "", 57), "then 57");
+}
+
+/* A record's fields. */
+static int same_record(const struct Waiting *w, unsigned id, int precedence, unsigned held, unsigned desk)
+{
+    return w->id == id && w->precedence == precedence && w->held == held && w->desk == desk;
+}
+
+/* Reading 43, and the list's refusals. */
+static void test_records(void)
+{
+    struct Waiting w[REQUESTS + 1], untouched;
+    struct Arbiter a, b;
+    size_t count = 9;
+
+    memset(w, 0x55, sizeof w);
+    memset(&untouched, 0x55, sizeof untouched);
+    arbiter_fresh(&a, 4);
+    check(arbiter_waiting(&a, w, REQUESTS, &count) == 0 && count == 0 && w[0].id == 0x55, "nobody waits");
+    enter(&a, 5);
+    call(&a, ADCMD_ALLOCATE, 0, IOF_QUICK, 0, 3, 5, "\3");
+    call(&a, ADCMD_LOCK, 1, 0, 1, 0, 5, "");
+    call(&a, ADCMD_ALLOCATE, 32, 0, 0, 5, 0, "\1");
+    call(&a, ADCMD_ALLOCATE, 31, 0, 0, 3, 0, "\2");
+    call(&a, ADCMD_ALLOCATE, 2, 0, 0, 5, 0, "\1");
+    call(&a, ADCMD_ALLOCATE, 63, 0, 0, -128, 0, "\3");
+    check(arbiter_waiting(&a, w, REQUESTS, &count) == 0 && count == 4 && same_record(&w[0], 32, 5, 1, 1)
+          && same_record(&w[1], 2, 5, 1, 0) && same_record(&w[2], 31, 3, 0, 0) && same_record(&w[3], 63, -128, 0, 1),
+          "in order: highest first, then by arrival, both desks");
+    check(memcmp(&w[4], &untouched, sizeof untouched) == 0 && memcmp(&w[64], &untouched, sizeof untouched) == 0,
+          "records behind them are untouched");
+    /* The lock was replied -12, and the channel stays locked: held still. Raised to 5 it fails; lowered it is held again. */
+    check(a.locks.count == 0, "no lock is outstanding");
+    call(&a, ADCMD_SETPREC, 3, 0, 1, 5, 5, "");
+    check(arbiter_waiting(&a, w, REQUESTS, &count) == 0 && count == 4 && !w[0].held && !w[1].held, "held no more: it fails");
+    call(&a, ADCMD_SETPREC, 3, 0, 1, 4, 5, "");
+    check(arbiter_waiting(&a, w, REQUESTS, &count) == 0 && w[0].held && w[1].held && !w[2].held, "held again");
+    /* A state that is not at rest: one that could be granted is not held. */
+    b = a;
+    b.channel[0].locked = 0;
+    check(arbiter_waiting(&b, w, REQUESTS, &count) == 0 && count == 4 && !w[0].held && !w[1].held, "could be granted: not held");
+    /* The choice, and not any combination: the cheaper one is locked. */
+    b = a;
+    b.request[31].length = 2;
+    b.request[31].precedence = b.request[2].precedence = 5;
+    b.request[31].combination[0] = 2;
+    b.request[31].combination[1] = 1;
+    check(arbiter_sound(&b) && arbiter_waiting(&b, w, REQUESTS, &count) == 0 && w[2].id == 31 && !w[2].held,
+          "chosen is channel 1, at 3, and not the locked one at 4");
+    b.channel[1].precedence = 4;
+    b.request[31].combination[0] = 1;
+    b.request[31].combination[1] = 2;
+    check(arbiter_waiting(&b, w, REQUESTS, &count) == 0 && w[2].held, "chosen is the locked one, the earliest");
+    /* 1, then 5; nothing is written. */
+    memset(w, 0x55, sizeof w);
+    count = 9;
+    check(arbiter_waiting(&a, w, REQUESTS - 1, &count) == 5 && count == 0 && w[0].id == 0x55, "63 records: 5");
+    count = 9;
+    check(arbiter_waiting(&a, NULL, 0, &count) == 5 && count == 0, "none: 5");
+    a.channel[3].stopped = 1;
+    count = 9;
+    check(arbiter_waiting(&a, w, REQUESTS - 1, &count) == 1 && count == 0 && w[0].id == 0x55, "1 before 5");
+}
+
 /* ---- Stereo: request #108 ---- */
 
 /* The maker writes just this list, and the checker accepts it. */
@@ -1058,6 +1390,13 @@ int main(void)
     test_halves();
     test_passed_keys();
     test_apart();
+    test_shown_writes();
+    test_shown_naming();
+    test_shown_wrong();
+    test_looks_left();
+    test_looks_walks();
+    test_looks_many();
+    test_records();
     test_stereo();
     printf("test.c: %d passed, %d failed\n", passed, failed);
     return failed != 0;

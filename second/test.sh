@@ -8,14 +8,16 @@ trap 'rm -rf "$work"' EXIT
 passed=0
 failed=0
 
-# check NAME: plays $work/log and compares the output with $work/expected.
+# check NAME [OPTION..]: plays $work/log with these options and compares the output with $work/expected.
 check() {
-    ./arbiter2 <"$work/log" >"$work/got"
+    name=$1
+    shift
+    ./arbiter2 "$@" <"$work/log" >"$work/got"
     if [ $? -eq 0 ] && cmp -s "$work/got" "$work/expected"; then
         passed=$((passed + 1))
     else
         failed=$((failed + 1))
-        echo "FAILED: $1"
+        echo "FAILED: $name"
         diff "$work/expected" "$work/got" | head -20
     fi
 }
@@ -26,11 +28,42 @@ check "sample.log"
 
 # A case has document 01's two columns: a line with text at its start is a frame and its
 # first output; an indented one is more output; # is a remark.
+read_case() {
+    awk '/^[^# ]/ { print $1 }' "$1" >"$work/log"
+    awk '/^[^# ]/ { print $2 } /^ / { print $1 }' "$1" >"$work/expected"
+}
 for case in cases/*.txt; do
-    awk '/^[^# ]/ { print $1 }' "$case" >"$work/log"
-    awk '/^[^# ]/ { print $2 } /^ / { print $1 }' "$case" >"$work/expected"
+    read_case "$case"
     check "$case"
 done
+
+# The wall display, on each board; then the options in any order, and the channels between the answer and the display.
+read_case cases/display/eight.txt
+check "cases/display/eight.txt" --display --channels 8
+check "the board first" --channels 8 --display
+read_case cases/display/four.txt
+check "cases/display/four.txt" --display
+./arbiter2 --show <"$work/log" >"$work/channels"
+awk -v channels="$work/channels" '
+    /^E0/ { while ((getline line < channels) > 0 && line !~ /^B0/); print line; for (i = 1; i < 4; i++) { getline line < channels; print line } }
+    { print }' "$work/expected" >"$work/both"
+mv "$work/both" "$work/expected"
+check "the channels, then the display" --show --channels 4 --display
+check "the same, asked for in another order" --display --show
+for wrong in "--display 4" "--displays" "--channels --display"; do
+    if ./arbiter2 $wrong <"$work/log" >"$work/got" 2>"$work/said" || [ $? -ne 2 ] || [ -s "$work/got" ] || ! [ -s "$work/said" ]; then
+        failed=$((failed + 1))
+        echo "FAILED: arbiter2 $wrong is no option"
+    else
+        passed=$((passed + 1))
+    fi
+done
+if ./arbiter2 --help </dev/null | grep -q -e --display; then
+    passed=$((passed + 1))
+else
+    failed=$((failed + 1))
+    echo "FAILED: --help tells of --display"
+fi
 
 # Old logs: without F4 and the commands 11, 12 and 14, with every WRITE of n 0 and with the ids of one desk, the output is that of
 # before request #101.
@@ -159,6 +192,16 @@ cuts_agree() {
             ./cut $seed <"$work/log" | cmp - "$work/one" || return
         done
     done
+    # At its end the wall display shows the same, too.
+    for board in 4 8; do
+        for seed in 1 2 3 4; do
+            ./generate $seed 300 display $board >"$work/log"
+            ./arbiter2 --channels $board <"$work/log" >"$work/one"
+            ./arbiter2 --channels $board --display <"$work/log" |
+                awk '/^E0/ { last = "" } /^E/ { last = last $0 "\n" } END { printf "%s", last }' >>"$work/one"
+            ./cut $seed $board display <"$work/log" | cmp - "$work/one" || return
+        done
+    done
 }
 if cuts_agree; then
     passed=$((passed + 1))
@@ -166,6 +209,26 @@ else
     failed=$((failed + 1))
     echo "FAILED: a log in fragments is answered otherwise than in one"
 fi
+
+# The wall display: in every style, on both boards, the kept numbers are those of a count, from a fresh device; and from any numbers,
+# on states that are not at rest, they stay as far from it as they were. recount.c has the rest of what it tries.
+for style in mix locks nowait queues full aborts precedences refusals lists bytes ties cuts cycles desks opens many-steals many-waiting \
+    display; do
+    for board in 4 8; do
+        wrong=
+        for seed in 1 2 3; do
+            ./generate $seed 600 $style $board >"$work/log"
+            ./recount $board <"$work/log" || wrong=fresh
+            ./recount $board $seed <"$work/log" || wrong="seed $seed"
+        done
+        if [ -z "$wrong" ]; then
+            passed=$((passed + 1))
+        else
+            failed=$((failed + 1))
+            echo "FAILED: the numbers of style $style on $board channels, $wrong"
+        fi
+    done
+done
 
 echo "test.sh: $passed passed, $failed failed"
 [ $failed -eq 0 ]

@@ -6,6 +6,7 @@
 
 static uint8_t state[QAMHUDEER_STATE_SIZE];
 static uint8_t table[QAMHUDEER_TABLE_SIZE];
+static uint8_t display[QAMHUDEER_DISPLAY_SIZE];
 static uint8_t replies[QAMHUDEER_REPLIES_SIZE];
 static uint8_t answer[QAMHUDEER_ANSWER_SIZE];
 
@@ -25,8 +26,8 @@ static void call(const char *what, uint8_t desk, uint8_t op, uint8_t id, uint8_t
 {
     size_t i;
 
-    qamhudeer_call(desk, op, id, 0, map, prec, key, pairs, combos, state, sizeof state, table, sizeof table, replies, sizeof replies,
-                   answer, sizeof answer);
+    qamhudeer_call(desk, op, id, 0, map, prec, key, pairs, combos, state, sizeof state, table, sizeof table, display,
+                   sizeof display, replies, sizeof replies, answer, sizeof answer);
     tell(what, answer, sizeof answer);
     for (i = 0; i < answer[QAMHUDEER_ANSWER_REPLIES_A]; i++)
         tell("  to A", replies + i * QAMHUDEER_REPLY_SIZE, QAMHUDEER_REPLY_SIZE);
@@ -36,7 +37,8 @@ static void call(const char *what, uint8_t desk, uint8_t op, uint8_t id, uint8_t
 
 int main(void)
 {
-    if (qamhudeer_fresh(4, state, sizeof state, table, sizeof table) != 0 || qamhudeer_state_size() != sizeof state ||
+    if (qamhudeer_fresh(4, state, sizeof state, table, sizeof table, display, sizeof display) != 0 ||
+        qamhudeer_state_size() != sizeof state ||
         qamhudeer_answer_size() != sizeof answer)
         return 1;
     call("OPEN", QAMHUDEER_DESK_A, QAMHUDEER_OPEN, 0, 0, 0, 0, 0);

@@ -3,7 +3,7 @@
  * The log's frames lead through good states. Each frame is called on the good state, and TRIES times more on a copy whose state,
  * table, numbers or lengths are damaged. What must come back is worked out from the second program: the bytes are translated into
  * its struct; where its test calls that sound, its call decides the answer, the replies, the next state and table; otherwise the
- * answer is 1 and nothing else has moved. Every byte is compared, with the bytes before and behind each piece of memory, beyond
+ * answer is 1 and nothing else has moved. So of the display, and of the list of who waits. Every byte is compared, with the bytes before and behind each piece of memory, beyond
  * which lie pages that can be neither read nor written. The same seed, tries and log give the same calls on every machine.
  *
  * At a difference it says which byte, shows the call and ends with status 1. Otherwise it writes a line for each count. */
@@ -15,8 +15,8 @@
 #include "states.h"
 
 /* What is handed to a call; or, after it, what the lent memory holds. */
-enum Piece { COMBOS, STATE, TABLE, REPLIES, ANSWER, PIECES };
-static const char *const piece_name[PIECES] = {"combinations", "state", "table", "replies", "answer"};
+enum Piece { COMBOS, STATE, TABLE, DISPLAY, REPLIES, ANSWER, RECORDS, PIECES };
+static const char *const piece_name[PIECES] = {"combinations", "state", "table", "display", "replies", "answer", "records"};
 
 struct Call {
     uint8_t desk, op, id, flags, map, prec;
@@ -28,12 +28,14 @@ struct Call {
 
 enum Count {
     CALLS, SOUND, ACCEPTED, REFUSED, DAMAGED_SOUND, UNSOUND, UNDECODED, UNANSWERED, REPLIED, TO_BOTH, FROM_A, FROM_B, FROM_NO_DESK,
-    OTHERS_READ, CYCLES, GIVEN_UP, FRESH, COUNTS
+    OTHERS_READ, CYCLES, GIVEN_UP, FRESH, OFF_COUNT, MANY_LOOKS, LISTS, LISTS_UNSOUND, LISTS_SHORT, LISTED, HELD, COUNTS
 };
 static const char *const count_name[COUNTS] = {
     "calls", "sound", "sound: accepted", "sound: refused", "sound: state or table was damaged", "not sound",
     "no state: a length or a mark", "no room for an answer", "replies", "replies to both desks", "accepted from A",
-    "accepted from B", "accepted from no desk", "READs of the other's write", "cycles ended", "writes given up", "fresh devices"
+    "accepted from B", "accepted from no desk", "READs of the other's write", "cycles ended", "writes given up", "fresh devices",
+    "numbers on the display that no count gives", "more looks than requests wait", "lists of who waits", "lists: not sound",
+    "lists: fewer than 64 records", "lists: requests told", "lists: held requests told"
 };
 static unsigned long count[COUNTS];
 static unsigned long answered[2][256], replied[256];        /* by error; answers: done, outstanding */
@@ -92,9 +94,10 @@ static size_t expected(struct Call *c)
     struct Replies replies = {.record = record, .capacity = c->piece[REPLIES].length / QAMHUDEER_REPLY_SIZE};
     struct Answer answer = {0, QAMHUDEER_UNSOUND, 0, 0, NO_ID};
     struct Arbiter a;
+    struct Display d;
     struct Frame f;
 
-    if (c->piece[ANSWER].length != QAMHUDEER_ANSWER_SIZE)
+    if (c->piece[ANSWER].length != QAMHUDEER_ANSWER_SIZE || c->piece[DISPLAY].length != QAMHUDEER_DISPLAY_SIZE)
         return QAMHUDEER_UNANSWERED;
     if (!is_sound(&c->piece[STATE], &c->piece[TABLE], &a)) {
         answer.key = c->key;
@@ -102,13 +105,15 @@ static size_t expected(struct Call *c)
         return 0;
     }
     read_frame(&f, c);
-    answer = arbiter_call(&a, &f, &replies);
+    read_display(&d, c->piece[DISPLAY].byte);
+    answer = arbiter_call_shown(&a, &d, &f, &replies);
     put_answer(c->piece[ANSWER].byte, &answer, &replies);
     for (size_t at = 0; at < REQUESTS; at++)
         if (at % HALF < replies.count[at / HALF])
             put_reply(c->piece[REPLIES].byte + at * QAMHUDEER_REPLY_SIZE, &record[at]);
     if (!refusal(answer.error))
         put_all(c->piece[STATE].byte, c->piece[TABLE].byte, &a);
+    put_display(c->piece[DISPLAY].byte, &d);
     return arbiter_replied(&replies);
 }
 
@@ -140,6 +145,26 @@ static int reads_others(const struct Call *before, const uint8_t *answer, const 
     return 0;
 }
 
+/* Some number on the display is not the count of it. */
+static int off_count(const struct Arbiter *a, const uint8_t *display)
+{
+    for (unsigned c = 0; c < MOST_CHANNELS; c++) {
+        unsigned naming = 0;
+
+        for (unsigned at = 0; at < a->waiting.count; at++) {
+            const struct Request *q = &a->request[a->waiting.id[at]];
+            unsigned named = 0;
+
+            for (unsigned i = 0; i < q->length; i++)
+                named |= q->combination[i];
+            naming += named >> c & 1;
+        }
+        if (display[QAMHUDEER_DISPLAY_WRITES(c)] != a->channel[c].writes.count || display[QAMHUDEER_DISPLAY_NAMING(c)] != naming)
+            return 1;
+    }
+    return 0;
+}
+
 static void tell_apart(const struct Call *before, const struct Call *after, size_t result, int damaged)
 {
     struct Arbiter a;
@@ -147,7 +172,7 @@ static void tell_apart(const struct Call *before, const struct Call *after, size
     uint8_t error = answer[QAMHUDEER_ANSWER_ERROR];
 
     count[CALLS]++;
-    if (before->piece[ANSWER].length != QAMHUDEER_ANSWER_SIZE) {
+    if (before->piece[ANSWER].length != QAMHUDEER_ANSWER_SIZE || before->piece[DISPLAY].length != QAMHUDEER_DISPLAY_SIZE) {
         count[UNANSWERED]++;
         return;
     }
@@ -166,6 +191,9 @@ static void tell_apart(const struct Call *before, const struct Call *after, size
             count[before->desk == DESK_A ? FROM_A : before->desk == DESK_B ? FROM_B : FROM_NO_DESK]++;
         }
         count[REPLIED] += (unsigned long)result;
+        count[OFF_COUNT] += (unsigned long)off_count(&a, before->piece[DISPLAY].byte);
+        count[MANY_LOOKS] += key_at(after->piece[DISPLAY].byte + QAMHUDEER_DISPLAY_LOOKS) > a.waiting.count + 1u
+            && memcmp(before->piece[DISPLAY].byte, after->piece[DISPLAY].byte, QAMHUDEER_DISPLAY_SIZE) != 0;
         count[TO_BOTH] += answer[QAMHUDEER_ANSWER_REPLIES_A] > 0 && answer[QAMHUDEER_ANSWER_REPLIES_B] > 0;
         count[OTHERS_READ] += (unsigned long)reads_others(before, answer, &a);
         count[CYCLES] += before->op == QAMHUDEER_CYCLE_ENDED && error == 0 && answer[QAMHUDEER_ANSWER_MAP] != 0;
@@ -190,8 +218,8 @@ static void make_call(struct Call *c, int damaged)
         lend(&lent[p], &before.piece[p]);
     result = qamhudeer_call(before.desk, before.op, before.id, before.flags, before.map, before.prec, before.key,
                             lent[COMBOS].at, lent[COMBOS].length, lent[STATE].at, lent[STATE].length,
-                            lent[TABLE].at, lent[TABLE].length, lent[REPLIES].at, lent[REPLIES].length,
-                            lent[ANSWER].at, lent[ANSWER].length);
+                            lent[TABLE].at, lent[TABLE].length, lent[DISPLAY].at, lent[DISPLAY].length,
+                            lent[REPLIES].at, lent[REPLIES].length, lent[ANSWER].at, lent[ANSWER].length);
     same = result == want;
     if (!same)
         printf("DIFFERENT: the result is %lu and must be %lu\n", (unsigned long)result, (unsigned long)want);
@@ -207,7 +235,7 @@ static void make_fresh(const struct Call *c, unsigned channels)
 {
     static struct Call after;
     int fits = (channels == 4 || channels == 8) && c->piece[STATE].length == QAMHUDEER_STATE_SIZE
-        && c->piece[TABLE].length == QAMHUDEER_TABLE_SIZE;
+        && c->piece[TABLE].length == QAMHUDEER_TABLE_SIZE && c->piece[DISPLAY].length == QAMHUDEER_DISPLAY_SIZE;
     uint8_t result;
     struct Arbiter a;
 
@@ -215,18 +243,73 @@ static void make_fresh(const struct Call *c, unsigned channels)
     if (fits) {
         arbiter_fresh(&a, channels);
         put_all(after.piece[STATE].byte, after.piece[TABLE].byte, &a);
+        memset(after.piece[DISPLAY].byte, 0, QAMHUDEER_DISPLAY_SIZE);
     }
-    lend(&lent[STATE], &c->piece[STATE]);
-    lend(&lent[TABLE], &c->piece[TABLE]);
-    result = qamhudeer_fresh((uint8_t)channels, lent[STATE].at, lent[STATE].length, lent[TABLE].at, lent[TABLE].length);
+    for (unsigned p = STATE; p <= DISPLAY; p++)
+        lend(&lent[p], &c->piece[p]);
+    result = qamhudeer_fresh((uint8_t)channels, lent[STATE].at, lent[STATE].length, lent[TABLE].at, lent[TABLE].length,
+                             lent[DISPLAY].at, lent[DISPLAY].length);
     count[FRESH]++;
     if (result != !fits) {
         printf("DIFFERENT: a fresh device returns %u\n", result);
         different(c);
     }
-    for (unsigned p = STATE; p <= TABLE; p++)
+    for (unsigned p = STATE; p <= DISPLAY; p++)
         if (!lent_same(&lent[p], &after.piece[p], piece_name[p]))
             different(c);
+}
+
+/* The list of who waits must become this, and so must the number returned. */
+static unsigned expected_list(struct Call *c, size_t *told)
+{
+    struct Waiting record[REQUESTS];
+    struct Arbiter a;
+    uint8_t *b = c->piece[RECORDS].byte;
+    unsigned result;
+
+    *told = 0;
+    if (!is_sound(&c->piece[STATE], &c->piece[TABLE], &a))
+        return QAMHUDEER_UNSOUND;
+    result = (unsigned)arbiter_waiting(&a, record, c->piece[RECORDS].length / QAMHUDEER_RECORD_SIZE, told);
+    for (size_t at = 0; at < *told; at++) {
+        b[QAMHUDEER_RECORD_SIZE * at + QAMHUDEER_RECORD_ID] = record[at].id;
+        b[QAMHUDEER_RECORD_SIZE * at + QAMHUDEER_RECORD_PRECEDENCE] = (uint8_t)record[at].precedence;
+        b[QAMHUDEER_RECORD_SIZE * at + QAMHUDEER_RECORD_HELD] = record[at].held;
+        b[QAMHUDEER_RECORD_SIZE * at + QAMHUDEER_RECORD_DESK] = record[at].desk;
+        count[HELD] += record[at].held;
+    }
+    return result;
+}
+
+/* Who waits, told into a list of any length. */
+static void make_list(const struct Call *c)
+{
+    static struct Call after;
+    size_t told, want_told;
+    unsigned result, want;
+    int same;
+
+    after = *c;
+    told = below(100);
+    want = expected_list(&after, &want_told);
+    lend(&lent[STATE], &c->piece[STATE]);
+    lend(&lent[TABLE], &c->piece[TABLE]);
+    lend(&lent[RECORDS], &c->piece[RECORDS]);
+    result = qamhudeer_waiting(lent[STATE].at, lent[STATE].length, lent[TABLE].at, lent[TABLE].length, lent[RECORDS].at,
+                               lent[RECORDS].length, &told);
+    same = result == want && told == want_told;
+    if (!same)
+        printf("DIFFERENT: the list returns %u and tells %lu, and must return %u and tell %lu\n", result, (unsigned long)told, want,
+               (unsigned long)want_told);
+    same &= lent_same(&lent[STATE], &after.piece[STATE], piece_name[STATE]);
+    same &= lent_same(&lent[TABLE], &after.piece[TABLE], piece_name[TABLE]);
+    same &= lent_same(&lent[RECORDS], &after.piece[RECORDS], piece_name[RECORDS]);
+    if (!same)
+        different(c);
+    count[LISTS]++;
+    count[LISTS_UNSOUND] += result == QAMHUDEER_UNSOUND;
+    count[LISTS_SHORT] += result == QAMHUDEER_NOROOM;
+    count[LISTED] += (unsigned long)told;
 }
 
 /* ---- Damage */
@@ -235,9 +318,13 @@ static void damage_length(struct Call *c)
 {
     /* Beside 16, and beside what fits a byte: 257 are not 1. */
     static const uint16_t lists[8] = {0, 16, 17, 255, 256, 257, 272, 1024};
-    unsigned odds = below(8), pick = below(8);
+    unsigned odds = below(10), pick = below(8);
 
-    if (odds < 3)
+    if (odds == 8)
+        stretch(&c->piece[DISPLAY], any_length(QAMHUDEER_DISPLAY_SIZE) % 64);
+    else if (odds == 9)
+        stretch(&c->piece[RECORDS], percent(50) ? any_length(QAMHUDEER_RECORDS_SIZE) : QAMHUDEER_RECORD_SIZE * below(70));
+    else if (odds < 3)
         stretch(&c->piece[COMBOS], lists[pick]);
     else if (odds < 4)
         damage_state_length(&c->piece[STATE]);
@@ -317,6 +404,7 @@ static void take_frame(struct Call *c, const struct Frame *f)
     if (percent(25))
         stretch(&c->piece[REPLIES], QAMHUDEER_REPLIES_SIZE + below(40));
     fill(&c->piece[ANSWER], QAMHUDEER_ANSWER_SIZE);
+    fill(&c->piece[RECORDS], QAMHUDEER_RECORDS_SIZE + (percent(75) ? 0 : below(40)));
 }
 
 static int same_bytes(const struct Bytes *one, const struct Bytes *two)
@@ -333,10 +421,14 @@ static void try_damaged(const struct Frame *f)
     c = whole;
     take_frame(&c, f);
     damage(&c);
+    if (percent(20))
+        damage_display(&c.piece[DISPLAY]);
+    if (percent(10))
+        make_list(&c);
     if (percent(2))
         make_fresh(&c, percent(60) ? board : below(percent(50) ? 12 : 256));
     make_call(&c, !same_bytes(&c.piece[STATE], &whole.piece[STATE]) || !same_bytes(&c.piece[TABLE], &whole.piece[TABLE]));
-    if (c.piece[ANSWER].length == QAMHUDEER_ANSWER_SIZE && is_sound(&c.piece[STATE], &c.piece[TABLE], &a))
+    if (c.piece[ANSWER].length == QAMHUDEER_ANSWER_SIZE && c.piece[DISPLAY].length == QAMHUDEER_DISPLAY_SIZE && is_sound(&c.piece[STATE], &c.piece[TABLE], &a))
         stray = c;
 }
 
@@ -347,6 +439,7 @@ static void play_line(const struct Frame *f, unsigned long tries)
     where.try = 0;
     take_frame(&good, f);
     make_call(&good, 0);
+    make_list(&good);
     if (percent(4))
         stray = good;
 }
@@ -369,9 +462,11 @@ int main(int words, char **word)
     lent_pages(lent, PIECES);
     fill(&good.piece[STATE], QAMHUDEER_STATE_SIZE);
     fill(&good.piece[TABLE], QAMHUDEER_TABLE_SIZE);
+    fill(&good.piece[DISPLAY], QAMHUDEER_DISPLAY_SIZE);
     make_fresh(&good, board);
     memcpy(good.piece[STATE].byte, lent[STATE].at, QAMHUDEER_STATE_SIZE);
     memcpy(good.piece[TABLE].byte, lent[TABLE].at, QAMHUDEER_TABLE_SIZE);
+    memcpy(good.piece[DISPLAY].byte, lent[DISPLAY].at, QAMHUDEER_DISPLAY_SIZE);
     stray = good;
     for (where.line = 1; (kind = log_read(stdin, &f)) != LINE_NONE; where.line++)
         if (kind == LINE_FRAME)

@@ -16,7 +16,7 @@
 . "$(dirname "$0")/begin.sh"
 . tests/trial.sh
 
-styles='mix locks nowait queues full aborts precedences refusals malformed lists bytes ties opens cuts cycles desks'
+styles='mix locks nowait queues full aborts precedences refusals malformed lists bytes ties opens cuts cycles desks display'
 styles="$styles many-locks many-steals many-entries many-waiting"
 lines=150
 tries=8
@@ -27,8 +27,8 @@ parts='tests/fuzz tests/states tests/lent second/chance second/log second/arbite
 log() {
     number=$1
     set -- $styles
-    # The styles are an even number: at each round the boards change places.
-    board=$((4 + (number + number / $#) % 2 * 4))
+    # At each round the boards change places.
+    board=$((4 + (number % $# + number / $#) % 2 * 4))
     shift $((number % $#))
     chance=$((seed * 100000 + number))
     made="generate $chance $lines $1 $board"
@@ -71,6 +71,8 @@ reaches() {
             want = want ",sound: accepted,sound: refused,sound: state or table was damaged,not sound,no state: a length or a mark"
             want = want ",no room for an answer,replies to both desks,accepted from A,accepted from B,accepted from no desk"
             want = want ",READs of the other\047s write,cycles ended,writes given up,fresh devices"
+            want = want ",numbers on the display that no count gives,more looks than requests wait,lists: not sound"
+            want = want ",lists: fewer than 64 records,lists: requests told,lists: held requests told"
             count = split(want, wanted, ",")
             for (i = 1; i <= count; i++)
                 if (!sum[wanted[i]]) {
@@ -89,11 +91,11 @@ spoilt() {
         echo '#include "qamhudeer.h"'
         echo '#define WORDS uint8_t desk, uint8_t op, uint8_t id, uint8_t flags, uint8_t map, uint8_t prec, uint16_t key, \'
         echo '    uint8_t *combos, size_t combos_len, uint8_t *state, size_t state_len, uint8_t *table, size_t table_len, \'
-        echo '    uint8_t *replies, size_t replies_len, uint8_t *answer, size_t answer_len'
+        echo '    uint8_t *display, size_t display_len, uint8_t *replies, size_t replies_len, uint8_t *answer, size_t answer_len'
         echo 'size_t __real_qamhudeer_call(WORDS); size_t __wrap_qamhudeer_call(WORDS); volatile uint8_t seen;'
         echo 'size_t __wrap_qamhudeer_call(WORDS) {'
         echo '    size_t n = __real_qamhudeer_call(desk, op, id, flags, map, prec, key, combos, combos_len, state, state_len,'
-        echo '                                     table, table_len, replies, replies_len, answer, answer_len);'
+        echo '                                     table, table_len, display, display_len, replies, replies_len, answer, answer_len);'
         echo "    $2; return n; }"
     } >"$work/spoilt.c"
     must_differ "$1" -Wl,--wrap=qamhudeer_call "$work/spoilt.c" $(objects_but none)
@@ -144,6 +146,17 @@ play_wrong() {
     wrong "257 combinations are one" tests/fuzz.c '(n < 255 ? n : 255)' 'n'
     wrong "a table of 65 entries is a table" tests/states.c 'table->length != QAMHUDEER_TABLE_SIZE' 'table->length < QAMHUDEER_TABLE_SIZE'
     wrong "the sixteenth combination is lost" tests/states.c 'memcpy(b + 7, q->combination, COMBINATIONS);' 'memcpy(b + 7, q->combination, COMBINATIONS - 1);'
+    wrong "a write that ended is taken away twice" $arbiter '(uint8_t)(r->display->writes[c] + by);' '(uint8_t)(r->display->writes[c] + (by < 0 ? 2 * by : by));'
+    wrong "each combination counts" $arbiter '(uint8_t)(r->display->naming[c] + by);' '(uint8_t)(r->display->naming[c] + by * (int)q->length);'
+    wrong "the head is no look" $arbiter 'looks++;' 'looks += at > 0;'
+    wrong "looks begin anew after a grant" $arbiter 'end_waiting(a, at, DONE, chosen, r);' 'end_waiting(a, at, DONE, chosen, r), looks = 0;'
+    wrong "a failing request is told as held" $arbiter '&chosen) == LOOK_HELD;' '&chosen) != LOOK_GRANTED;'
+    wrong "63 records of who waits are enough" $arbiter 'if (capacity < REQUESTS)' 'if (capacity < REQUESTS - 1)'
+    wrong "a display of 17 bytes is one" tests/fuzz.c 'c->piece[DISPLAY].length != QAMHUDEER_DISPLAY_SIZE)' 'c->piece[DISPLAY].length < 17)'
+    wrong "the looks have the low byte first" tests/states.c 'put_key(b + QAMHUDEER_DISPLAY_LOOKS, d->looks);' 'put_key(b + QAMHUDEER_DISPLAY_LOOKS, (uint16_t)(d->looks << 8 | d->looks >> 8));'
+    spoilt "a number of the display is counted anew" 'if (n != 255 && state_len == 823) display[0] = state[5]'
+    spoilt "a refused call moves the display" 'if (answer_len == 8 && answer[1] == 4 && display_len == 18) display[17] ^= 1'
+    spoilt "a byte behind the display is written" 'display[display_len] ^= 1'
     spoilt "a byte behind the table is read" 'seen = table[table_len]'
     spoilt "a byte before the state is written" 'state[-1] ^= 1'
     spoilt "a byte behind the answer is written" 'answer[answer_len] ^= 1'

@@ -18,14 +18,14 @@ static void same(const char *name, size_t header, size_t library)
  * period 300 and volume 50, and a request that waits for a cycle's end. */
 static void places(void)
 {
-    static uint8_t state[QAMHUDEER_STATE_SIZE], table[QAMHUDEER_TABLE_SIZE], replies[QAMHUDEER_REPLIES_SIZE], answer[QAMHUDEER_ANSWER_SIZE];
+    static uint8_t state[QAMHUDEER_STATE_SIZE], table[QAMHUDEER_TABLE_SIZE], display[QAMHUDEER_DISPLAY_SIZE], replies[QAMHUDEER_REPLIES_SIZE], answer[QAMHUDEER_ANSWER_SIZE];
     static const uint8_t combos[1] = {4};
     uint8_t numbers[QAMHUDEER_NUMBERS_SIZE] = {0};
     const uint8_t *c = state + 2 * QAMHUDEER_CHANNEL_SIZE;
 #define CALL(op, id, map, prec, key, combos, n) CALL_FROM(QAMHUDEER_DESK_A, op, id, map, prec, key, combos, n)
 #define CALL_FROM(desk, op, id, map, prec, key, combos, n)                                                                       \
-    qamhudeer_call(desk, op, id, 0, map, prec, key, combos, n, state, sizeof state, table, sizeof table, replies, sizeof replies, answer, sizeof answer)
-    same("fresh", 0, qamhudeer_fresh(4, state, sizeof state, table, sizeof table));
+    qamhudeer_call(desk, op, id, 0, map, prec, key, combos, n, state, sizeof state, table, sizeof table, display, sizeof display, replies, sizeof replies, answer, sizeof answer)
+    same("fresh", 0, qamhudeer_fresh(4, state, sizeof state, table, sizeof table, display, sizeof display));
     CALL(QAMHUDEER_OPEN, 0, 0, 0, 258, combos, 0);
     CALL(ADCMD_ALLOCATE, 1, 0, 5, 258, combos, 1);
     numbers[QAMHUDEER_NUMBERS_CYCLES + 1] = 2;
@@ -64,13 +64,13 @@ static void places(void)
 /* A map of 16 is beyond four channels, and on eight it is channel 4. */
 static void boards(void)
 {
-    static uint8_t state[QAMHUDEER_STATE_SIZE], table[QAMHUDEER_TABLE_SIZE], replies[QAMHUDEER_REPLIES_SIZE], answer[QAMHUDEER_ANSWER_SIZE];
+    static uint8_t state[QAMHUDEER_STATE_SIZE], table[QAMHUDEER_TABLE_SIZE], display[QAMHUDEER_DISPLAY_SIZE], replies[QAMHUDEER_REPLIES_SIZE], answer[QAMHUDEER_ANSWER_SIZE];
     static const uint8_t combos[1] = {16};
     static const int error[2] = {IOERR_BADADDRESS, 0};
     unsigned board;
 
     for (board = 0; board < 2; board++) {
-        same("fresh", 0, qamhudeer_fresh((uint8_t)(4 + 4 * board), state, sizeof state, table, sizeof table));
+        same("fresh", 0, qamhudeer_fresh((uint8_t)(4 + 4 * board), state, sizeof state, table, sizeof table, display, sizeof display));
         same("channels", 4 + 4 * board, state[QAMHUDEER_OFFSET_OF_CHANNELS]);
         CALL(QAMHUDEER_OPEN, 0, 0, 5, 258, combos, 1);
         same("map 16", (size_t)(256 + error[board]), (size_t)(256 + QAMHUDEER_ERROR(answer[QAMHUDEER_ANSWER_ERROR])));
@@ -87,10 +87,10 @@ static void boards(void)
 /* What the comments say of the two events: a write of two cycles, with another behind it and a WAITCYCLE. */
 static void events(void)
 {
-    static uint8_t state[QAMHUDEER_STATE_SIZE], table[QAMHUDEER_TABLE_SIZE], replies[QAMHUDEER_REPLIES_SIZE], answer[QAMHUDEER_ANSWER_SIZE];
+    static uint8_t state[QAMHUDEER_STATE_SIZE], table[QAMHUDEER_TABLE_SIZE], display[QAMHUDEER_DISPLAY_SIZE], replies[QAMHUDEER_REPLIES_SIZE], answer[QAMHUDEER_ANSWER_SIZE];
     static const uint8_t combos[1] = {1}, twice[QAMHUDEER_NUMBERS_SIZE] = {0, 2, 0, 1, 44, 50};
 
-    same("fresh", 0, qamhudeer_fresh(4, state, sizeof state, table, sizeof table));
+    same("fresh", 0, qamhudeer_fresh(4, state, sizeof state, table, sizeof table, display, sizeof display));
     CALL(QAMHUDEER_OPEN, 0, 0, 0, 258, combos, 1);
     CALL(CMD_WRITE, 3, 1, 0, 258, twice, sizeof twice);
     CALL(CMD_WRITE, 4, 1, 0, 258, twice, sizeof twice);
@@ -113,12 +113,12 @@ static void events(void)
  * under one key, passed by hand: A's 31 before B's 32. */
 static void desks(void)
 {
-    static uint8_t state[QAMHUDEER_STATE_SIZE], table[QAMHUDEER_TABLE_SIZE], replies[QAMHUDEER_REPLIES_SIZE], answer[QAMHUDEER_ANSWER_SIZE];
+    static uint8_t state[QAMHUDEER_STATE_SIZE], table[QAMHUDEER_TABLE_SIZE], display[QAMHUDEER_DISPLAY_SIZE], replies[QAMHUDEER_REPLIES_SIZE], answer[QAMHUDEER_ANSWER_SIZE];
     static const uint8_t combos[1] = {1};
     static const uint8_t other[QAMHUDEER_ANSWER_SIZE] = {0, QAMHUDEER_OTHERDESK, 0, 1, 2, 255, 0, 0};
     const uint8_t *b = replies + QAMHUDEER_FIRST_OF_B * QAMHUDEER_REPLY_SIZE;
 
-    same("fresh", 0, qamhudeer_fresh(4, state, sizeof state, table, sizeof table));
+    same("fresh", 0, qamhudeer_fresh(4, state, sizeof state, table, sizeof table, display, sizeof display));
     CALL_FROM(7, QAMHUDEER_OPEN, 0, 0, 0, 258, combos, 1);
     same("OPEN of no desk", 0, answer[QAMHUDEER_ANSWER_ERROR]);
     memset(replies, 77, sizeof replies);
@@ -154,56 +154,100 @@ static void desks(void)
 /* What is refused changes nothing but the answer. */
 static void refusals(void)
 {
-    static uint8_t state[QAMHUDEER_STATE_SIZE], table[QAMHUDEER_TABLE_SIZE], replies[QAMHUDEER_REPLIES_SIZE], answer[QAMHUDEER_ANSWER_SIZE + 1];
-    static uint8_t state0[sizeof state], table0[sizeof table], replies0[sizeof replies];
+    static uint8_t state[QAMHUDEER_STATE_SIZE], table[QAMHUDEER_TABLE_SIZE], display[QAMHUDEER_DISPLAY_SIZE], replies[QAMHUDEER_REPLIES_SIZE], answer[QAMHUDEER_ANSWER_SIZE + 1];
+    static uint8_t state0[sizeof state], table0[sizeof table], display0[sizeof display], replies0[sizeof replies];
     static const uint8_t unsound[QAMHUDEER_ANSWER_SIZE] = {0, QAMHUDEER_UNSOUND, 0, 1, 2, 255, 0, 0};
     static const uint8_t zeros[sizeof answer] = {0};
-#define KEEP() (memcpy(state0, state, sizeof state), memcpy(table0, table, sizeof table), memcpy(replies0, replies, sizeof replies))
+#define KEEP() (memcpy(state0, state, sizeof state), memcpy(table0, table, sizeof table), memcpy(display0, display, sizeof display), memcpy(replies0, replies, sizeof replies))
 #define KEPT(name)                                                                                                               \
-    same(name, 0, (size_t)(memcmp(state0, state, sizeof state) || memcmp(table0, table, sizeof table) || memcmp(replies0, replies, sizeof replies)))
-    same("fresh", 0, qamhudeer_fresh(4, state, sizeof state, table, sizeof table));
+    same(name, 0, (size_t)(memcmp(state0, state, sizeof state) || memcmp(table0, table, sizeof table) || memcmp(display0, display, sizeof display) || memcmp(replies0, replies, sizeof replies)))
+    same("fresh", 0, qamhudeer_fresh(4, state, sizeof state, table, sizeof table, display, sizeof display));
     memset(replies, 77, sizeof replies);
     KEEP();
-    same("fresh, of five channels", 1, qamhudeer_fresh(5, state, sizeof state, table, sizeof table));
-    same("fresh, state too short", 1, qamhudeer_fresh(4, state, sizeof state - 1, table, sizeof table));
-    same("fresh, table too short", 1, qamhudeer_fresh(4, state, sizeof state, table, sizeof table - 1));
-    same("no room", QAMHUDEER_UNANSWERED, qamhudeer_call(QAMHUDEER_DESK_A, QAMHUDEER_OPEN, 0, 0, 0, 0, 0, answer, 0, state, sizeof state, table, sizeof table, replies, sizeof replies, answer, 7));
-    same("too much room", QAMHUDEER_UNANSWERED, qamhudeer_call(QAMHUDEER_DESK_A, QAMHUDEER_OPEN, 0, 0, 0, 0, 0, answer, 0, state, sizeof state, table, sizeof table, replies, sizeof replies, answer, 9));
+    same("fresh, of five channels", 1, qamhudeer_fresh(5, state, sizeof state, table, sizeof table, display, sizeof display));
+    same("fresh, state too short", 1, qamhudeer_fresh(4, state, sizeof state - 1, table, sizeof table, display, sizeof display));
+    same("fresh, table too short", 1, qamhudeer_fresh(4, state, sizeof state, table, sizeof table - 1, display, sizeof display));
+    same("fresh, display too short", 1, qamhudeer_fresh(4, state, sizeof state, table, sizeof table, display, sizeof display - 1));
+    same("a display of 17", QAMHUDEER_UNANSWERED, qamhudeer_call(QAMHUDEER_DESK_A, QAMHUDEER_OPEN, 0, 0, 0, 0, 0, answer, 0, state, sizeof state, table, sizeof table, display, 17, replies, sizeof replies, answer, 8));
+    same("no room", QAMHUDEER_UNANSWERED, qamhudeer_call(QAMHUDEER_DESK_A, QAMHUDEER_OPEN, 0, 0, 0, 0, 0, answer, 0, state, sizeof state, table, sizeof table, display, sizeof display, replies, sizeof replies, answer, 7));
+    same("too much room", QAMHUDEER_UNANSWERED, qamhudeer_call(QAMHUDEER_DESK_A, QAMHUDEER_OPEN, 0, 0, 0, 0, 0, answer, 0, state, sizeof state, table, sizeof table, display, sizeof display, replies, sizeof replies, answer, 9));
     same("no answer", 0, (size_t)memcmp(answer, zeros, sizeof answer));
     KEPT("nothing moved");
     /* a mark of 2 */
     state[QAMHUDEER_CHANNEL_LOCKED] = 2;
     KEEP();
-    same("mark", 0, qamhudeer_call(QAMHUDEER_DESK_A, QAMHUDEER_OPEN, 0, 0, 0, 0, 258, zeros, 0, state, sizeof state, table, sizeof table, replies, sizeof replies, answer, 8));
+    same("mark", 0, qamhudeer_call(QAMHUDEER_DESK_A, QAMHUDEER_OPEN, 0, 0, 0, 0, 258, zeros, 0, state, sizeof state, table, sizeof table, display, sizeof display, replies, sizeof replies, answer, 8));
     same("unsound", 0, (size_t)memcmp(answer, unsound, sizeof unsound));
     KEPT("mark: nothing moved");
     /* a free channel that is locked */
     state[QAMHUDEER_CHANNEL_LOCKED] = 1;
     memset(answer, 0, sizeof answer);
     KEEP();
-    same("locked", 0, qamhudeer_call(QAMHUDEER_DESK_A, QAMHUDEER_OPEN, 0, 0, 0, 0, 258, zeros, 0, state, sizeof state, table, sizeof table, replies, sizeof replies, answer, 8));
+    same("locked", 0, qamhudeer_call(QAMHUDEER_DESK_A, QAMHUDEER_OPEN, 0, 0, 0, 0, 258, zeros, 0, state, sizeof state, table, sizeof table, display, sizeof display, replies, sizeof replies, answer, 8));
     same("unsound", 0, (size_t)memcmp(answer, unsound, sizeof unsound));
     KEPT("locked: nothing moved");
     /* a state that is one byte short, and a list of 63 records */
     state[QAMHUDEER_CHANNEL_LOCKED] = 0;
     memset(answer, 0, sizeof answer);
     KEEP();
-    same("short", 0, qamhudeer_call(QAMHUDEER_DESK_A, QAMHUDEER_OPEN, 0, 0, 0, 0, 258, zeros, 0, state, sizeof state - 1, table, sizeof table, replies, sizeof replies, answer, 8));
+    same("short", 0, qamhudeer_call(QAMHUDEER_DESK_A, QAMHUDEER_OPEN, 0, 0, 0, 0, 258, zeros, 0, state, sizeof state - 1, table, sizeof table, display, sizeof display, replies, sizeof replies, answer, 8));
     same("unsound", 0, (size_t)memcmp(answer, unsound, sizeof unsound));
-    same("list", 0, qamhudeer_call(QAMHUDEER_DESK_A, QAMHUDEER_OPEN, 0, 0, 0, 0, 258, zeros, 0, state, sizeof state, table, sizeof table, replies, 383, answer, 8));
+    same("list", 0, qamhudeer_call(QAMHUDEER_DESK_A, QAMHUDEER_OPEN, 0, 0, 0, 0, 258, zeros, 0, state, sizeof state, table, sizeof table, display, sizeof display, replies, 383, answer, 8));
     same("list", QAMHUDEER_NOROOM, answer[QAMHUDEER_ANSWER_ERROR]);
     KEPT("short: nothing moved");
+}
+
+/* The numbers of the wall display, and who waits. */
+static void wall(void)
+{
+    static uint8_t state[QAMHUDEER_STATE_SIZE], table[QAMHUDEER_TABLE_SIZE], display[QAMHUDEER_DISPLAY_SIZE], replies[QAMHUDEER_REPLIES_SIZE], answer[QAMHUDEER_ANSWER_SIZE];
+    static uint8_t records[QAMHUDEER_RECORDS_SIZE + 1];
+    static const uint8_t halls[] = {3, 1}, numbers[1] = {0};
+    static const uint8_t low[] = {40, 251, 0, 1}, high[] = {2, 5, 1, 0};
+    size_t count = 77;
+#define ASK(desk, op, id, map, prec, key, list, n) \
+    qamhudeer_call(desk, op, id, IOF_QUICK, map, (uint8_t)(prec), key, list, n, state, sizeof state, table, sizeof table, display, sizeof display, replies, sizeof replies, answer, sizeof answer)
+#define WAITING(n) qamhudeer_waiting(state, sizeof state, table, sizeof table, records, n, &count)
+    memset(display, 77, sizeof display);
+    same("fresh", 0, qamhudeer_fresh(4, state, sizeof state, table, sizeof table, display, sizeof display));
+    same("a fresh display", 0, display[QAMHUDEER_DISPLAY_WRITES(0)] | display[QAMHUDEER_DISPLAY_NAMING(7)] | display[QAMHUDEER_DISPLAY_LOOKS + 1]);
+    memset(records, 77, sizeof records);
+    same("nobody waits", 0, WAITING(QAMHUDEER_RECORDS_SIZE));
+    same("nobody waits", 0, count);
+    ASK(QAMHUDEER_DESK_A, QAMHUDEER_OPEN, 0, 0, 0, 0, halls, 1);
+    ASK(QAMHUDEER_DESK_A, CMD_WRITE, 1, 1, 0, 1, numbers, 0);
+    same("a write", 1, display[QAMHUDEER_DISPLAY_WRITES(0)]);
+    ASK(QAMHUDEER_DESK_A, ADCMD_LOCK, 3, 1, 0, 1, numbers, 0);
+    ASK(QAMHUDEER_DESK_B, ADCMD_ALLOCATE, 40, 0, -5, 0, halls, 2);
+    ASK(QAMHUDEER_DESK_A, ADCMD_ALLOCATE, 2, 0, 5, 0, halls, 2);
+    same("named by two, of whose combinations two name it", 2, display[QAMHUDEER_DISPLAY_NAMING(0)]);
+    same("named by two", 2, display[QAMHUDEER_DISPLAY_NAMING(1)]);
+    same("looks", 2, 256u * display[QAMHUDEER_DISPLAY_LOOKS] + display[QAMHUDEER_DISPLAY_LOOKS + 1]);
+    same("63 records", QAMHUDEER_NOROOM, WAITING(QAMHUDEER_RECORDS_SIZE - QAMHUDEER_RECORD_SIZE));
+    same("none told", 0, count);
+    same("none written", 77, records[0]);
+    same("who waits", 0, WAITING(QAMHUDEER_RECORDS_SIZE));
+    same("two", 2, count);
+    same("the higher first, held", 0, (size_t)memcmp(records, high, sizeof high));
+    same("then the lower, which fails", 0, (size_t)memcmp(records + QAMHUDEER_RECORD_SIZE, low, sizeof low));
+    same("nothing behind them", 77, records[2 * QAMHUDEER_RECORD_SIZE]);
+    ASK(QAMHUDEER_DESK_A, QAMHUDEER_ABORT, 2, 0, 0, 1, numbers, 0);
+    same("one less", 1, display[QAMHUDEER_DISPLAY_NAMING(1)]);
+    state[QAMHUDEER_CHANNEL_LOCKED] = 2;
+    same("unsound before no room", QAMHUDEER_UNSOUND, WAITING(0));
+#undef ASK
+#undef WAITING
 }
 
 /* What the comments say of a port's bytes, and in which order it is refused. */
 static void port(void)
 {
-    static uint8_t state[QAMHUDEER_STATE_SIZE], table[QAMHUDEER_TABLE_SIZE], line[QAMHUDEER_PORT_SIZE + 1], out[QAMHUDEER_ROOM_SIZE];
+    static uint8_t state[QAMHUDEER_STATE_SIZE], table[QAMHUDEER_TABLE_SIZE], display[QAMHUDEER_DISPLAY_SIZE], line[QAMHUDEER_PORT_SIZE + 1], out[QAMHUDEER_ROOM_SIZE];
     static const uint8_t fragment[] = "F00000000000\n";
     size_t used = 77, written = 77;
 #define FEED(n, port_len, out_len) \
-    qamhudeer_feed(fragment, n, line, port_len, state, sizeof state, table, sizeof table, out, out_len, &used, &written)
-    same("fresh", 0, qamhudeer_fresh(4, state, sizeof state, table, sizeof table));
+    qamhudeer_feed(fragment, n, line, port_len, state, sizeof state, table, sizeof table, display, sizeof display, out, out_len, &used, &written)
+    same("fresh", 0, qamhudeer_fresh(4, state, sizeof state, table, sizeof table, display, sizeof display));
     same("a port too long, and no room", QAMHUDEER_UNSOUND, FEED(13, QAMHUDEER_PORT_SIZE + 1, 0));
     same("used", 0, used);
     same("written", 0, written);
@@ -226,6 +270,9 @@ int main(void)
 {
     same("state", QAMHUDEER_STATE_SIZE, qamhudeer_state_size());
     same("table", QAMHUDEER_TABLE_SIZE, qamhudeer_table_size());
+    same("display", QAMHUDEER_DISPLAY_SIZE, qamhudeer_display_size());
+    same("records", QAMHUDEER_RECORDS_SIZE, qamhudeer_records_size());
+    same("records of 64", QAMHUDEER_RECORDS_SIZE, 64 * QAMHUDEER_RECORD_SIZE);
     same("replies", QAMHUDEER_REPLIES_SIZE, qamhudeer_replies_size());
     same("answer", QAMHUDEER_ANSWER_SIZE, qamhudeer_answer_size());
     same("channel", QAMHUDEER_CHANNEL_SIZE, qamhudeer_channel_size());
@@ -243,6 +290,7 @@ int main(void)
     events();
     desks();
     refusals();
+    wall();
     port();
     return wrong;
 }

@@ -6,6 +6,7 @@
 
 static uint8_t state[QAMHUDEER_STATE_SIZE];
 static uint8_t table[QAMHUDEER_TABLE_SIZE];
+static uint8_t display[QAMHUDEER_DISPLAY_SIZE];
 static uint8_t replies[QAMHUDEER_REPLIES_SIZE];
 static uint8_t answer[QAMHUDEER_ANSWER_SIZE];
 
@@ -61,8 +62,8 @@ static void feed(const char *line, size_t length)
         return;
     }
     qamhudeer_call(f[1] < QAMHUDEER_FIRST_OF_B ? QAMHUDEER_DESK_A : QAMHUDEER_DESK_B, f[0], f[1], f[2], f[3], f[4],
-                   (uint16_t)(256 * f[5] + f[6]), f + 8, f[7], state, sizeof state, table, sizeof table, replies, sizeof replies,
-                   answer, sizeof answer);
+                   (uint16_t)(256 * f[5] + f[6]), f + 8, f[7], state, sizeof state, table, sizeof table, display, sizeof display,
+                   replies, sizeof replies, answer, sizeof answer);
     tell_replies(0, answer[QAMHUDEER_ANSWER_REPLIES_A]);
     tell_replies(QAMHUDEER_FIRST_OF_B, answer[QAMHUDEER_ANSWER_REPLIES_B]);
     tell(0xA0 + answer[QAMHUDEER_ANSWER_OUTSTANDING], answer + 1, 5);
@@ -73,7 +74,7 @@ int main(void)
     static char line[4096];
     size_t n = 0;
     int c, any = 0;
-    if (qamhudeer_fresh(4, state, sizeof state, table, sizeof table) != 0)
+    if (qamhudeer_fresh(4, state, sizeof state, table, sizeof table, display, sizeof display) != 0)
         return 1;
     while ((c = getchar()) != EOF) {
         any = c != '\n';

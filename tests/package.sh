@@ -195,6 +195,7 @@ prefix=$work/prefix
 check "the version has three numbers" sh -c "echo '$number' | grep -q -E '^[0-9]+\.[0-9]+\.[0-9]+$'"
 one_version "./arbiter-log" ./arbiter-log --version
 one_version "./explain" ./explain --version
+one_version "./wall" ./wall --version
 check "the second program is built" make -C second -s ${CC:+CC="$CC"} arbiter2
 one_version "the second program" second/arbiter2 --version
 one_version "CHANGELOG.md" first_of_changelog

@@ -2,7 +2,7 @@
  *
  * The log is cut into fragments of random lengths, some of them empty, and fed through a good port, state and table; what comes
  * back, put together, goes to the file OUTPUT, which must be the output of the log in one. Before each call it is made TRIES times
- * on copies whose port, room, state, table or lengths are damaged. What must come back is worked out from the second program's
+ * on copies whose port, room, state, table, display or lengths are damaged. What must come back is worked out from the second program's
  * port. Every byte lent is compared, and so are the two numbers. The same words give the same calls on every machine.
  *
  * At a difference it says which byte, shows the call and ends with status 1. Otherwise it writes a line for each count. */
@@ -14,8 +14,8 @@
 #include "../second/port.h"
 #include "states.h"
 
-enum Piece { FRAGMENT, PORT, STATE, TABLE, OUT, PIECES };
-static const char *const piece_name[PIECES] = {"fragment", "port", "state", "table", "output"};
+enum Piece { FRAGMENT, PORT, STATE, TABLE, DISPLAY, OUT, PIECES };
+static const char *const piece_name[PIECES] = {"fragment", "port", "state", "table", "display", "output"};
 
 /* What is handed to a call; or, after it, what the lent memory holds, and what the call gives back. */
 struct Call {
@@ -28,10 +28,10 @@ struct Call {
 /* ---- What was tried */
 
 enum Count {
-    CALLS, ENDS, NO_PORT, NO_ROOM, TAKEN, EMPTY, ANSWERED, ANSWERED_UNSOUND, MALFORMED, OVERLONG, LAST_LINES, COUNTS
+    CALLS, ENDS, NO_PORT, NO_DISPLAY, NO_ROOM, TAKEN, EMPTY, ANSWERED, ANSWERED_UNSOUND, MALFORMED, OVERLONG, LAST_LINES, COUNTS
 };
 static const char *const count_name[COUNTS] = {
-    "calls", "ends of a log", "no port: 1", "room below 973 bytes: 12", "taken: 0", "empty fragments", "lines answered",
+    "calls", "ends of a log", "no port: 1", "a display of another size: 1", "room below 973 bytes: 12", "taken: 0", "empty fragments", "lines answered",
     "lines answered 1", "malformed lines", "lines of more than 526 characters", "last lines without LF"
 };
 static unsigned long count[COUNTS];
@@ -83,6 +83,7 @@ static void expect(struct Call *c)
 {
     static struct Arbiter a, before;
     static struct Port port, started;
+    static struct Display display;
     static char text[LONGEST_OUTPUT];
     struct Arbiter *s;
 
@@ -94,6 +95,10 @@ static void expect(struct Call *c)
         count[NO_PORT]++;
         return;
     }
+    if (c->piece[DISPLAY].length != QAMHUDEER_DISPLAY_SIZE) {
+        count[NO_DISPLAY]++;
+        return;
+    }
     c->result = QAMHUDEER_TOOSMALL;
     if (c->piece[OUT].length < LONGEST_OUTPUT) {
         count[NO_ROOM]++;
@@ -103,6 +108,8 @@ static void expect(struct Call *c)
     count[TAKEN]++;
     count[EMPTY] += !c->end && c->piece[FRAGMENT].length == 0;
     read_port(&port, c->piece[PORT].byte);
+    read_display(&display, c->piece[DISPLAY].byte);
+    port.display = &display;
     s = struct_of(c, &a);
     before = a;
     if (c->end) {
@@ -115,8 +122,10 @@ static void expect(struct Call *c)
     if (c->written > 0)
         count_line(&started, c, text);
     put_port(c->piece[PORT].byte, &port);
-    if (s != NULL)
+    if (s != NULL) {
         put_state(c, &before, &a);
+        put_display(c->piece[DISPLAY].byte, &display);
+    }
     memcpy(c->piece[OUT].byte, text, c->written);
 }
 
@@ -152,11 +161,12 @@ static void make_call(struct Call *c)
     if (c->end) {
         used = 0;
         result = qamhudeer_feed_end(lent[PORT].at, lent[PORT].length, lent[STATE].at, lent[STATE].length, lent[TABLE].at,
-                                    lent[TABLE].length, lent[OUT].at, lent[OUT].length, &written);
+                                    lent[TABLE].length, lent[DISPLAY].at, lent[DISPLAY].length, lent[OUT].at, lent[OUT].length,
+                                    &written);
     } else {
         result = qamhudeer_feed(lent[FRAGMENT].at, lent[FRAGMENT].length, lent[PORT].at, lent[PORT].length, lent[STATE].at,
-                                lent[STATE].length, lent[TABLE].at, lent[TABLE].length, lent[OUT].at, lent[OUT].length,
-                                &used, &written);
+                                lent[STATE].length, lent[TABLE].at, lent[TABLE].length, lent[DISPLAY].at, lent[DISPLAY].length,
+                                lent[OUT].at, lent[OUT].length, &used, &written);
     }
     same = same_number("the result", result, c->result) & same_number("used", used, c->used)
         & same_number("written", written, c->written);
@@ -187,9 +197,13 @@ static void damage_port(struct Bytes *port)
 
 static void damage_once(struct Call *c)
 {
-    unsigned odds = below(10);
+    unsigned odds = below(12);
 
-    if (odds < 3)
+    if (odds == 10)
+        damage_display(&c->piece[DISPLAY]);
+    else if (odds == 11)
+        stretch(&c->piece[DISPLAY], any_length(QAMHUDEER_DISPLAY_SIZE) % 64);
+    else if (odds < 3)
         damage_port(&c->piece[PORT]);
     else if (odds < 4)
         stretch(&c->piece[OUT], any_length(LONGEST_OUTPUT));
@@ -274,7 +288,9 @@ int main(int words, char **word)
     good.piece[PORT].length = QAMHUDEER_PORT_SIZE;
     good.piece[STATE].length = QAMHUDEER_STATE_SIZE;
     good.piece[TABLE].length = QAMHUDEER_TABLE_SIZE;
-    if (qamhudeer_fresh((uint8_t)board, good.piece[STATE].byte, QAMHUDEER_STATE_SIZE, good.piece[TABLE].byte, QAMHUDEER_TABLE_SIZE) != 0)
+    good.piece[DISPLAY].length = QAMHUDEER_DISPLAY_SIZE;
+    if (qamhudeer_fresh((uint8_t)board, good.piece[STATE].byte, QAMHUDEER_STATE_SIZE, good.piece[TABLE].byte, QAMHUDEER_TABLE_SIZE,
+                        good.piece[DISPLAY].byte, QAMHUDEER_DISPLAY_SIZE) != 0)
         return 2;
     while (!feof(stdin) && !ferror(stdin))
         feed_all(bytes, fread(bytes, 1, any_cut(), stdin), output, tries);

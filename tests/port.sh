@@ -13,7 +13,7 @@
 . "$(dirname "$0")/begin.sh"
 . tests/trial.sh
 
-styles='mix locks queues full malformed lists bytes cuts cycles desks many-waiting'
+styles='mix locks queues full malformed lists bytes cuts cycles desks display many-waiting'
 kinds='long join cut end'
 lines=60
 tries=3
@@ -71,11 +71,12 @@ spoilt() {
     {
         echo '#include "qamhudeer.h"'
         echo '#define WORDS uint8_t *fragment, size_t fragment_len, uint8_t *port, size_t port_len, uint8_t *state, size_t state_len, \'
-        echo '    uint8_t *table, size_t table_len, uint8_t *out, size_t out_len, size_t *used, size_t *written'
+        echo '    uint8_t *table, size_t table_len, uint8_t *display, size_t display_len, uint8_t *out, size_t out_len, \'
+        echo '    size_t *used, size_t *written'
         echo 'uint8_t __real_qamhudeer_feed(WORDS); uint8_t __wrap_qamhudeer_feed(WORDS);'
         echo 'uint8_t __wrap_qamhudeer_feed(WORDS) {'
         echo '    uint8_t r = __real_qamhudeer_feed(fragment, fragment_len, port, port_len, state, state_len, table, table_len,'
-        echo '                                      out, out_len, used, written);'
+        echo '                                      display, display_len, out, out_len, used, written);'
         echo "    $2; return r; }"
     } >"$work/spoilt.c"
     must_differ "$1" -Wl,--wrap=qamhudeer_feed "$work/spoilt.c" $(objects_but none)
@@ -95,6 +96,8 @@ play_wrong() {
     wrong "room of 972 bytes is enough" tests/port.c 'length < LONGEST_OUTPUT)' 'length < LONGEST_OUTPUT - 1)'
     wrong "528 characters may stand" tests/port.c 'byte[1] > PORT_LINE)' 'byte[1] > PORT_LINE + 1)'
     wrong "528 bytes are a port" tests/port.c 'length != QAMHUDEER_PORT_SIZE ||' 'length < QAMHUDEER_PORT_SIZE - 1 ||'
+    wrong "a display of 17 bytes is one" tests/port.c 'length != QAMHUDEER_DISPLAY_SIZE)' 'length < 17)'
+    spoilt "a malformed line moves the display" 'if (r == 0 && *written == 13 && out[3] == 55 && display_len == 18) display[17] ^= 1'
     spoilt "a byte behind the output is written" 'if (r == 0 && *written < out_len) out[*written] ^= 1'
     spoilt "a byte of the fragment is written" 'if (fragment_len > 0) fragment[0] ^= 1'
     spoilt "a refused port moves" 'if (r != 0 && port_len > 9) port[9] ^= 1'

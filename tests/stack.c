@@ -12,7 +12,8 @@
 #define STACK ((size_t)1 << 20)
 #define PAINT 0xA5
 
-static uint8_t state[QAMHUDEER_STATE_SIZE], table[QAMHUDEER_TABLE_SIZE], replies[QAMHUDEER_REPLIES_SIZE], answer[QAMHUDEER_ANSWER_SIZE];
+static uint8_t state[QAMHUDEER_STATE_SIZE], table[QAMHUDEER_TABLE_SIZE], display[QAMHUDEER_DISPLAY_SIZE];
+static uint8_t replies[QAMHUDEER_REPLIES_SIZE], answer[QAMHUDEER_ANSWER_SIZE];
 static uint8_t port[QAMHUDEER_PORT_SIZE], room[QAMHUDEER_ROOM_SIZE];
 static uint8_t text[1 << 20];
 static size_t length;
@@ -38,8 +39,8 @@ static void *call_all(void *nothing)
             f[n] = (uint8_t)(16 * digit(text[at + 2 * n]) + digit(text[at + 2 * n + 1]));
         if (n >= 8 && n == 8u + f[7])
             qamhudeer_call(f[1] < QAMHUDEER_FIRST_OF_B ? QAMHUDEER_DESK_A : QAMHUDEER_DESK_B, f[0], f[1], f[2], f[3], f[4],
-                           (uint16_t)(256u * f[5] + f[6]), f + 8, f[7], state, sizeof state, table, sizeof table, replies,
-                           sizeof replies, answer, sizeof answer);
+                           (uint16_t)(256u * f[5] + f[6]), f + 8, f[7], state, sizeof state, table, sizeof table, display,
+                           sizeof display, replies, sizeof replies, answer, sizeof answer);
     }
     return nothing;
 }
@@ -51,9 +52,10 @@ static void *feed_all(void *nothing)
 
     top = (uintptr_t)&here;
     for (at = 0; at < length; at += used)
-        qamhudeer_feed(text + at, length - at, port, sizeof port, state, sizeof state, table, sizeof table, room, sizeof room, &used,
+        qamhudeer_feed(text + at, length - at, port, sizeof port, state, sizeof state, table, sizeof table, display, sizeof display,
+                       room, sizeof room, &used, &written);
+    qamhudeer_feed_end(port, sizeof port, state, sizeof state, table, sizeof table, display, sizeof display, room, sizeof room,
                        &written);
-    qamhudeer_feed_end(port, sizeof port, state, sizeof state, table, sizeof table, room, sizeof room, &written);
     return nothing;
 }
 
@@ -67,7 +69,8 @@ static size_t taken(void *(*play)(void *))
     if (stack == NULL && posix_memalign(&stack, 4096, STACK) != 0)
         exit(2);
     memset(stack, PAINT, STACK);
-    if (qamhudeer_fresh(channels, state, sizeof state, table, sizeof table) != 0 || pthread_attr_init(&how) != 0 ||
+    if (qamhudeer_fresh(channels, state, sizeof state, table, sizeof table, display, sizeof display) != 0 ||
+        pthread_attr_init(&how) != 0 ||
         pthread_attr_setstack(&how, stack, STACK) != 0 || pthread_create(&thread, &how, play, NULL) != 0 ||
         pthread_join(thread, NULL) != 0)
         exit(2);

@@ -29,6 +29,24 @@ void put_key(uint8_t *b, uint16_t key)
     b[1] = (uint8_t)(key & 255);
 }
 
+void read_display(struct Display *d, const uint8_t *b)
+{
+    for (unsigned c = 0; c < MOST_CHANNELS; c++) {
+        d->writes[c] = b[QAMHUDEER_DISPLAY_WRITES(c)];
+        d->naming[c] = b[QAMHUDEER_DISPLAY_NAMING(c)];
+    }
+    d->looks = key_at(b + QAMHUDEER_DISPLAY_LOOKS);
+}
+
+void put_display(uint8_t *b, const struct Display *d)
+{
+    for (unsigned c = 0; c < MOST_CHANNELS; c++) {
+        b[QAMHUDEER_DISPLAY_WRITES(c)] = d->writes[c];
+        b[QAMHUDEER_DISPLAY_NAMING(c)] = d->naming[c];
+    }
+    put_key(b + QAMHUDEER_DISPLAY_LOOKS, d->looks);
+}
+
 static void read_queue(struct Ids *q, const uint8_t *b)
 {
     q->count = b[0];
@@ -390,4 +408,12 @@ void damage_state_length(struct Bytes *state)
 void damage_table_length(struct Bytes *table)
 {
     stretch(table, percent(50) ? any_length(QAMHUDEER_TABLE_SIZE) : ENTRY * below(LONGEST / ENTRY));
+}
+
+void damage_display(struct Bytes *display)
+{
+    if (percent(30) || display->length == 0)
+        fill(display, QAMHUDEER_DISPLAY_SIZE);
+    else
+        display->byte[below((unsigned)display->length)] = (uint8_t)below(256);
 }

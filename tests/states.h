@@ -14,6 +14,10 @@ void put_all(uint8_t *state, uint8_t *table, const struct Arbiter *a);
 uint16_t key_at(const uint8_t *b);
 void put_key(uint8_t *b, uint16_t key);
 
+/* A display of QAMHUDEER_DISPLAY_SIZE bytes. */
+void read_display(struct Display *d, const uint8_t *b);
+void put_display(uint8_t *b, const struct Display *d);
+
 /* A signed byte, as two's complement spells it. */
 int8_t twos(uint8_t b);
 
@@ -29,6 +33,9 @@ void damage_all(struct Bytes *state, struct Bytes *table);
 /* One damage to a state and a table of the right lengths, on a board of so many channels: mostly to what says something, and
    at times so that they stay sound. */
 void damage_state(uint8_t *state, uint8_t *table, unsigned board);
+
+/* Any numbers on a display, or another one. */
+void damage_display(struct Bytes *display);
 
 /* Another length of a table, or of a state. */
 void damage_state_length(struct Bytes *state);

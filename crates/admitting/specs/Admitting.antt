@@ -2,14 +2,15 @@
 -- Assumes nothing.
 --
 --   isPort p           529 bytes, each below 256, of which at most 527 stand
---   BADPORT, TOOSMALL  1 and 12
---   refusalFor, refusal p room   why a call with this port and so much room is refused, or 0
+--   BADPORT, TOOSMALL  1, for a display of another size too, and 12
+--   refusalFor, refusal p shown room   why a call with this port and so much display and room is refused, or 0
 use Prim.Native.Nat.{ℕ}
 use mathlib.Core.Bool.{Bool, true, false, _&&_}
 use mathlib.Core.List.{List}
 use lib.Dec.{eqb, leb}
 use lib.ListN.{length}
 use Rattle.machine.specs.Lists.{all}
+use Rattle.display.specs.Display.{DISPLAY}
 use Rattle.image.specs.Image.{isByte}
 use Rattle.gathering.specs.Lumps.{LINE}
 use Rattle.sizes.specs.Sizes.{PORT, ROOM}
@@ -25,12 +26,12 @@ BADPORT = 1
 abbrev pub TOOSMALL : ℕ
 TOOSMALL = 12
 
--- by whether it is a port, and whether the room is enough for one line's output: no port comes first
+-- by whether it is a port with a display, and whether the room is enough for one line's output: no port comes first
 abbrev pub refusalFor : Bool → Bool → ℕ
 refusalFor true true = 0
 refusalFor true false = TOOSMALL
 refusalFor false true = BADPORT
 refusalFor false false = BADPORT
 
-unfoldable pub refusal : List ℕ → ℕ → ℕ
-refusal p room = refusalFor (isPort p) (leb ROOM room)
+unfoldable pub refusal : List ℕ → ℕ → ℕ → ℕ
+refusal p shown room = refusalFor (isPort p && eqb shown DISPLAY) (leb ROOM room)

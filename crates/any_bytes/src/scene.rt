@@ -62,6 +62,7 @@ fn cut(
     n: usize,
     table: &mut [u8],
     lent: usize,
+    display: &mut [u8; 18],
     list: &mut [u8],
     room: usize,
 ) -> Outcome {
@@ -75,6 +76,7 @@ fn cut(
         s,
         words::part(w, 7, n),
         &mut table[..k],
+        display,
         &mut list[..m],
     )
 }
@@ -86,10 +88,11 @@ fn make(
     n: usize,
     table: &mut [u8; 1500],
     lent: usize,
+    display: &mut [u8; 18],
     list: &mut [u8; 400],
     room: usize,
 ) -> Outcome {
-    cut(s, w, n, table, lent, list, room)
+    cut(s, w, n, table, lent, display, list, room)
 }
 
 fn tell(
@@ -171,7 +174,17 @@ impl Scene {
         let mut table = self.table;
         let clean = pattern();
         let mut list = clean;
-        let d = make(s, w, n, &mut table, self.lent, &mut list, self.room);
+        let mut display = [0u8; 18];
+        let d = make(
+            s,
+            w,
+            n,
+            &mut table,
+            self.lent,
+            &mut display,
+            &mut list,
+            self.room,
+        );
         tell(d, s, &before, &table, &clean, &list);
         let t = d.state;
         Scene {

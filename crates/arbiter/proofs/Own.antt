@@ -30,7 +30,7 @@ use Rattle.refusals.specs.Refusals.{opIn, askedOf, Refuses}
 use Rattle.refusing.proofs.Laws.{false-true}
 use Rattle.deciding.specs.Deciding.{decisionOf, Decided}
 use Rattle.deciding.proofs.Laws.{number-refused, zero-accepted, late-room}
-use Rattle.arbiter.specs.Arbiter.{Unmoved, Called}
+use Rattle.arbiter.specs.Arbiter.{Unmoved, Called, Shown, Shows}
 
 module _ (l : List ℕ) {o : Op} {r : Request} {b : Board} {ms tb : List ℕ} {e : ℕ} (h : Held b tb) (g : (r .prec ≤ 255) × (r .key ≤ 65535)) (w : Refuses o r b ms tb (length l) e) where
   abbrev c₀ : Call
@@ -45,12 +45,12 @@ module _ (l : List ℕ) {o : Op} {r : Request} {b : Board} {ms tb : List ℕ} {e
   within : length (u₀ .channels) ≤ 8
   within = leb→le (length (u₀ .channels)) 8 (held-parts h .most)
 
-  in-range : T (inRange c₀)
+  pub in-range : T (inRange c₀)
   unfolding inRange
   in-range = and-both (leb (r .prec) 255) (leb (r .key) 65535) (le→leb (r .prec) 255 (g .0)) (le→leb (r .key) 65535 (g .1))
 
   -- the number decides as the machine does
-  decision : decisionOf e ≡ refusal (c₀ .op) c₀ u₀
+  pub decision : decisionOf e ≡ refusal (c₀ .op) c₀ u₀
   decision = go e (w .number)
     where
       go : (x : ℕ) → x ≡ numberOf (refusal (opIn o (r .command)) (askedOf o r ms (length l)) (stateIn b tb)) → decisionOf x ≡ refusal (opIn o (r .command)) (askedOf o r ms (length l)) (stateIn b tb)
@@ -105,3 +105,10 @@ module _ {o : Op} {r : Request} {b : Board} {ms tb l : List ℕ} {d : Outcome} {
 
   pub sound-called : Held b tb → Told (call (stateIn b tb) (askedOf o r ms (length l))) l d tb′ l′ → Called o r b ms tb l d tb′ l′
   sound-called h t = record { sound = λ _. t; unsound = λ n. absurd (n h) }
+
+module _ {o : Op} {r : Request} {b : Board} {ms tb l dp dp′ : List ℕ} where
+  pub unsound-shows : {x : Bool} → Decides x (Held b tb) → x ≡ false → dp′ ≡ dp → Shows o r b ms tb l dp dp′
+  unsound-shows x q e = record { sound = λ h. absurd (false-true (sym q ∙ x .always h)); unsound = λ _. e }
+
+  pub sound-shows : Held b tb → Shown o r b ms tb l dp dp′ → Shows o r b ms tb l dp dp′
+  sound-shows h e = record { sound = λ _. e; unsound = λ n. absurd (n h) }

@@ -8,35 +8,43 @@ use native.Mathlib.Omega.{arith}
 use lib.Dec.{T}
 use lib.ListN.{length, take, drop, replicate, length-drop}
 use lib.Seq.{take-all}
+use Rattle.machine.specs.Lists.{if_then_else_}
 use Rattle.machine.specs.State.{frees, freshOn}
+use Rattle.display.specs.Display.{blank}
 use Rattle.board.specs.declared.Board.{Board}
 use Rattle.store.specs.Store.{tableOf, entries, lookup, items, writeItems}
 use Rattle.board.specs.Board.{sized, freshBoard, Held}
 use Rattle.board.proofs.Laws.{table-wide, fresh-of}
+use Rattle.taking.specs.declared.Show.{Show}
 use Rattle.taking.specs.declared.Taken.{Taken}
 use Rattle.taking.specs.Desk.{deskOf, needed, filled}
 use Rattle.paging.specs.Paging.{Fills}
 use Rattle.finishing.specs.Finishing.{Finishes}
-use Rattle.whole_log.proofs.Progress.{Went, desk-good, fills-went, fills-on, finished-went, left-held, left-within, left-inside, left-size, left-used}
+use Rattle.whole_log.proofs.Progress.{Went, desk-good, fills-went, fills-on, finished-went, left-held, left-shown, left-within, left-inside, left-size, left-used}
 use Rattle.whole_log.proofs.Whole.{fresh-held}
 use Rattle.arbiter_log.specs.declared.Desk.{Desk}
 use Rattle.arbiter_log.specs.Desk.{Ready}
 
--- the room that a page of the program has is enough, the channels shown or not
-enough : (show : Bool) {k : ℕ} → 1093 ≤ k → 0 + needed show ≤ k
-enough true h = omega arith
-enough false h = omega arith
+-- the room that a page of the program has is enough, whatever is shown
+enough : (show : Show) {k : ℕ} → 1836 ≤ k → 0 + needed show ≤ k
+enough show {k} h = go (show .channels) (show .display)
+  where
+    go : (c d : Bool) → 0 + (973 + (if c then 120 else 0) + (if d then 743 else 0)) ≤ k
+    go true true = omega arith
+    go true false = omega arith
+    go false true = omega arith
+    go false false = omega arith
 
 -- a call of `fill` on an empty page
-module _ {show : Bool} {d : Desk} {tb l page bs : List ℕ} {t : Taken} {l′ tb′ page′ : List ℕ} (r : Ready d tb page) (w : Fills show (d .state) tb l (d .line) bs page 0 t l′ tb′ page′) where
-  went : Went (deskOf (d .state) tb l (d .line) page 0) (length bs) (filled show (deskOf (d .state) tb l (d .line) page 0) bs)
-  went = fills-went w (r .held) (r .within) (omega arith)
+module _ {show : Show} {d : Desk} {tb dp l page bs : List ℕ} {t : Taken} {l′ tb′ dp′ page′ : List ℕ} (r : Ready d tb dp page) (w : Fills show (d .state) tb dp l (d .line) bs page 0 t l′ tb′ dp′ page′) where
+  went : Went (deskOf (d .state) tb dp l (d .line) page 0) (length bs) (filled show (deskOf (d .state) tb dp l (d .line) page 0) bs)
+  went = fills-went w (r .held) (r .shown) (r .within) (omega arith)
 
-  pub fill-ready : (ok : Bool) → Ready (record { state = t .state; line = t .line; ok = ok }) tb′ page′
+  pub fill-ready : (ok : Bool) → Ready (record { state = t .state; line = t .line; ok = ok }) tb′ dp′ page′
   fill-ready ok =
       let e = left-size went (w .leaves) in
       let m = r .room in
-      record { held = left-held went (w .leaves); within = left-within went (w .leaves); room = omega arith }
+      record { held = left-held went (w .leaves); shown = left-shown went (w .leaves); within = left-within went (w .leaves); room = omega arith }
 
   pub fill-inside : t .at ≤ length page′
   fill-inside = left-inside went (w .leaves)
@@ -45,11 +53,11 @@ module _ {show : Bool} {d : Desk} {tb l page bs : List ℕ} {t : Taken} {l′ tb
   fill-most = let a = left-used went (w .leaves) in omega arith
 
   fill-some : 0 < length bs → 0 < t .used
-  fill-some h = fills-on w (r .held) (r .within) (enough show (r .room)) h
+  fill-some h = fills-on w (r .held) (r .shown) (r .within) (enough show (r .room)) h
 
 -- on the rest of a lump: some of it is used, and no more than there is
-pub fill-on : {show : Bool} {d : Desk} {tb l page : List ℕ} {t : Taken} {l′ tb′ page′ : List ℕ} (input : List ℕ) (from : ℕ) → Ready d tb page → from < length input
-    → Fills show (d .state) tb l (d .line) (take (length input - from) (drop from input)) page 0 t l′ tb′ page′ → (from + t .used ≤ length input) × (from < from + t .used)
+pub fill-on : {show : Show} {d : Desk} {tb dp l page : List ℕ} {t : Taken} {l′ tb′ dp′ page′ : List ℕ} (input : List ℕ) (from : ℕ) → Ready d tb dp page → from < length input
+    → Fills show (d .state) tb dp l (d .line) (take (length input - from) (drop from input)) page 0 t l′ tb′ dp′ page′ → (from + t .used ≤ length input) × (from < from + t .used)
 fill-on input from r h w =
     let e = length-drop from input in
     let c = ap length (take-all (length input - from) (drop from input) (omega arith)) in
@@ -57,10 +65,10 @@ fill-on input from r h w =
     let b = fill-some r w (omega arith) in
     (omega arith, omega arith)
 
-pub finish-inside : {show : Bool} {d : Desk} {tb l page : List ℕ} {t : Taken} {tb′ page′ : List ℕ} → Ready d tb page → Finishes show (d .state) tb l (d .line) page 0 t tb′ page′
+pub finish-inside : {show : Show} {d : Desk} {tb dp l page : List ℕ} {t : Taken} {tb′ dp′ page′ : List ℕ} → Ready d tb dp page → Finishes show (d .state) tb dp l (d .line) page 0 t tb′ dp′ page′
     → t .at ≤ length page′
-finish-inside {show} {d} {tb} {l} {page} r w =
-    left-inside (finished-went show (deskOf (d .state) tb l (d .line) page 0) (desk-good l (r .held) (r .within) (omega arith))) (w .leaves)
+finish-inside {show} {d} {tb} {dp} {l} {page} r w =
+    left-inside (finished-went show (deskOf (d .state) tb dp l (d .line) page 0) (desk-good l (r .held) (r .shown) (r .within) (omega arith))) (w .leaves)
 
 -- where the program begins: the fresh device, and a table of zeros
 
@@ -73,6 +81,6 @@ unfolding frees
 fresh-table w = table-wide w (freshOn 0) ∙ none-table
 
 pub fresh-ready : (w : ℕ) → T (sized w) → {s : Board} {ok : Bool} {page : List ℕ} → s ≡ freshBoard w → 65536 ≡ length page
-    → Ready (record { state = s; line = 0; ok = ok }) (replicate 1472 0) page
+    → Ready (record { state = s; line = 0; ok = ok }) (replicate 1472 0) blank page
 fresh-ready w t {s} {page = page} e n =
-    record { held = subst (Held s) (fresh-table w) (subst (λ (x : Board). Held x (tableOf (freshOn w))) (sym (e ∙ fresh-of w t)) (fresh-held w t)); within = omega arith; room = omega arith }
+    record { held = subst (Held s) (fresh-table w) (subst (λ (x : Board). Held x (tableOf (freshOn w))) (sym (e ∙ fresh-of w t)) (fresh-held w t)); shown = refl; within = omega arith; room = omega arith }

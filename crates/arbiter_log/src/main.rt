@@ -1,8 +1,10 @@
 // The log program: a log on standard input, its output on standard output, in constant memory. Its first argument is the number of
-// channels, 4 or 8, and 4 where it is anything else or left out; with a second it also tells the board's channels after each
-// line. It reads, calls `paging` and `finishing`, and writes: what is read and written is the C library's to say, and that each
-// page is passed to `write` as it was handed back stands in `lump` and `last` to be read.
+// channels, 4 or 8, and 4 where it is anything else or left out. Its second is a word of letters: where c is among its first two, the
+// board's channels are told after each line, and where d is, then the wall display. It reads, calls `paging` and `finishing`, and
+// writes: what is read and written is the C library's to say, and that each page is passed to `write` as it was handed back stands
+// in `lump` and `last` to be read.
 use board::Board;
+use taking::Show;
 ghost use lib.Dec.{T};
 ghost use Prim.Native.Nat.{_≤_};
 ghost use lib.ListN.{length};
@@ -36,22 +38,23 @@ fn write(page: &[u8], n: usize) -> bool
 
 // All of a lump, page by page.
 fn lump(
-    show: bool,
+    show: Show,
     desk: Desk,
     line: &mut [u8; 527],
     input: &[u8],
     table: &mut [u8],
+    display: &mut [u8; 18],
     page: &mut [u8],
 ) -> Desk
-    requires { ⌜ Ready desk (now table) (now page) ⌝ }
-    ensures { λ r. ⌜ Ready r (now (table .exit)) (now (page .exit)) ⌝ }
+    requires { ⌜ Ready desk (now table) (now display) (now page) ⌝ }
+    ensures { λ r. ⌜ Ready r (now (table .exit)) (now (display .exit)) (now (page .exit)) ⌝ }
 {
     let mut d = desk;
     let mut from: usize = 0;
     while from < input.len() {
         let s = d.state;
         let n = d.line;
-        let t = paging::fill(show, s, line, n, &input[from..], table, page, 0);
+        let t = paging::fill(show, s, line, n, &input[from..], table, display, page, 0);
         let ok = write(page, t.at);
         let q = t.state;
         d = Desk {
@@ -69,15 +72,16 @@ fn lump(
 
 // Reads once, and writes all that comes of it.
 fn turn(
-    show: bool,
+    show: Show,
     d: Desk,
     line: &mut [u8; 527],
     input: &mut [u8],
     table: &mut [u8],
+    display: &mut [u8; 18],
     page: &mut [u8],
 ) -> Turned
-    requires { ⌜ Ready d (now table) (now page) ⌝ }
-    ensures { λ r. ⌜ Ready (r .desk) (now (table .exit)) (now (page .exit)) ⌝ }
+    requires { ⌜ Ready d (now table) (now display) (now page) ⌝ }
+    ensures { λ r. ⌜ Ready (r .desk) (now (table .exit)) (now (display .exit)) (now (page .exit)) ⌝ }
 {
     let got = libc::read(libc::STDIN_FILENO, input);
     // no bytes are the end of the log; an error is not, so what stands of a line is not answered
@@ -101,7 +105,7 @@ fn turn(
             more: false,
         };
     }
-    let e = lump(show, d, line, &input[..k], table, page);
+    let e = lump(show, d, line, &input[..k], table, display, page);
     Turned {
         desk: e,
         more: e.ok,
@@ -110,20 +114,21 @@ fn turn(
 
 // A proved loop has to end, and nothing says that an input does. So the turns are counted down, from a number that no run uses up.
 fn turns(
-    show: bool,
+    show: Show,
     desk: Desk,
     line: &mut [u8; 527],
     input: &mut [u8],
     table: &mut [u8],
+    display: &mut [u8; 18],
     page: &mut [u8],
 ) -> Desk
-    requires { ⌜ Ready desk (now table) (now page) ⌝ }
-    ensures { λ r. ⌜ Ready r (now (table .exit)) (now (page .exit)) ⌝ }
+    requires { ⌜ Ready desk (now table) (now display) (now page) ⌝ }
+    ensures { λ r. ⌜ Ready r (now (table .exit)) (now (display .exit)) (now (page .exit)) ⌝ }
 {
     let mut d = desk;
     let mut left = u64::MAX;
     while left > 0 {
-        let t = turn(show, d, line, input, table, page);
+        let t = turn(show, d, line, input, table, display, page);
         let e = t.desk;
         d = e;
         if !t.more {
@@ -134,15 +139,22 @@ fn turns(
     d
 }
 
-fn last(show: bool, d: Desk, line: &[u8; 527], table: &mut [u8], page: &mut [u8])
-    requires { ⌜ Ready d (now table) (now page) ⌝ }
+fn last(
+    show: Show,
+    d: Desk,
+    line: &[u8; 527],
+    table: &mut [u8],
+    display: &mut [u8; 18],
+    page: &mut [u8],
+)
+    requires { ⌜ Ready d (now table) (now display) (now page) ⌝ }
 {
     if !d.ok {
         return;
     }
     let s = d.state;
     let n = d.line;
-    let t = finishing::finish(show, s, line, n, table, page, 0);
+    let t = finishing::finish(show, s, line, n, table, display, page, 0);
     write(page, t.at);
 }
 
@@ -161,8 +173,20 @@ fn width() -> u8
     Board::FOUR
 }
 
+// What is shown.
+fn shown() -> Show {
+    let mut word = [0u8; 2];
+    os::arg(2, &mut word);
+    let c = word[0] == b'c' || word[1] == b'c';
+    let d = word[0] == b'd' || word[1] == b'd';
+    Show {
+        channels: c,
+        display: d,
+    }
+}
+
 fn main() {
-    let show = os::arg_count() > 2;
+    let show = shown();
     let w = width();
     let s = Board::fresh(w);
     let d = Desk {
@@ -171,9 +195,18 @@ fn main() {
         ok: true,
     };
     let mut table = [0u8; 1472];
+    let mut display = [0u8; 18];
     let mut line = [0u8; 527];
     let mut input = io::large_buffer();
     let mut page = io::large_buffer();
-    let e = turns(show, d, &mut line, &mut input, &mut table, &mut page);
-    last(show, e, &line, &mut table, &mut page);
+    let e = turns(
+        show,
+        d,
+        &mut line,
+        &mut input,
+        &mut table,
+        &mut display,
+        &mut page,
+    );
+    last(show, e, &line, &mut table, &mut display, &mut page);
 }

@@ -24,15 +24,16 @@ use Rattle.board.proofs.Laws.{held-next, fresh-sane, table-wide}
 use Rattle.widening.proofs.Maps.{length-frees}
 use Rattle.image.specs.Image.{STATE, imageOf, stateOf, isWhole, Whole}
 use Rattle.image.proofs.Round.{imageOf-stateOf, stateOf-imageOf}
+use Rattle.display.specs.Display.{DISPLAY}
 use Rattle.answers.specs.declared.Request.{Request}
 use Rattle.refusals.specs.declared.Op.{Op}
 use Rattle.refusals.specs.Refusals.{opIn, askedOf}
 use Rattle.desk_call.specs.declared.Outcome.{Outcome}
-use Rattle.desk_call.proofs.Promise.{one-call, refused-unmoved, few-each-half as few-laid, sound-after as sound-call}
+use Rattle.desk_call.proofs.Promise.{one-call, one-display, refused-unmoved, few-each-half as few-laid, sound-after as sound-call}
 use Rattle.sizes.specs.Sizes.{TABLE, ANSWER}
 use Rattle.handed.specs.Handed.{opFor, answerBytes}
-use Rattle.starting.specs.Starting.{Started}
-use Rattle.boundary.specs.Boundary.{Unanswered, Unread, Carried, Crossed}
+use Rattle.starting.specs.Starting.{Fits, Started}
+use Rattle.boundary.specs.Boundary.{Room, Unanswered, Unread, Carried, Crossed}
 
 -- ---- which case it is
 
@@ -44,6 +45,10 @@ same-or-not {R = R} m n y z = go (eqb m n) refl
     go true e = y (eqb-true m n e)
     go false e = z (eqb-false m n e)
 
+room-or-not {ℓ} : {R : Type ℓ} (an dp : List ℕ) → (Room an dp → R) → ((Room an dp → ⊥) → R) → R
+room-or-not an dp y z =
+    same-or-not (length an) ANSWER (λ a. same-or-not (length dp) DISPLAY (λ d. y (a, d)) (λ d. z (λ h. d (h .1)))) (λ a. z (λ h. a (h .0)))
+
 whole-or-not {ℓ} : {R : Type ℓ} (bs : List ℕ) → (Whole bs → R) → ((Whole bs → ⊥) → R) → R
 whole-or-not {R = R} bs y z = go (isWhole bs) refl
   where
@@ -54,87 +59,93 @@ whole-or-not {R = R} bs y z = go (isWhole bs) refl
 -- ---- no second crossing fits
 
 -- the same result and the same bytes
-pub record Same (n n₂ : ℕ) (st st₂ tb tb₂ l l₂ an an₂ : List ℕ) : Type 0 where
+pub record Same (n n₂ : ℕ) (st st₂ tb tb₂ dp dp₂ l l₂ an an₂ : List ℕ) : Type 0 where
   pub count : n ≡ n₂
   pub state : st ≡ st₂
   pub table : tb ≡ tb₂
+  pub display : dp ≡ dp₂
   pub list : l ≡ l₂
   pub answer : an ≡ an₂
 
-module _ {st tb l : List ℕ} {n n₂ : ℕ} {st₁ st₂ tb₁ tb₂ l₁ l₂ an₁ an₂ : List ℕ} where
-  unanswered-same : {an : List ℕ} → Unanswered st tb l an n st₁ tb₁ l₁ an₁ → Unanswered st tb l an n₂ st₂ tb₂ l₂ an₂ → Same n n₂ st₁ st₂ tb₁ tb₂ l₁ l₂ an₁ an₂
+module _ {st tb dp l : List ℕ} {n n₂ : ℕ} {st₁ st₂ tb₁ tb₂ dp₁ dp₂ l₁ l₂ an₁ an₂ : List ℕ} where
+  unanswered-same : {an : List ℕ} → Unanswered st tb dp l an n st₁ tb₁ dp₁ l₁ an₁ → Unanswered st tb dp l an n₂ st₂ tb₂ dp₂ l₂ an₂ → Same n n₂ st₁ st₂ tb₁ tb₂ dp₁ dp₂ l₁ l₂ an₁ an₂
   unanswered-same c e =
       record {
         count = c .count ∙ sym (e .count);
         state = c .state ∙ sym (e .state);
         table = c .table ∙ sym (e .table);
+        display = c .display ∙ sym (e .display);
         list = c .list ∙ sym (e .list);
         answer = c .answer ∙ sym (e .answer);
       }
 
-  unread-same : {k : ℕ} → Unread k st tb l n st₁ tb₁ l₁ an₁ → Unread k st tb l n₂ st₂ tb₂ l₂ an₂ → Same n n₂ st₁ st₂ tb₁ tb₂ l₁ l₂ an₁ an₂
+  unread-same : {k : ℕ} → Unread k st tb dp l n st₁ tb₁ dp₁ l₁ an₁ → Unread k st tb dp l n₂ st₂ tb₂ dp₂ l₂ an₂ → Same n n₂ st₁ st₂ tb₁ tb₂ dp₁ dp₂ l₁ l₂ an₁ an₂
   unread-same c e =
       record {
         count = c .count ∙ sym (e .count);
         state = c .state ∙ sym (e .state);
         table = c .table ∙ sym (e .table);
+        display = c .display ∙ sym (e .display);
         list = c .list ∙ sym (e .list);
         answer = c .answer ∙ sym (e .answer);
       }
 
-  carried-same : {o : Op} {r : Request} {ms : List ℕ} → Carried o r ms st tb l n st₁ tb₁ l₁ an₁ → Carried o r ms st tb l n₂ st₂ tb₂ l₂ an₂ → Same n n₂ st₁ st₂ tb₁ tb₂ l₁ l₂ an₁ an₂
+  carried-same : {o : Op} {r : Request} {ms : List ℕ} → Carried o r ms st tb dp l n st₁ tb₁ dp₁ l₁ an₁ → Carried o r ms st tb dp l n₂ st₂ tb₂ dp₂ l₂ an₂ → Same n n₂ st₁ st₂ tb₁ tb₂ dp₁ dp₂ l₁ l₂ an₁ an₂
   carried-same c e =
       let s = one-call (c .called) (e .called) in
       record {
         count = c .count ∙ ap (λ (d : Outcome). d .a + d .b) (s .outcome) ∙ sym (e .count);
         state = c .state .bytes ∙ ap (λ (d : Outcome). imageOf (d .state)) (s .outcome) ∙ sym (e .state .bytes);
         table = s .table;
+        display = one-display (c .shown) (e .shown);
         list = s .list;
         answer = c .answer ∙ ap (λ (d : Outcome). answerBytes (d .answer) (d .a) (d .b)) (s .outcome) ∙ sym (e .answer);
       }
 
-  pub one-crossing : {op : ℕ} {r : Request} {ms an : List ℕ} → Crossed op r ms st tb l an n st₁ tb₁ l₁ an₁ → Crossed op r ms st tb l an n₂ st₂ tb₂ l₂ an₂
-      → Same n n₂ st₁ st₂ tb₁ tb₂ l₁ l₂ an₁ an₂
+  pub one-crossing : {op : ℕ} {r : Request} {ms an : List ℕ} → Crossed op r ms st tb dp l an n st₁ tb₁ dp₁ l₁ an₁ → Crossed op r ms st tb dp l an n₂ st₂ tb₂ dp₂ l₂ an₂
+      → Same n n₂ st₁ st₂ tb₁ tb₂ dp₁ dp₂ l₁ l₂ an₁ an₂
   one-crossing {an = an} c e =
-      same-or-not (length an) ANSWER
+      room-or-not an dp
       (λ h. whole-or-not st (λ w. carried-same (c .carried h w) (e .carried h w)) (λ w. unread-same (c .unread h w) (e .unread h w)))
       (λ h. unanswered-same (c .unanswered h) (e .unanswered h))
 
 -- a second start does not fit either
-pub one-start : {w : ℕ} {st tb : List ℕ} {r r₂ : ℕ} {st₁ st₂ tb₁ tb₂ : List ℕ} → Started w st tb r st₁ tb₁ → Started w st tb r₂ st₂ tb₂
-    → (r ≡ r₂) × (st₁ ≡ st₂) × (tb₁ ≡ tb₂)
-one-start {w} {st} {tb} {r} {r₂} {st₁} {st₂} {tb₁} {tb₂} c e =
+fits-or-not {ℓ} : {R : Type ℓ} (w : ℕ) (st tb dp : List ℕ) → (Fits w st tb dp → R) → ((Fits w st tb dp → ⊥) → R) → R
+fits-or-not w st tb dp y z =
     by-test (sized w)
-    (λ t. same-or-not (length st) STATE (λ h. same-or-not (length tb) TABLE (both t h) (λ g. none (λ p. g (p .2)))) (λ h. none (λ p. h (p .1))))
-    (λ n. none (λ p. T-not (sized w) n (p .0)))
-  where
-    both : T (sized w) → length st ≡ STATE → length tb ≡ TABLE → (r ≡ r₂) × (st₁ ≡ st₂) × (tb₁ ≡ tb₂)
-    both t h g =
-        let x = c .begun t h g in
-        let y = e .begun t h g in
-        (x .result ∙ sym (y .result), x .state .bytes ∙ sym (y .state .bytes), x .table ∙ sym (y .table))
+    (λ t. same-or-not (length st) STATE
+    (λ h. same-or-not (length tb) TABLE
+    (λ g. same-or-not (length dp) DISPLAY (λ d. y record { board = t; state = h; table = g; display = d }) (λ n. z (λ p. n (p .display))))
+    (λ n. z (λ p. n (p .table))))
+    (λ n. z (λ p. n (p .state))))
+    (λ n. z (λ p. T-not (sized w) n (p .board)))
 
-    none : (T (sized w) × (length st ≡ STATE) × (length tb ≡ TABLE) → ⊥) → (r ≡ r₂) × (st₁ ≡ st₂) × (tb₁ ≡ tb₂)
-    none h =
-        let x = c .otherwise h in
-        let y = e .otherwise h in
-        (x .result ∙ sym (y .result), x .state ∙ sym (y .state), x .table ∙ sym (y .table))
+pub one-start : {w : ℕ} {st tb dp : List ℕ} {r r₂ : ℕ} {st₁ st₂ tb₁ tb₂ dp₁ dp₂ : List ℕ} → Started w st tb dp r st₁ tb₁ dp₁ → Started w st tb dp r₂ st₂ tb₂ dp₂
+    → (r ≡ r₂) × (st₁ ≡ st₂) × (tb₁ ≡ tb₂) × (dp₁ ≡ dp₂)
+one-start {w} {st} {tb} {dp} c e =
+    fits-or-not w st tb dp
+    (λ h. let x = c .begun h in
+    let y = e .begun h in
+    (x .result ∙ sym (y .result), x .state .bytes ∙ sym (y .state .bytes), x .table ∙ sym (y .table), x .display ∙ sym (y .display)))
+    (λ h. let x = c .otherwise h in
+    let y = e .otherwise h in
+    (x .result ∙ sym (y .result), x .state ∙ sym (y .state), x .table ∙ sym (y .table), x .display ∙ sym (y .display)))
 
 -- ---- what is refused moves no byte of state and table
 
-error-told : {o : Op} {r : Request} {ms st tb l : List ℕ} {n : ℕ} {st′ tb′ l′ an′ : List ℕ} (c : Carried o r ms st tb l n st′ tb′ l′ an′)
+error-told : {o : Op} {r : Request} {ms st tb dp l : List ℕ} {n : ℕ} {st′ tb′ dp′ l′ an′ : List ℕ} (c : Carried o r ms st tb dp l n st′ tb′ dp′ l′ an′)
     → getD an′ 1 0 ≡ c .outcome .answer .error
 unfolding answerBytes
 error-told c = ap (λ (x : List ℕ). getD x 1 0) (c .answer)
 
-module _ {op : ℕ} {r : Request} {ms st tb l an : List ℕ} {n : ℕ} {st′ tb′ l′ an′ : List ℕ} (c : Crossed op r ms st tb l an n st′ tb′ l′ an′) where
+module _ {op : ℕ} {r : Request} {ms st tb dp l an : List ℕ} {n : ℕ} {st′ tb′ dp′ l′ an′ : List ℕ} (c : Crossed op r ms st tb dp l an n st′ tb′ dp′ l′ an′) where
   pub refused-still : T (among (getD an′ 1 0) refusals) → (st′ ≡ st) × (tb′ ≡ tb)
   refused-still t =
-      same-or-not (length an) ANSWER
+      room-or-not an dp
       (λ h. whole-or-not st (λ w. whole w (c .carried h w)) (λ w. (c .unread h w .state, c .unread h w .table)))
       (λ h. (c .unanswered h .state, c .unanswered h .table))
     where
-      whole : Whole st → Carried (opFor (opOf op)) r ms st tb l n st′ tb′ l′ an′ → (st′ ≡ st) × (tb′ ≡ tb)
+      whole : Whole st → Carried (opFor (opOf op)) r ms st tb dp l n st′ tb′ dp′ l′ an′ → (st′ ≡ st) × (tb′ ≡ tb)
       whole w k =
           let u = refused-unmoved (k .called) (subst (λ (x : ℕ). T (among x refusals)) (error-told k) t) in
           (k .state .bytes ∙ ap imageOf (u .0) ∙ imageOf-stateOf st w, u .1)
@@ -146,24 +157,24 @@ module _ {op : ℕ} {r : Request} {ms st tb l an : List ℕ} {n : ℕ} {st′ tb
   numbers = (getD an′ 6 0, getD an′ 7 0)
 
   -- the result is their sum
-  pub halves-told : length an ≡ ANSWER → (n ≡ numbers .0 + numbers .1) × (numbers .0 ≤ HALF) × (numbers .1 ≤ HALF)
+  pub halves-told : Room an dp → (n ≡ numbers .0 + numbers .1) × (numbers .0 ≤ HALF) × (numbers .1 ≤ HALF)
   unfolding answerBytes
   halves-told h = whole-or-not st (λ w. carried (c .carried h w)) (λ w. unread (c .unread h w))
     where
-      carried : Carried (opFor (opOf op)) r ms st tb l n st′ tb′ l′ an′ → (n ≡ numbers .0 + numbers .1) × (numbers .0 ≤ HALF) × (numbers .1 ≤ HALF)
+      carried : Carried (opFor (opOf op)) r ms st tb dp l n st′ tb′ dp′ l′ an′ → (n ≡ numbers .0 + numbers .1) × (numbers .0 ≤ HALF) × (numbers .1 ≤ HALF)
       carried k = let f = few-laid (k .called) in rw (k .answer) (k .count, f .0, f .1)
 
-      unread : Unread (r .key) st tb l n st′ tb′ l′ an′ → (n ≡ numbers .0 + numbers .1) × (numbers .0 ≤ HALF) × (numbers .1 ≤ HALF)
+      unread : Unread (r .key) st tb dp l n st′ tb′ dp′ l′ an′ → (n ≡ numbers .0 + numbers .1) × (numbers .0 ≤ HALF) × (numbers .1 ≤ HALF)
       unread k = rw (k .answer) (k .count, omega arith, omega arith)
 
-  pub few-each-half : length an ≡ ANSWER → (getD an′ 6 0 ≤ HALF) × (getD an′ 7 0 ≤ HALF)
+  pub few-each-half : Room an dp → (getD an′ 6 0 ≤ HALF) × (getD an′ 7 0 ≤ HALF)
   few-each-half h = let f = halves-told h in (f .1, f .2)
 
-  pub few-replies : length an ≡ ANSWER → n ≤ 64
+  pub few-replies : Room an dp → n ≤ 64
   few-replies h = let f = halves-told h in omega arith
 
   -- ---- a sound state is followed by a sound state: the one that the machine names
-  module _ (h : length an ≡ ANSWER) (w : Whole st) (s : Held (stateOf st) tb) where
+  module _ (h : Room an dp) (w : Whole st) (s : Held (stateOf st) tb) where
     abbrev o₀ : Op
     o₀ = opFor (opOf op)
 
@@ -196,10 +207,12 @@ fresh-table : (w : ℕ) → tableOf (freshOn w) ≡ replicate TABLE 0
 unfolding frees
 fresh-table w = table-wide w (freshOn 0) ∙ none-fresh
 
-pub fresh-after : (w : ℕ) {st tb : List ℕ} {r : ℕ} {st′ tb′ : List ℕ} → Started w st tb r st′ tb′ → T (sized w) → length st ≡ STATE → length tb ≡ TABLE
+pub fresh-after : (w : ℕ) {st tb dp : List ℕ} {r : ℕ} {st′ tb′ dp′ : List ℕ} → Started w st tb dp r st′ tb′ dp′ → Fits w st tb dp
     → Whole st′ × Held (stateOf st′) tb′ × (stateIn (stateOf st′) tb′ ≡ freshOn w)
-fresh-after w {tb = tb} {st′ = st′} {tb′ = tb′} c k h g =
-    let b = c .begun k h g in
+fresh-after w {tb = tb} {st′ = st′} {tb′ = tb′} c f =
+    let b = c .begun f in
+    let k = f .board in
+    let g = f .table in
     let e : structOf (freshOn w) ≡ stateOf st′ = sym (ap stateOf (b .state .bytes) ∙ stateOf-imageOf (structOf (freshOn w)) (b .state .sized)) in
     let t : tb′ ≡ tableOf (freshOn w) = b .table ∙ ap (λ (k : ℕ). replicate k 0) g ∙ sym (fresh-table w) in
     let a = held-next (freshOn w) (stateOf st′) tb′ (parts _ (fresh-sane w k)) (subst (λ (n : ℕ). T (sized n)) (sym (length-frees w)) k) (sym e) t in

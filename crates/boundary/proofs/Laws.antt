@@ -8,13 +8,15 @@ use Rattle.machine.specs.Commands.{done}
 use Rattle.machine.specs.Log.{opOf}
 use Rattle.machine.proofs.Tests.{test-true}
 use Rattle.image.specs.Image.{isWhole, Whole}
+use Rattle.board.specs.declared.Board.{Board}
 use Rattle.answers.specs.declared.Request.{Request}
 use Rattle.answers.specs.declared.Answer.{Answer}
 use Rattle.answers.specs.Answers.{answerOf}
 use Rattle.refusals.specs.declared.Op.{Op}
 use Rattle.refusing.proofs.Laws.{false-true}
+use Rattle.arbiter.specs.Arbiter.{Shows}
 use Rattle.handed.specs.Handed.{opFor, requestOf, answerBytes}
-use Rattle.boundary.specs.Boundary.{Carried, Crossed}
+use Rattle.boundary.specs.Boundary.{Room, Carried, Crossed}
 
 -- ---- the request
 
@@ -24,29 +26,35 @@ request-made desk op id flags map prec key e = ap (λ (x : ℕ). record { desk =
 
 -- ---- a call
 
-module _ {op : ℕ} {r : Request} {ms st tb l an : List ℕ} where
-  pub no-answer : (length an ≡ 8 → ⊥) → Crossed op r ms st tb l an 255 st tb l an
+module _ {op : ℕ} {r : Request} {ms st tb dp l an : List ℕ} where
+  pub no-answer : (Room an dp → ⊥) → Crossed op r ms st tb dp l an 255 st tb dp l an
   no-answer n =
       record {
-        unanswered = λ _. record { count = refl; state = refl; table = refl; list = refl; answer = refl };
+        unanswered = λ _. record { count = refl; state = refl; table = refl; display = refl; list = refl; answer = refl };
         unread = λ h. absurd (n h);
         carried = λ h. absurd (n h);
       }
 
-  pub not-read : length an ≡ 8 → {b : Bool} → b ≡ isWhole st → b ≡ false → {a : Answer} {an′ : List ℕ} → a ≡ answerOf (done 1 0 (r .key) 255) → an′ ≡ answerBytes a 0 0
-      → Crossed op r ms st tb l an 0 st tb l an′
+  pub not-read : Room an dp → {b : Bool} → b ≡ isWhole st → b ≡ false → {a : Answer} {an′ : List ℕ} → a ≡ answerOf (done 1 0 (r .key) 255) → an′ ≡ answerBytes a 0 0
+      → Crossed op r ms st tb dp l an 0 st tb dp l an′
   not-read h w q e v =
       record {
         unanswered = λ n. absurd (n h);
-        unread = λ _ _. record { count = refl; state = refl; table = refl; list = refl; answer = v ∙ ap (λ (a : Answer). answerBytes a 0 0) e };
+        unread = λ _ _. record { count = refl; state = refl; table = refl; display = refl; list = refl; answer = v ∙ ap (λ (a : Answer). answerBytes a 0 0) e };
         carried = λ _ y. absurd (false-true (sym q ∙ w ∙ test-true _ y));
       }
 
-  pub was-carried : length an ≡ 8 → Whole st → {o : Op} → o ≡ opFor (opOf op) → {x : Request} → x ≡ r → {n : ℕ} {st′ tb′ l′ an′ : List ℕ}
-      → Carried o x ms st tb l n st′ tb′ l′ an′ → Crossed op r ms st tb l an n st′ tb′ l′ an′
-  was-carried h w {o} e {x} f {n} {st′} {tb′} {l′} {an′} c =
+  pub was-carried : Room an dp → Whole st → {o : Op} → o ≡ opFor (opOf op) → {x : Request} → x ≡ r → {n : ℕ} {st′ tb′ dp′ l′ an′ : List ℕ}
+      → Carried o x ms st tb dp l n st′ tb′ dp′ l′ an′ → Crossed op r ms st tb dp l an n st′ tb′ dp′ l′ an′
+  was-carried h w {o} e {x} f {n} {st′} {tb′} {dp′} {l′} {an′} c =
       record {
         unanswered = λ n. absurd (n h);
         unread = λ _ y. absurd (y w);
-        carried = λ _ _. subst (λ (o : Op). Carried o r ms st tb l n st′ tb′ l′ an′) e (subst (λ (y : Request). Carried o y ms st tb l n st′ tb′ l′ an′) f c);
+        carried = λ _ _. subst (λ (o : Op). Carried o r ms st tb dp l n st′ tb′ dp′ l′ an′) e (subst (λ (y : Request). Carried o y ms st tb dp l n st′ tb′ dp′ l′ an′) f c);
       }
+
+-- ---- the display in an array of the code's own
+
+pub shown-as : {o : Op} {r : Request} {b : Board} {ms tb l xs ys dp dp′ : List ℕ} → xs ≡ dp → dp′ ≡ ys → Shows o r b ms tb l xs ys → Shows o r b ms tb l dp dp′
+shown-as {o} {r} {b} {ms} {tb} {l} {xs} {ys} {dp} e f c =
+    subst (λ (x : List ℕ). Shows o r b ms tb l dp x) (sym f) (subst (λ (x : List ℕ). Shows o r b ms tb l x ys) e c)

@@ -51,10 +51,10 @@ prec-byte n = let y : (n + 128) % 256 < 256 = mod-lt (n + 128) (omega arith) in 
 module _ {st tb : List ℕ} {t : Turn} (w : Whole st) (h : Held (stateOf st) tb) (k : Took st tb t) where
   -- the bytes hold the machine's next state
   after : Whole (t .state) × Held (stateOf (t .state)) (t .table) × (stateIn (stateOf (t .state)) (t .table) ≡ call (stateIn (stateOf st) tb) (asked t) .next)
-  after = sound-after (k .crossed) (k .eight) w h (prec-byte (t .prec), k .key) (count-of (asked t .op) (asked t) (k .count))
+  after = sound-after (k .crossed) (k .rooms) w h (prec-byte (t .prec), k .key) (count-of (asked t .op) (asked t) (k .count))
 
-  pub over : Carried (opFor (opOf (t .op))) (request t) (t .combos) st tb (t .lent) (t .n) (t .state) (t .table) (t .list) (t .answer)
-  over = k .crossed .carried (k .eight) w
+  pub over : Carried (opFor (opOf (t .op))) (request t) (t .combos) st tb (t .wall) (t .lent) (t .n) (t .state) (t .table) (t .display) (t .list) (t .answer)
+  over = k .crossed .carried (k .rooms) w
 
   pub tells : Told (call (stateIn (stateOf st) tb) (asked t)) (t .lent) (over .outcome) (t .table) (t .list)
   tells = over .called .sound h

@@ -15,6 +15,7 @@ use Rattle.machine.specs.Call.{call, inRange}
 use Rattle.machine.specs.Machine.{machine}
 use Rattle.machine.proofs.Tests.{and-left, and-right}
 use Rattle.machine_laws.proofs.Sound.{parts}
+use Rattle.display.specs.Display.{blank, displayed}
 use Rattle.halves.specs.Halves.{laid}
 use Rattle.store.specs.Store.{tableOf}
 use Rattle.board.specs.declared.Board.{Board}
@@ -24,6 +25,7 @@ use Rattle.image.proofs.Round.{stateOf-imageOf}
 use Rattle.images.proofs.Images.{saved-of, sized-of}
 use Rattle.answers.specs.Answers.{answerOf}
 use Rattle.refusals.specs.Refusals.{askedOf}
+use Rattle.arbiter.specs.Arbiter.{Shows}
 use Rattle.desk_call.specs.declared.Outcome.{Outcome}
 use Rattle.desk_call.specs.DeskCall.{Told, Called}
 use Rattle.sizes.specs.Sizes.{REPLIES}
@@ -70,11 +72,13 @@ made s a =
       prec = a .prec;
       key = a .key;
       combos = a .combos;
+      wall = blank;
       lent = records;
       room = replicate 8 0;
       n = length (repliesTo DESK·A (o .replies)) + length (repliesTo DESK·B (o .replies));
       state = bytesOf (o .next);
       table = tableOf (o .next);
+      display = displayed s (spelt a) blank;
       list = laid records (o .replies);
       answer = answerBytes (answerOf (o .answer)) (length (repliesTo DESK·A (o .replies))) (length (repliesTo DESK·B (o .replies)));
     }
@@ -128,6 +132,9 @@ module _ {s : StateM} (b : OnBoard s) where
         (tableOf (call s (spelt a) .next)) (laid records (call s (spelt a) .replies))
     made-called = record { sound = λ _. rw (board-state b) made-told; unsound = λ n. absurd (n (board-held b)) }
 
+    made-shown : Shows (opFor (opOf (a .op))) (request (made s a)) (structOf s) (a .combos) (tableOf s) records blank (displayed s (spelt a) blank)
+    made-shown = record { sound = λ _. rw (board-state b); unsound = λ n. absurd (n (board-held b)) }
+
     made-took : Took (bytesOf s) (tableOf s) (made s a)
     unfolding inRange
     made-took =
@@ -135,17 +142,18 @@ module _ {s : StateM} (b : OnBoard s) where
         record {
           crossed =
               record {
-                unanswered = λ n. absurd (n refl);
+                unanswered = λ n. absurd (n (refl, refl));
                 unread = λ _ n. absurd (n bytes-whole);
                 carried = λ _ _. record {
                   outcome = outcomeOf o;
                   called = rw bytes-state made-called;
+                  shown = rw bytes-state made-shown;
                   count = refl;
                   state = saved-of (o .next) (parts (o .next) (sound-next s (spelt a) f (b .sane)));
                   answer = refl;
                 };
               };
-          eight = refl;
+          rooms = (refl, refl);
           key = leb→le (a .key) 65535 (and-right (leb (spelt a .prec) 255) (leb (a .key) 65535) (bytes-range (spelt a) f));
           count = bytes-count (spelt a) f;
         }

@@ -1,10 +1,11 @@
 -- Demand 3 on the bytes that a program in C lends: runs of `qamhudeer_call`, by its promise `Crossed` and nothing else. The
 -- premises are those of crates/two_runs, said of the states that the bytes hold. proofs/CRuns.antt proves the claim as
--- `K-sees-the-same-bytes`.
+-- `K-sees-the-same-bytes`. #110: "For the two-run rule these reports are the managers' and not a desk's": whatever display is lent,
+-- it is no part of what the K party or a desk sees.
 -- Assumes nothing.
 --
---   Turn                 one call: the numbers, combinations, reply list and room for the answer as lent; the result, and all bytes
---                        as they became
+--   Turn                 one call: the numbers, combinations, display, reply list and room for the answer as lent; the result, and all
+--                        bytes as they became
 --   request t, asked t   its numbers as the struct has them; as the machine's call has them
 --   Took st tb t         it took the bytes of a state and a table there, by the promise; a key and a WRITE's count of cycles are two
 --                        bytes
@@ -28,9 +29,9 @@ use Rattle.board.specs.Board.{stateIn, Held}
 use Rattle.image.specs.Image.{stateOf, Whole, channelBytes}
 use Rattle.answers.specs.declared.Request.{Request}
 use Rattle.refusals.specs.Refusals.{askedOf}
-use Rattle.sizes.specs.Sizes.{ANSWER, REPLIES}
+use Rattle.sizes.specs.Sizes.{REPLIES}
 use Rattle.handed.specs.Handed.{opFor, requestOf}
-use Rattle.boundary.specs.Boundary.{Crossed}
+use Rattle.boundary.specs.Boundary.{Room, Crossed}
 use Rattle.two_runs.specs.TwoRuns.{Party, Start, ByK, ByOthers, counted, said}
 use Rattle.code_runs.specs.CodeRuns.{recordsTo, viewOf, storedOf}
 
@@ -43,11 +44,13 @@ pub record Turn : Type 0 where
   pub prec : ℕ
   pub key : ℕ
   pub combos : List ℕ
+  pub wall : List ℕ
   pub lent : List ℕ
   pub room : List ℕ
   pub n : ℕ
   pub state : List ℕ
   pub table : List ℕ
+  pub display : List ℕ
   pub list : List ℕ
   pub answer : List ℕ
 
@@ -58,8 +61,8 @@ abbrev pub asked : Turn → Call
 asked t = askedOf (opFor (opOf (t .op))) (request t) (t .combos) (length (t .lent))
 
 pub record Took (st tb : List ℕ) (t : Turn) : Type 0 where
-  pub crossed : Crossed (t .op) (request t) (t .combos) st tb (t .lent) (t .room) (t .n) (t .state) (t .table) (t .list) (t .answer)
-  pub eight : length (t .room) ≡ ANSWER
+  pub crossed : Crossed (t .op) (request t) (t .combos) st tb (t .wall) (t .lent) (t .room) (t .n) (t .state) (t .table) (t .display) (t .list) (t .answer)
+  pub rooms : Room (t .room) (t .wall)
   pub key : t .key ≤ 65535
   pub count : T (counted (asked t .op) (asked t))
 

@@ -43,6 +43,7 @@ use Rattle.refusals.specs.declared.Op.the-variants.{Open, Close, Abort, CycleEn
 use Rattle.refusals.specs.Refusals.{opIn, askedOf}
 use Rattle.steps.specs.Steps.{numberOf}
 use Rattle.operations.specs.Operations.{act, Allowed}
+use Rattle.display.specs.Looks.{looks, acting, looksAfter, lookedBy}
 use Rattle.deciding.specs.Deciding.{restsAt, decisionOf, Decided}
 use Rattle.refusing.specs.Refusing.{dueReplies, Refused}
 
@@ -265,3 +266,45 @@ module _ {o : Op} {r : Request} {s : State} {ms tb l : List ℕ} (a : Allowed o 
               count = v .count ∙ ap (λ (k : ℕ). k + length (settle (o₁ .next) .replies)) (t .did .count ∙ zero-add (length (o₁ .replies))) ∙ sym (zero-add _) ∙ ap (λ (k : ℕ). 0 + k) (sym (length-append (o₁ .replies) (settle (o₁ .next) .replies)));
             };
           }
+
+-- ---- the looks of the last settling
+
+acts : (o : OpM) (c : Call) (s : StateM) → acting o c s ≡ act o c s
+unfolding acting
+acts OPEN c s = refl
+acts CLOSE c s = refl
+acts ABORT c s = refl
+acts (EVENT v) c s = refl
+acts (COMMAND n) c s = refl
+
+pub refused-looks : {o : Op} {e : ℕ} {r : Request} {s : State} {ms tb l : List ℕ} → Decided o e r s ms tb l → (e ≡ 0 → ⊥)
+    → {k : ℕ} → k ≡ lookedBy (decisionOf e) (askedOf o r ms (length l)) (stateIn s tb) k
+unfolding lookedBy
+refused-looks {o} {e} {r} {s} {ms} {tb} {l} _ n {k} = ap (λ (x : Refusal). lookedBy x (askedOf o r ms (length l)) (stateIn s tb) k) (sym (refused-decided e n))
+
+-- an OPEN answered -11 leaves the number, and any other settling sets it
+looks-by : (o : Op) (n : ℕ) (u : OutcomeM) (k : ℕ) → looksAfter (opIn o n) u k ≡ (if restsAt o (u .answer .error) then k else looks (u .next))
+unfolding looksAfter
+looks-by Open n u k = refl
+looks-by Close n u k = refl
+looks-by Abort n u k = refl
+looks-by CycleEnded n u k = refl
+looks-by GaveUp n u k = refl
+looks-by Command n u k = refl
+
+module _ {o : Op} {r : Request} {s : State} {ms tb l : List ℕ} (a : Allowed o r s ms tb l) {d : Outcome} {tb₁ l₁ : List ℕ}
+    (t : Told (act (opIn o (r .command)) (askedOf o r ms (length l)) (stateIn s tb)) l d tb₁ l₁) where
+  looks-are : (e k : ℕ) → e ≡ 0 → lookedBy (decisionOf e) (c₀ a t) (s₀ a t) k ≡ (if restsAt o (d .answer .error) then k else looks (o₁ a t .next))
+  unfolding lookedBy
+  looks-are e k z =
+      ap (λ (x : Refusal). lookedBy x (c₀ a t) (s₀ a t) k) (zero-decided e z)
+      ∙ (ap (λ (u : OutcomeM). looksAfter (opIn o (r .command)) u k) (acts (opIn o (r .command)) (c₀ a t) (s₀ a t))
+      ∙ (looks-by o (r .command) (o₁ a t) k ∙ ap (λ (x : ℕ). if restsAt o x then k else looks (o₁ a t .next)) (sym (error-told a t))))
+
+  pub resting-looks : {e k : ℕ} → e ≡ 0 → restsAt o (d .answer .error) ≡ true → k ≡ lookedBy (decisionOf e) (askedOf o r ms (length l)) (stateIn s tb) k
+  resting-looks {e} {k} z q = sym (looks-are e k z ∙ ap (λ (b : Bool). if b then k else looks (o₁ a t .next)) q)
+
+  pub settled-looks : (range : (r .prec ≤ 255) × (r .key ≤ 65535)) → ((i : ℕ) → getD ms i 0 < 256) → {e x : ℕ} (k : ℕ) → e ≡ 0 → restsAt o (d .answer .error) ≡ false
+      → x ≡ looks (stateIn (d .state) tb₁) → x ≡ lookedBy (decisionOf e) (askedOf o r ms (length l)) (stateIn s tb) k
+  settled-looks range bytes {e} {x} k z q w =
+      w ∙ (ap looks (next-held a t q range bytes .1) ∙ sym (looks-are e k z ∙ ap (λ (b : Bool). if b then k else looks (o₁ a t .next)) q))

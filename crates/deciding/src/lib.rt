@@ -6,6 +6,7 @@ use store::State;
 ghost use mathlib.Core.Path.{_≡_};
 ghost use lib.ListN.{length};
 ghost use Rattle.machine.specs.Call.{answering};
+ghost use Rattle.display.specs.Looks.{lookedBy};
 ghost use Rattle.store.specs.Store.{stateIn as wideIn};
 ghost use Rattle.answers.specs.Answers.{Told as WideTold};
 ghost use Rattle.refusals.specs.Refusals.{askedOf};
@@ -25,7 +26,14 @@ fn rests(op: Op, a: Answer) -> bool
     }
 }
 
-// What is done once the refusal is decided: `e` is its number, 0 for none. On the state of eight channels, whatever the board's.
+// What came of a call, and how many waiting requests the last settling looked at: its own, or an earlier one where it settled nothing.
+pub struct Done {
+    pub outcome: answers::Outcome,
+    pub looks: usize,
+}
+
+// What is done once the refusal is decided: `e` is its number, 0 for none; `looks` are those of the last settling. On the state of
+// eight channels, whatever the board's.
 pub fn decided(
     op: Op,
     e: u8,
@@ -34,25 +42,35 @@ pub fn decided(
     combos: &[u8],
     table: &mut [u8],
     replies: &mut [u8],
-) -> answers::Outcome
+    looks: usize,
+) -> Done
     requires { ⌜ Decided op e r s (now combos) (now table) (now replies) ⌝ }
     ensures { λ d. ⌜ WideTold (answering (decisionOf e) (askedOf op r (now (combos .entry)) (length (now (replies .entry)))) (wideIn s (now (table .entry))))
-        (now (replies .entry)) d (now (table .exit)) (now (replies .exit)) ⌝ }
+        (now (replies .entry)) (d .outcome) (now (table .exit)) (now (replies .exit))
+        × (d .looks ≡ lookedBy (decisionOf e) (askedOf op r (now (combos .entry)) (length (now (replies .entry)))) (wideIn s (now (table .entry))) looks) ⌝ }
 {
     if e != 0 {
-        return refusing::refuse(op, e, r, s, replies);
+        let refused = refusing::refuse(op, e, r, s, replies);
+        return Done {
+            outcome: refused,
+            looks,
+        };
     }
     let d = operations::perform(op, r, s, combos, table, replies);
     let a = d.answer;
     if rests(op, a) {
-        return d;
+        return Done { outcome: d, looks };
     }
     let t = d.state;
     let u = settling::settle(t, table, replies, d.n);
     let after = u.state;
-    answers::Outcome {
+    let settled = answers::Outcome {
         answer: a,
         state: after,
         n: u.n,
+    };
+    Done {
+        outcome: settled,
+        looks: u.looks,
     }
 }

@@ -19,6 +19,8 @@ use Rattle.machine.specs.Call.{call}
 use Rattle.machine_laws.proofs.Replies.{call-replies}
 use Rattle.machine_laws.proofs.Halves.{call-halves}
 use Rattle.machine_laws.proofs.Rooms.{lent, room-unread, short-mute}
+use Rattle.display.specs.Display.{displayed}
+use Rattle.display.proofs.Rooms.{displayed-room}
 use Rattle.reply.specs.Replies.{encodes, sent}
 use Rattle.halves.specs.declared.Halves.{Halves}
 use Rattle.halves.specs.Halves.{Laying, Laid, laid}
@@ -31,7 +33,7 @@ use Rattle.board.specs.declared.Outcome.{Outcome as OutcomeI}
 use Rattle.board.specs.Board.{structOf, stateIn, Held, Told as ToldI}
 use Rattle.refusals.specs.declared.Op.{Op}
 use Rattle.refusals.specs.Refusals.{askedOf}
-use Rattle.arbiter.specs.Arbiter.{Unmoved as UnmovedI, Called as CalledI}
+use Rattle.arbiter.specs.Arbiter.{Unmoved as UnmovedI, Called as CalledI, Shows}
 use Rattle.arbiter.proofs.Outcome.{held-or-not}
 use Rattle.desk_call.specs.declared.Outcome.{Outcome}
 use Rattle.desk_call.specs.DeskCall.{roomOf, Told, Unmoved, Called}
@@ -167,3 +169,21 @@ module _ {o : Op} {r : Request} {b : Board} {ms tb : List ℕ} (l m : List ℕ) 
 
     pub was-called : Called o r b ms tb l out tb′ l′
     was-called = record { sound = sound-told; unsound = unsound-unmoved }
+
+-- ---- the display
+
+module _ {o : Op} {r : Request} {b : Board} {ms tb : List ℕ} (l m : List ℕ) (z : length m ≡ 384) {k : ℕ} (q : k ≡ roomOf (length l)) {dp dp′ : List ℕ} where
+  -- it does not show how much room is lent, but where there is too little
+  pub was-shown : Shows o r b ms tb (take k m) dp dp′ → Shows o r b ms tb l dp dp′
+  was-shown c = record { sound = λ h. c .sound h ∙ go (ltb (length l) 384) refl; unsound = c .unsound }
+    where
+      go : (x : Bool) → ltb (length l) 384 ≡ x → displayed (stateIn b tb) (askedOf o r ms (length (take k m))) dp ≡ displayed (stateIn b tb) (askedOf o r ms (length l)) dp
+      go true e =
+          let u = ltb-true (length l) 384 e in
+          let kl : k ≡ length l = q ∙ sym (room-short (length l) u) in
+          ap (λ (n : ℕ). displayed (stateIn b tb) (askedOf o r ms n) dp) (length-take-le k m (omega arith) ∙ kl)
+      go false e =
+          let u = ltb-false (length l) 384 e in
+          let kl : k ≡ 384 = q ∙ sym (room-long (length l) u) in
+          ap (λ (n : ℕ). displayed (stateIn b tb) (askedOf o r ms n) dp) (length-take-le k m (omega arith) ∙ kl)
+          ∙ displayed-room (askedOf o r ms (length l)) 64 (omega arith) (omega arith) (stateIn b tb) dp

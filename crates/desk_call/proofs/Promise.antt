@@ -1,4 +1,4 @@
--- What the promise of a desk's call comes to: no second outcome fits it, what is refused moves nothing, each half has at most 32
+-- What the promise of a desk's call comes to: no second outcome or display fits it, what is refused moves nothing, each half has at most 32
 -- replies, and a sound state is followed by a sound state. Assumes nothing.
 use Prim.Native.Nat.{ℕ, _+_, _≤_}
 use mathlib.Core.Path.{_≡_, refl, ap, sym, subst, _∙_}
@@ -27,7 +27,7 @@ use Rattle.board.specs.declared.Outcome.{Outcome as OutcomeI}
 use Rattle.board.specs.Board.{structOf, stateIn, Held, Told as ToldI}
 use Rattle.refusals.specs.declared.Op.{Op}
 use Rattle.refusals.specs.Refusals.{opIn, askedOf}
-use Rattle.arbiter.specs.Arbiter.{Called as CalledI}
+use Rattle.arbiter.specs.Arbiter.{Called as CalledI, Shows}
 use Rattle.arbiter.proofs.Outcome.{held-or-not, held-after}
 use Rattle.desk_call.specs.declared.Outcome.{Outcome}
 use Rattle.desk_call.specs.DeskCall.{Told, Unmoved, Called}
@@ -90,6 +90,10 @@ not-heard t = t
 module _ {o : Op} {r : Request} {b : Board} {ms tb l : List ℕ} where
   pub one-call : {d d₂ : Outcome} {tb₁ tb₂ l₁ l₂ : List ℕ} → Called o r b ms tb l d tb₁ l₁ → Called o r b ms tb l d₂ tb₂ l₂ → Same d d₂ tb₁ tb₂ l₁ l₂
   one-call c e = held-or-not b tb (λ h. told-same (c .sound h) (e .sound h)) (λ n. unmoved-same (c .unsound n) (e .unsound n))
+
+  -- nor a second display
+  pub one-display : {dp dp₁ dp₂ : List ℕ} → Shows o r b ms tb l dp dp₁ → Shows o r b ms tb l dp dp₂ → dp₁ ≡ dp₂
+  one-display c e = held-or-not b tb (λ h. c .sound h ∙ sym (e .sound h)) (λ n. c .unsound n ∙ sym (e .unsound n))
 
   module _ {d : Outcome} {tb₁ l₁ : List ℕ} (c : Called o r b ms tb l d tb₁ l₁) where
     -- the error that the code tells is the machine's

@@ -1,7 +1,7 @@
 -- What stands of a last line, put on the page, is what `finished` says. Assumes nothing.
 use Prim.Native.Nat.{ℕ, _≤_}
 use mathlib.Core.Path.{_≡_, ap, sym, _∙_}
-use mathlib.Core.Bool.{Bool, true, false}
+use mathlib.Core.Bool.{true, false}
 use mathlib.Core.List.{List}
 use native.Mathlib.Omega.{arith}
 use borrow.Author.Tests.{eqb-true, eqb-false}
@@ -10,10 +10,10 @@ use lib.ListN.{length}
 use Rattle.machine.proofs.Tests.{by-test, test-true, test-false}
 use Rattle.board.specs.declared.Board.{Board}
 use Rattle.board.specs.Board.{stateIn, Held}
-use Rattle.board.proofs.Laws.{held-eight}
 use Rattle.gathering.specs.Lumps.{used}
+use Rattle.taking.specs.declared.Show.{Show}
 use Rattle.taking.specs.declared.Taken.{Taken}
-use Rattle.taking.specs.Desk.{Desk, deskOf, fits, closed, finished, Ends}
+use Rattle.taking.specs.Desk.{hidden, Desk, deskOf, fits, closed, finished, Ends}
 use Rattle.taking.proofs.Kept.{held-fine, closed-fine, leaves-held}
 use Rattle.taking.proofs.Laws.{Same, one-leaving, closed-none, closed-some}
 use Rattle.putting.specs.Putting.{Puts}
@@ -23,7 +23,7 @@ use Rattle.finishing.specs.Finishing.{Finishes}
 
 -- ---- the end
 
-module _ (show : Bool) (d : Desk) where
+module _ (show : Show) (d : Desk) where
   pub finished-fits : fits show d ≡ true → finished show d ≡ closed show d
   unfolding finished
   finished-fits e = rw e
@@ -32,40 +32,40 @@ module _ (show : Bool) (d : Desk) where
   unfolding finished
   finished-full e = rw e
 
-module _ {s : Board} {tb l out : List ℕ} {n : ℕ} {t : Taken} {tb′ out′ : List ℕ} (w : Ends s tb l n out t tb′ out′) where
+module _ {s : Board} {tb dp l out : List ℕ} {n : ℕ} {t : Taken} {tb′ dp′ out′ : List ℕ} (w : Ends s tb dp l n out t tb′ dp′ out′) where
   pub end-few : Held s tb → t .at ≤ 973
   end-few h =
       by-test (eqb n 0)
-      (λ y. let e = eqb-true n 0 (test-true (eqb n 0) y) in let v = rw (closed-none false (deskOf s tb l n out 0) e) at (w .leaves) in let z : t .at ≡ 0 = v .at in omega arith)
-      (λ y. let e = eqb-false n 0 (test-false (eqb n 0) y) in answered-few (stateIn s tb) l out n 0 (rw (closed-some false (deskOf s tb l n out 0) e) at (w .leaves)) (h .sane))
+      (λ y. let e = eqb-true n 0 (test-true (eqb n 0) y) in let v = rw (closed-none hidden (deskOf s tb dp l n out 0) e) at (w .leaves) in let z : t .at ≡ 0 = v .at in omega arith)
+      (λ y. let e = eqb-false n 0 (test-false (eqb n 0) y) in answered-few (stateIn s tb) dp l out n 0 (rw (closed-some hidden (deskOf s tb dp l n out 0) e) at (w .leaves)) (h .sane))
 
   pub end-size : Held s tb → 973 ≡ length out → 973 ≡ length out′
   end-size h z =
       by-test (eqb n 0)
-      (λ y. let e = eqb-true n 0 (test-true (eqb n 0) y) in let v = rw (closed-none false (deskOf s tb l n out 0) e) at (w .leaves) in z ∙ ap length (sym (v .page)))
-      (λ y. let e = eqb-false n 0 (test-false (eqb n 0) y) in answered-size (stateIn s tb) l out n 0 (rw (closed-some false (deskOf s tb l n out 0) e) at (w .leaves)) (h .sane) z)
+      (λ y. let e = eqb-true n 0 (test-true (eqb n 0) y) in let v = rw (closed-none hidden (deskOf s tb dp l n out 0) e) at (w .leaves) in z ∙ ap length (sym (v .page)))
+      (λ y. let e = eqb-false n 0 (test-false (eqb n 0) y) in answered-size (stateIn s tb) dp l out n 0 (rw (closed-some hidden (deskOf s tb dp l n out 0) e) at (w .leaves)) (h .sane) z)
 
-  pub end-eight : Held s tb → length (t .state .state .channels) ≡ 8
-  end-eight h = held-eight (leaves-held (closed-fine false (deskOf s tb l n out 0) (held-fine h)) (w .leaves))
+  pub end-held : Held s tb → Held (t .state) tb′
+  end-held h = leaves-held (closed-fine hidden (deskOf s tb dp l n out 0) (held-fine h)) (w .leaves)
 
-  pub end-put : {show : Bool} {page page′ : List ℕ} {at : ℕ} {r : Taken} → fits show (deskOf s tb l n page at) ≡ true → Puts show t out′ page at r page′
-      → Finishes show s tb l n page at r tb′ page′
-  end-put {show} {page} {page′} {at} f p =
+  pub end-put : {show : Show} {page page′ : List ℕ} {at : ℕ} {r : Taken} → Held s tb → fits show (deskOf s tb dp l n page at) ≡ true
+      → Puts show t tb′ dp′ out′ page at r page′ → Finishes show s tb dp l n page at r tb′ dp′ page′
+  end-put {show} {page} {page′} {at} h f p =
       record {
-        leaves = rw (finished-fits show (deskOf s tb l n page at) f)
+        leaves = rw (finished-fits show (deskOf s tb dp l n page at) f)
             (by-test (eqb n 0)
             (λ y. let e = eqb-true n 0 (test-true (eqb n 0) y) in
-            rw (closed-none show (deskOf s tb l n page at) e) (nothing-put (stateIn s tb) l out n 0 (rw (closed-none false (deskOf s tb l n out 0) e) at (w .leaves)) p))
+            rw (closed-none show (deskOf s tb dp l n page at) e) (nothing-put (stateIn s tb) dp l out n 0 (rw (closed-none hidden (deskOf s tb dp l n out 0) e) at (w .leaves)) p))
             (λ y. let e = eqb-false n 0 (test-false (eqb n 0) y) in
-            rw (closed-some show (deskOf s tb l n page at) e) (answer-put (stateIn s tb) l out n 0 (rw (closed-some false (deskOf s tb l n out 0) e) at (w .leaves)) p)));
+            rw (closed-some show (deskOf s tb dp l n page at) e) (answer-put (stateIn s tb) dp l out n 0 (rw (closed-some hidden (deskOf s tb dp l n out 0) e) at (w .leaves)) (held-fine h) p)));
       }
 
-pub full-stays : (show : Bool) {s : Board} {tb : List ℕ} → Held s tb → (l : List ℕ) (n : ℕ) (page : List ℕ) (at : ℕ) → fits show (deskOf s tb l n page at) ≡ false
-    → Finishes show s tb l n page at (record { state = s; line = n; used = 0; at = at }) tb page
-full-stays show {s} {tb} h l n page at f = record { leaves = rw (finished-full show (deskOf s tb l n page at) f) (stays h l n page at 0) }
+pub full-stays : (show : Show) {s : Board} {tb : List ℕ} → Held s tb → (dp l : List ℕ) (n : ℕ) (page : List ℕ) (at : ℕ) → fits show (deskOf s tb dp l n page at) ≡ false
+    → Finishes show s tb dp l n page at (record { state = s; line = n; used = 0; at = at }) tb dp page
+full-stays show {s} {tb} h dp l n page at f = record { leaves = rw (finished-full show (deskOf s tb dp l n page at) f) (stays h dp l n page at 0) }
 
 -- ---- no second outcome fits
 
-pub one-finishing : {show : Bool} {s : Board} {tb l : List ℕ} {n : ℕ} {page : List ℕ} {at : ℕ} {t t₂ : Taken} {tb₁ tb₂ page₁ page₂ : List ℕ}
-    → Finishes show s tb l n page at t tb₁ page₁ → Finishes show s tb l n page at t₂ tb₂ page₂ → Same t t₂ l l tb₁ tb₂ page₁ page₂
+pub one-finishing : {show : Show} {s : Board} {tb dp l : List ℕ} {n : ℕ} {page : List ℕ} {at : ℕ} {t t₂ : Taken} {tb₁ tb₂ dp₁ dp₂ page₁ page₂ : List ℕ}
+    → Finishes show s tb dp l n page at t tb₁ dp₁ page₁ → Finishes show s tb dp l n page at t₂ tb₂ dp₂ page₂ → Same t t₂ l l tb₁ tb₂ dp₁ dp₂ page₁ page₂
 one-finishing a b = one-leaving (a .leaves) (b .leaves)

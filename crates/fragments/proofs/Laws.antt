@@ -47,15 +47,15 @@ module _ (p bs : List ℕ) {l : List ℕ} {n : ℕ} {g : Gathered} {l′ : List 
   the-ended = sym (ap (λ (x : Gathered). x .ended) (w .answer))
 
   -- the line goes on
-  pub open-moves : {p′ st tb out : List ℕ} {u w : ℕ} (m : ℕ) → g .ended ≡ false → u ≡ used bs → w ≡ 0 → m ≡ g .n → p′ ≡ portOf m l′
-      → Moves (lineFed p bs) (portFed p bs) (used bs) st tb out u w p′ st tb out
+  pub open-moves : {p′ st tb dp out : List ℕ} {u w : ℕ} (m : ℕ) → g .ended ≡ false → u ≡ used bs → w ≡ 0 → m ≡ g .n → p′ ≡ portOf m l′
+      → Moves (lineFed p bs) (portFed p bs) (used bs) st tb dp out u w p′ st tb dp out
   unfolding lineFed portFed
   open-moves m z u w e k =
       rw (the-ended ∙ z)
       (record {
         used = u;
         port = k ∙ ap₂ portOf (e ∙ the-count) the-line;
-        answers = record { count = w; state = refl; table = refl; bytes = refl };
+        answers = record { count = w; state = refl; table = refl; display = refl; bytes = refl };
       })
 
   -- without an LF all of it is used
@@ -63,16 +63,16 @@ module _ (p bs : List ℕ) {l : List ℕ} {n : ℕ} {g : Gathered} {l′ : List 
   open-used z = used-open bs (the-ended ∙ z)
 
   -- it has ended
-  pub ended-moves : {p′ st tb out : List ℕ} {u w k a b : ℕ} {st′ tb′ out′ : List ℕ} → g .ended ≡ true → u ≡ used bs → w ≡ k
-      → p′ ≡ a ∷ b ∷ l′ → a ≡ 0 → b ≡ 0 → {j : ℕ} → j ≡ g .n → Says l′ j st tb out k st′ tb′ out′ → Moves (lineFed p bs) (portFed p bs) (used bs) st tb out u w p′ st′ tb′ out′
+  pub ended-moves : {p′ st tb dp out : List ℕ} {u w k a b : ℕ} {st′ tb′ dp′ out′ : List ℕ} → g .ended ≡ true → u ≡ used bs → w ≡ k
+      → p′ ≡ a ∷ b ∷ l′ → a ≡ 0 → b ≡ 0 → {j : ℕ} → j ≡ g .n → Says l′ j st tb dp out k st′ tb′ dp′ out′ → Moves (lineFed p bs) (portFed p bs) (used bs) st tb dp out u w p′ st′ tb′ dp′ out′
   unfolding lineFed portFed
   ended-moves z u w k ea eb ej t =
       rw (the-ended ∙ z, w) (record { used = u; port = k ∙ cons-cons ea eb the-line; answers = rw (ej, the-count, the-line) at (t .tells) })
 
 -- ---- no second outcome fits
 
-pub one-feed : (bs p : List ℕ) {st tb out : List ℕ} {e e₂ u u₂ n n₂ : ℕ} {p₁ p₂ st₁ st₂ tb₁ tb₂ out₁ out₂ : List ℕ} → Feeds bs p st tb out e u n p₁ st₁ tb₁ out₁
-    → Feeds bs p st tb out e₂ u₂ n₂ p₂ st₂ tb₂ out₂ → SameCall e e₂ u u₂ n n₂ p₁ p₂ st₁ st₂ tb₁ tb₂ out₁ out₂
+pub one-feed : (bs p : List ℕ) {st tb dp out : List ℕ} {e e₂ u u₂ n n₂ : ℕ} {p₁ p₂ st₁ st₂ tb₁ tb₂ dp₁ dp₂ out₁ out₂ : List ℕ} → Feeds bs p st tb dp out e u n p₁ st₁ tb₁ dp₁ out₁
+    → Feeds bs p st tb dp out e₂ u₂ n₂ p₂ st₂ tb₂ dp₂ out₂ → SameCall e e₂ u u₂ n n₂ p₁ p₂ st₁ st₂ tb₁ tb₂ dp₁ dp₂ out₁ out₂
 one-feed bs p c d = one-porting c d
 
 -- ---- no bytes, and no more than there are
@@ -88,17 +88,17 @@ none-put : (p : List ℕ) → lineWith p [] ≡ lineIn p
 none-put p = ap (splice (lineIn p) (startedIn p)) (none-kept (startedIn p)) ∙ splice-none (lineIn p) (startedIn p)
 
 -- "some of them with no bytes": an empty fragment changes nothing
-pub empty-still : (p : List ℕ) {st tb out : List ℕ} {e u n : ℕ} {p′ st′ tb′ out′ : List ℕ} → Feeds [] p st tb out e u n p′ st′ tb′ out′ → Still p st tb out u n p′ st′ tb′ out′
+pub empty-still : (p : List ℕ) {st tb dp out : List ℕ} {e u n : ℕ} {p′ st′ tb′ dp′ out′ : List ℕ} → Feeds [] p st tb dp out e u n p′ st′ tb′ dp′ out′ → Still p st tb dp out u n p′ st′ tb′ dp′ out′
 unfolding lineFed portFed ended used front
-empty-still p {out = out} c =
-    none-or-not (refusal p (length out))
+empty-still p {dp = dp} {out = out} c =
+    none-or-not (refusal p (length dp) (length out))
     (λ z. let m = c .served z in
-    let h = allowed p (length out) z .0 in
+    let h = allowed p (length dp) (length out) z .0 in
     record { used = m .used; port = m .port ∙ ap₂ portOf (none-more p) (none-put p) ∙ port-again p h; silent = m .answers })
     (λ z. c .refused z)
 
 -- no more than the fragment is used
-pub few-used : (bs p : List ℕ) {st tb out : List ℕ} {e u n : ℕ} {p′ st′ tb′ out′ : List ℕ} → Feeds bs p st tb out e u n p′ st′ tb′ out′ → u ≤ length bs
-few-used bs p {out = out} c =
+pub few-used : (bs p : List ℕ) {st tb dp out : List ℕ} {e u n : ℕ} {p′ st′ tb′ dp′ out′ : List ℕ} → Feeds bs p st tb dp out e u n p′ st′ tb′ dp′ out′ → u ≤ length bs
+few-used bs p {dp = dp} {out = out} c =
     let k = used-within bs in
-    none-or-not (refusal p (length out)) (λ z. let m = c .served z .used in omega arith) (λ z. let m = c .refused z .used in omega arith)
+    none-or-not (refusal p (length dp) (length out)) (λ z. let m = c .served z .used in omega arith) (λ z. let m = c .refused z .used in omega arith)

@@ -29,5 +29,5 @@ portFed p bs = portOf (if ended bs then 0 else grown p bs) (lineWith p bs)
 
 -- ---- the promise
 
-abbrev pub Feeds : (bs p st tb out : List ℕ) → ℕ → ℕ → ℕ → (p′ st′ tb′ out′ : List ℕ) → Type 0
-Feeds bs p st tb out e u n p′ st′ tb′ out′ = Ported (lineFed p bs) (portFed p bs) (used bs) p st tb out e u n p′ st′ tb′ out′
+abbrev pub Feeds : (bs p st tb dp out : List ℕ) → ℕ → ℕ → ℕ → (p′ st′ tb′ dp′ out′ : List ℕ) → Type 0
+Feeds bs p st tb dp out e u n p′ st′ tb′ dp′ out′ = Ported (lineFed p bs) (portFed p bs) (used bs) p st tb dp out e u n p′ st′ tb′ dp′ out′

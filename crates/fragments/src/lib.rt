@@ -1,5 +1,5 @@
-// A log over a slow line: fed a fragment at a time, of any length, in the memory of one line. State, table, port and room are bytes
-// that the caller keeps and lends; nothing is kept here. A call answers one line at most. It asks nothing: whatever the bytes are, the
+// A log over a slow line: fed a fragment at a time, of any length, in the memory of one line. State, table, display, port and room are
+// bytes that the caller keeps and lends; nothing is kept here. A call answers one line at most. It asks nothing: whatever the bytes are, the
 // answer and every byte lent are determined (specs/Fragments.antt). The end of the log is `last_line`'s. Assumes nothing.
 ghost use Rattle.fragments.specs.Fragments.{Feeds};
 
@@ -16,12 +16,13 @@ pub fn feed(
     port: &mut [u8],
     state: &mut [u8],
     table: &mut [u8],
+    display: &mut [u8],
     out: &mut [u8],
 ) -> Fed
-    ensures { λ r. ⌜ Feeds (now (fragment .entry)) (now (port .entry)) (now (state .entry)) (now (table .entry)) (now (out .entry))
-        (r .error) (r .used) (r .written) (now (port .exit)) (now (state .exit)) (now (table .exit)) (now (out .exit)) ⌝ }
+    ensures { λ r. ⌜ Feeds (now (fragment .entry)) (now (port .entry)) (now (state .entry)) (now (table .entry)) (now (display .entry)) (now (out .entry))
+        (r .error) (r .used) (r .written) (now (port .exit)) (now (state .exit)) (now (table .exit)) (now (display .exit)) (now (out .exit)) ⌝ }
 {
-    let error = admitting::refusal(port, out.len());
+    let error = admitting::refusal(port, display.len(), out.len());
     if error != 0 {
         return Fed {
             error,
@@ -43,7 +44,7 @@ pub fn feed(
         };
     }
     port::keep(port, 0, &line);
-    let written = telling::answer(&line, k, state, table, out);
+    let written = telling::answer(&line, k, state, table, display, out);
     Fed {
         error: 0,
         used,

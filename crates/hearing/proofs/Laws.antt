@@ -18,9 +18,9 @@ use Rattle.image.proofs.Round.{imageOf-stateOf, one-image}
 use Rattle.arbiter.proofs.Outcome.{held-or-not}
 use Rattle.unheard.specs.declared.Fed.{Fed}
 use Rattle.unheard.specs.Unheard.{unheard, Unheard}
-use Rattle.serving.specs.Serving.{Feeds}
+use Rattle.serving.specs.Serving.{Feeds, FeedsDisplay}
 use Rattle.serving.proofs.Laws.{feed-few}
-use Rattle.feeding.specs.Feeding.{FeedsAny}
+use Rattle.feeding.specs.Feeding.{FeedsAny, FeedsDisplayAny}
 use Rattle.hearing.specs.Hearing.{Kept, heldIn, Hears, Tells}
 
 -- ---- whether the bytes hold a sound state
@@ -41,68 +41,70 @@ kept-or-not st tb y z =
 -- ---- a line
 
 -- on bytes that hold no struct
-pub unread-tells : {st tb l out : List ℕ} {s : Board} {f : Fed} {out′ : List ℕ} {w : ℕ} → (Whole st → ⊥) → Unheard s l out f out′ → w ≡ f .n → Tells l st tb out w st tb out′
+pub unread-tells : {st tb dp l out : List ℕ} {s : Board} {f : Fed} {out′ : List ℕ} {w : ℕ} → (Whole st → ⊥) → Unheard s l out f out′ → w ≡ f .n → Tells l st tb dp out w st tb dp out′
 unread-tells {l = l} n u e =
     record {
       text = unheard (frame (unhex l));
-      heard = record { sound = λ k. absurd (n (k .whole)); unsound = λ _. record { output = refl; state = refl; table = refl } };
+      heard = record { sound = λ k. absurd (n (k .whole)); unsound = λ _. record { output = refl; state = refl; table = refl; display = refl } };
       count = e ∙ u .count;
       bytes = u .bytes;
     }
 
-module _ {st tb l out : List ℕ} {f : Fed} {st′ tb′ out′ : List ℕ} {r : ℕ} (w : Whole st) (v : Saved (f .state) st′) (e : r ≡ f .n) where
-  heard-tells : Held (stateOf st) tb → Feeds (stateOf st) tb l out f tb′ out′ → Tells l st tb out r st′ tb′ out′
-  heard-tells h t =
+module _ {st tb dp l out : List ℕ} {f : Fed} {st′ tb′ dp′ out′ : List ℕ} {r : ℕ} (w : Whole st) (v : Saved (f .state) st′) (e : r ≡ f .n) where
+  heard-tells : Held (stateOf st) tb → Feeds (stateOf st) tb l out f tb′ out′ → FeedsDisplay (stateOf st) tb l dp dp′ → Tells l st tb dp out r st′ tb′ dp′ out′
+  heard-tells h t d =
       record {
         text = feed (heldIn st tb) l .output;
         heard =
             record {
-              sound = λ _. record { output = refl; state = subst (λ (b : Board). Saved b st′) (t .struct) v; table = t .table };
+              sound = λ _. record { output = refl; state = subst (λ (b : Board). Saved b st′) (t .struct) v; table = t .table; display = d };
               unsound = λ n. absurd (n (record { whole = w; held = h }));
             };
         count = e ∙ t .count;
         bytes = t .bytes;
       }
 
-  unheard-tells : (Held (stateOf st) tb → ⊥) → Unheard (stateOf st) l out f out′ × (tb′ ≡ tb) → Tells l st tb out r st′ tb′ out′
-  unheard-tells n u =
+  unheard-tells : (Held (stateOf st) tb → ⊥) → Unheard (stateOf st) l out f out′ × (tb′ ≡ tb) → dp′ ≡ dp → Tells l st tb dp out r st′ tb′ dp′ out′
+  unheard-tells n u d =
       record {
         text = unheard (frame (unhex l));
         heard =
             record {
               sound = λ k. absurd (n (k .held));
-              unsound = λ _. record { output = refl; state = v .bytes ∙ ap imageOf (u .0 .state) ∙ imageOf-stateOf st w; table = u .1 };
+              unsound = λ _. record { output = refl; state = v .bytes ∙ ap imageOf (u .0 .state) ∙ imageOf-stateOf st w; table = u .1; display = d };
             };
         count = e ∙ u .0 .count;
         bytes = u .0 .bytes;
       }
 
   -- on the struct that they hold
-  pub read-tells : FeedsAny (stateOf st) tb l out f tb′ out′ → Tells l st tb out r st′ tb′ out′
-  read-tells t = held-or-not (stateOf st) tb (λ h. heard-tells h (t .sound h)) (λ n. unheard-tells n (t .unsound n))
+  pub read-tells : FeedsAny (stateOf st) tb l out f tb′ out′ × FeedsDisplayAny (stateOf st) tb l dp dp′ → Tells l st tb dp out r st′ tb′ dp′ out′
+  read-tells t = held-or-not (stateOf st) tb (λ h. heard-tells h (t .0 .sound h) (t .1 .sound h)) (λ n. unheard-tells n (t .0 .unsound n) (t .1 .unsound n))
 
 -- ---- no second outcome fits
 
-pub one-hearing : {l st tb t₁ t₂ st₁ st₂ tb₁ tb₂ : List ℕ} → Hears l st tb t₁ st₁ tb₁ → Hears l st tb t₂ st₂ tb₂ → (t₁ ≡ t₂) × (st₁ ≡ st₂) × (tb₁ ≡ tb₂)
+pub one-hearing : {l st tb dp t₁ t₂ st₁ st₂ tb₁ tb₂ dp₁ dp₂ : List ℕ} → Hears l st tb dp t₁ st₁ tb₁ dp₁ → Hears l st tb dp t₂ st₂ tb₂ dp₂ → (t₁ ≡ t₂) × (st₁ ≡ st₂) × (tb₁ ≡ tb₂) × (dp₁ ≡ dp₂)
 one-hearing {st = st} {tb = tb} a b =
     kept-or-not st tb
-    (λ k. let x = a .sound k in let y = b .sound k in (x .output ∙ sym (y .output), one-image (x .state) (y .state), x .table ∙ sym (y .table)))
-    (λ n. let x = a .unsound n in let y = b .unsound n in (x .output ∙ sym (y .output), x .state ∙ sym (y .state), x .table ∙ sym (y .table)))
+    (λ k. let x = a .sound k in let y = b .sound k in (x .output ∙ sym (y .output), one-image (x .state) (y .state), x .table ∙ sym (y .table), x .display ∙ sym (y .display)))
+    (λ n. let x = a .unsound n in let y = b .unsound n in (x .output ∙ sym (y .output), x .state ∙ sym (y .state), x .table ∙ sym (y .table), x .display ∙ sym (y .display)))
 
-pub record Same (n n₂ : ℕ) (st st₂ tb tb₂ out out₂ : List ℕ) : Type 0 where
+pub record Same (n n₂ : ℕ) (st st₂ tb tb₂ dp dp₂ out out₂ : List ℕ) : Type 0 where
   pub count : n ≡ n₂
   pub state : st ≡ st₂
   pub table : tb ≡ tb₂
+  pub display : dp ≡ dp₂
   pub output : out ≡ out₂
 
-pub one-telling : {l st tb out : List ℕ} {n n₂ : ℕ} {st₁ st₂ tb₁ tb₂ out₁ out₂ : List ℕ} → Tells l st tb out n st₁ tb₁ out₁ → Tells l st tb out n₂ st₂ tb₂ out₂
-    → Same n n₂ st₁ st₂ tb₁ tb₂ out₁ out₂
+pub one-telling : {l st tb dp out : List ℕ} {n n₂ : ℕ} {st₁ st₂ tb₁ tb₂ dp₁ dp₂ out₁ out₂ : List ℕ} → Tells l st tb dp out n st₁ tb₁ dp₁ out₁ → Tells l st tb dp out n₂ st₂ tb₂ dp₂ out₂
+    → Same n n₂ st₁ st₂ tb₁ tb₂ dp₁ dp₂ out₁ out₂
 one-telling {out = out} a b =
     let h = one-hearing (a .heard) (b .heard) in
     record {
       count = a .count ∙ ap length (h .0) ∙ sym (b .count);
       state = h .1;
       table = h .2;
+      display = h .3;
       output = a .bytes ∙ ap (splice out 0) (h .0) ∙ sym (b .bytes);
     }
 
@@ -113,7 +115,7 @@ unfolding answerLine line
 unheard-few none = omega arith
 unheard-few (some c) = omega arith
 
-pub hears-few : {l st tb text st′ tb′ : List ℕ} → Hears l st tb text st′ tb′ → length text ≤ 973
+pub hears-few : {l st tb dp text st′ tb′ dp′ : List ℕ} → Hears l st tb dp text st′ tb′ dp′ → length text ≤ 973
 hears-few {l} {st} {tb} h =
     kept-or-not st tb
     (λ k. rw (h .sound k .output) (feed-few (heldIn st tb) l (k .held .sane)))

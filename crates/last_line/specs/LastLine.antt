@@ -21,5 +21,5 @@ portLast p = portOf 0 (lineIn p)
 
 -- ---- the promise
 
-abbrev pub Ends : (p st tb out : List ℕ) → ℕ → ℕ → (p′ st′ tb′ out′ : List ℕ) → Type 0
-Ends p st tb out e n p′ st′ tb′ out′ = Ported (lineLast p) (portLast p) 0 p st tb out e 0 n p′ st′ tb′ out′
+abbrev pub Ends : (p st tb dp out : List ℕ) → ℕ → ℕ → (p′ st′ tb′ dp′ out′ : List ℕ) → Type 0
+Ends p st tb dp out e n p′ st′ tb′ dp′ out′ = Ported (lineLast p) (portLast p) 0 p st tb dp out e 0 n p′ st′ tb′ dp′ out′

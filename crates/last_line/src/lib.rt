@@ -9,11 +9,17 @@ pub struct Ended {
 }
 
 // The log has ended: what stands of a last line is answered as a line, and where nothing stands nothing is written.
-pub fn feed_end(port: &mut [u8], state: &mut [u8], table: &mut [u8], out: &mut [u8]) -> Ended
-    ensures { λ r. ⌜ Ends (now (port .entry)) (now (state .entry)) (now (table .entry)) (now (out .entry))
-        (r .error) (r .written) (now (port .exit)) (now (state .exit)) (now (table .exit)) (now (out .exit)) ⌝ }
+pub fn feed_end(
+    port: &mut [u8],
+    state: &mut [u8],
+    table: &mut [u8],
+    display: &mut [u8],
+    out: &mut [u8],
+) -> Ended
+    ensures { λ r. ⌜ Ends (now (port .entry)) (now (state .entry)) (now (table .entry)) (now (display .entry)) (now (out .entry))
+        (r .error) (r .written) (now (port .exit)) (now (state .exit)) (now (table .exit)) (now (display .exit)) (now (out .exit)) ⌝ }
 {
-    let refused = admitting::refusal(port, out.len());
+    let refused = admitting::refusal(port, display.len(), out.len());
     if refused != 0 {
         return Ended {
             error: refused,
@@ -29,7 +35,7 @@ pub fn feed_end(port: &mut [u8], state: &mut [u8], table: &mut [u8], out: &mut [
     }
     let last = port::line_in(port);
     port::keep(port, 0, &last);
-    let told = telling::answer(&last, n, state, table, out);
+    let told = telling::answer(&last, n, state, table, display, out);
     Ended {
         error: 0,
         written: told,

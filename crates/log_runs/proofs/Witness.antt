@@ -3,7 +3,6 @@
 -- Assumes nothing.
 use Prim.Native.Nat.{ℕ}
 use mathlib.Core.Path.{_≡_, refl}
-use mathlib.Core.Bool.{false}
 use mathlib.Core.List.{List, [], _∷_, _++_}
 use native.Mathlib.Omega.{arith}
 use lib.ListN.{length, replicate, take, drop, length-replicate}
@@ -11,8 +10,10 @@ use Rattle.machine.specs.State.{freshOn, frees}
 use Rattle.machine.specs.Log.{lines}
 use Rattle.machine.specs.Machine.{machine}
 use Rattle.machine.specs.Text.{bytes, page}
+use Rattle.display.specs.Display.{blank}
 use Rattle.store.specs.Store.{tableOf}
 use Rattle.board.specs.Board.{structOf}
+use Rattle.taking.specs.Desk.{hidden}
 use Rattle.whole_log.specs.Whole.{joined}
 use Rattle.whole_log.proofs.Runs.{Runs, run-exists}
 use Rattle.two_runs.specs.TwoRuns.{Keeps, Start, claim}
@@ -70,8 +71,8 @@ busy-lumps =
 abbrev lent : List ℕ
 lent = replicate 973 0
 
-ran : (bss : List (List ℕ)) → Runs false (structOf (freshOn 4)) (tableOf (freshOn 4)) [] 0 lent bss
-ran bss = run-exists 4 tt false bss [] lent (omega (arith, length-replicate {A = ℕ} 973 0))
+ran : (bss : List (List ℕ)) → Runs hidden (structOf (freshOn 4)) (tableOf (freshOn 4)) blank [] 0 lent bss
+ran bss = run-exists 4 tt hidden bss [] lent (omega (arith, length-replicate {A = ℕ} 973 0))
 
 quiet-spelt : lines (joined quiet-lumps) ≡ common ++ texts quiet
 unfolding machine bytes page logs

@@ -1,5 +1,6 @@
 -- Demand 3 on what the log program writes: two logs with a common beginning, read in lumps of any size, on a board of 4 or 8
--- channels. Of the program only the promises of `fill` and `finish` are used, by `Ran` of crates/whole_log.
+-- channels. Of the program only the promises of `fill` and `finish` are used, by `Ran` of crates/whole_log. Nothing is shown: document
+-- 02, #110, "For the two-run rule these reports are the managers' and not a desk's".
 -- Assumes nothing.
 --
 --   Log w l page pre xs bss out   a run of the program: its lumps are the common lines, then those of a stretch
@@ -9,21 +10,22 @@
 --   Demand3·log                   two logs with the same calls of the K party show it the same
 use Prim.Native.Nat.{ℕ}
 use mathlib.Core.Path.{_≡_}
-use mathlib.Core.Bool.{false}
 use mathlib.Core.List.{List, _++_}
 use lib.Dec.{T}
 use Rattle.machine.specs.State.{State, freshOn}
 use Rattle.machine.specs.Log.{lines, run}
 use Rattle.machine_laws.proofs.Lists.{Sub}
+use Rattle.display.specs.Display.{blank}
 use Rattle.store.specs.Store.{tableOf}
 use Rattle.board.specs.Board.{structOf, sized}
+use Rattle.taking.specs.Desk.{hidden}
 use Rattle.whole_log.specs.Whole.{joined, Ran}
 use Rattle.two_runs.specs.TwoRuns.{Party, Start, Keeps, own}
 use Rattle.two_runs.specs.Logs.{Line, output, reads, steps, texts}
 use Rattle.two_runs.proofs.Logs.{joinedLines}
 
 pub record Log (w : ℕ) (l page : List ℕ) (pre : List (List ℕ)) (xs : List Line) (bss : List (List ℕ)) (out : List ℕ) : Type 0 where
-  pub ran : Ran false (structOf (freshOn w)) (tableOf (freshOn w)) l 0 page 0 bss out
+  pub ran : Ran hidden (structOf (freshOn w)) (tableOf (freshOn w)) blank l 0 page 0 bss out
   pub spelt : lines (joined bss) ≡ pre ++ texts xs
 
 abbrev pub begun : ℕ → List (List ℕ) → State

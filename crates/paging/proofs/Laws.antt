@@ -13,6 +13,7 @@ use Rattle.board.specs.declared.Board.{Board}
 use Rattle.board.specs.Board.{stateIn, Held}
 use Rattle.gathering.specs.Lumps.{LINE, ended, used}
 use Rattle.gathering.proofs.Lumps.{used-within}
+use Rattle.taking.specs.declared.Show.{Show}
 use Rattle.taking.specs.declared.Taken.{Taken}
 use Rattle.taking.specs.Desk.{Desk, deskOf, gathered, answered, taken, needed, fits, takes, filled, Leaves}
 use Rattle.taking.proofs.Kept.{Fine, held-fine, taken-fine, leaves-held, leaves-state}
@@ -23,7 +24,7 @@ use Rattle.paging.specs.Paging.{Fills}
 
 -- ---- a lump, line by line
 
-module _ (show : Bool) where
+module _ (show : Show) where
   pub takes-none : (k : ℕ) (d : Desk) → takes show k d [] ≡ d
   unfolding takes
   takes-none zero d = refl
@@ -41,65 +42,65 @@ module _ (show : Bool) where
   takes-more k d (b ∷ bs) h e = rw e
 
 -- the desk of a call that is `from` bytes into its lump
-abbrev pub deskAt : Board → List ℕ → List ℕ → ℕ → List ℕ → ℕ → ℕ → Desk
-deskAt s tb l n page at from = record { state = stateIn s tb; line = l; n = n; page = page; at = at; used = from }
+abbrev pub deskAt : Board → List ℕ → List ℕ → List ℕ → ℕ → List ℕ → ℕ → ℕ → Desk
+deskAt s tb dp l n page at from = record { state = stateIn s tb; display = dp; line = l; n = n; page = page; at = at; used = from }
 
 -- what is left of the lump, taken by the rule from where the loop is, gives the whole
-pub record Filling (show : Bool) (d : Desk) (input : List ℕ) (s : Board) (tb l : List ℕ) (n : ℕ) (page : List ℕ) (at from : ℕ) : Type 0 where
+pub record Filling (show : Show) (d : Desk) (input : List ℕ) (s : Board) (tb dp l : List ℕ) (n : ℕ) (page : List ℕ) (at from : ℕ) : Type 0 where
   pub held : Held s tb
   pub within : n ≤ LINE
   pub inside : from ≤ length input
   pub left : ℕ
   pub enough : length input ≤ from + left
-  pub whole : filled show d input ≡ takes show left (deskAt s tb l n page at from) (drop from input)
+  pub whole : filled show d input ≡ takes show left (deskAt s tb dp l n page at from) (drop from input)
 
-module _ {show : Bool} {s : Board} {tb l : List ℕ} {n : ℕ} {page : List ℕ} {at : ℕ} {input : List ℕ} where
-  pub filling-start : Held s tb → n ≤ LINE → Filling show (deskOf s tb l n page at) input s tb l n page at 0
+module _ {show : Show} {s : Board} {tb dp l : List ℕ} {n : ℕ} {page : List ℕ} {at : ℕ} {input : List ℕ} where
+  pub filling-start : Held s tb → n ≤ LINE → Filling show (deskOf s tb dp l n page at) input s tb dp l n page at 0
   unfolding filled
   filling-start h w = record { held = h; within = w; inside = omega arith; left = length input; enough = omega arith; whole = refl }
 
-module _ {show : Bool} {d : Desk} {input : List ℕ} {s : Board} {tb l : List ℕ} {n : ℕ} {page : List ℕ} {at from : ℕ} (i : Filling show d input s tb l n page at from) where
-  done : takes show (i .left) (deskAt s tb l n page at from) (drop from input) ≡ deskAt s tb l n page at from
-      → Leaves (record { state = s; line = n; used = from; at = at }) l tb page (filled show d input)
-  done e = rw (i .whole ∙ e) (stays (i .held) l n page at from)
+module _ {show : Show} {d : Desk} {input : List ℕ} {s : Board} {tb dp l : List ℕ} {n : ℕ} {page : List ℕ} {at from : ℕ} (i : Filling show d input s tb dp l n page at from) where
+  done : takes show (i .left) (deskAt s tb dp l n page at from) (drop from input) ≡ deskAt s tb dp l n page at from
+      → Leaves (record { state = s; line = n; used = from; at = at }) l tb dp page (filled show d input)
+  done e = rw (i .whole ∙ e) (stays (i .held) dp l n page at from)
 
-  pub filling-end : length input ≤ from → Leaves (record { state = s; line = n; used = from; at = at }) l tb page (filled show d input)
-  filling-end h = done (rw (drop-of-length-le input h) (takes-none show (i .left) (deskAt s tb l n page at from)))
+  pub filling-end : length input ≤ from → Leaves (record { state = s; line = n; used = from; at = at }) l tb dp page (filled show d input)
+  filling-end h = done (rw (drop-of-length-le input h) (takes-none show (i .left) (deskAt s tb dp l n page at from)))
 
-  pub filling-full : leb (at + needed show) (length page) ≡ false → Leaves (record { state = s; line = n; used = from; at = at }) l tb page (filled show d input)
-  filling-full e = done (takes-full show (i .left) (deskAt s tb l n page at from) (drop from input) e)
+  pub filling-full : leb (at + needed show) (length page) ≡ false → Leaves (record { state = s; line = n; used = from; at = at }) l tb dp page (filled show d input)
+  filling-full e = done (takes-full show (i .left) (deskAt s tb dp l n page at from) (drop from input) e)
 
 -- a turn, wherever in the lump it is made
-taken-from : (show : Bool) (d : Desk) (bs : List ℕ) → d .used ≡ 0 → (u : ℕ)
-    → taken show (record { state = d .state; line = d .line; n = d .n; page = d .page; at = d .at; used = u }) bs
-    ≡ record { state = taken show d bs .state; line = taken show d bs .line; n = taken show d bs .n; page = taken show d bs .page; at = taken show d bs .at; used = u + used bs }
+taken-from : (show : Show) (d : Desk) (bs : List ℕ) → d .used ≡ 0 → (u : ℕ)
+    → taken show (record { state = d .state; display = d .display; line = d .line; n = d .n; page = d .page; at = d .at; used = u }) bs
+    ≡ record { state = taken show d bs .state; display = taken show d bs .display; line = taken show d bs .line; n = taken show d bs .n; page = taken show d bs .page; at = taken show d bs .at; used = u + used bs }
 unfolding taken
 taken-from show d bs _ u = go (ended bs)
   where
     e : Desk
-    e = record { state = d .state; line = d .line; n = d .n; page = d .page; at = d .at; used = u }
+    e = record { state = d .state; display = d .display; line = d .line; n = d .n; page = d .page; at = d .at; used = u }
 
     x : Bool → Desk
     x b = if b then answered show (gathered d bs) else gathered d bs
 
     go : (b : Bool) → (if b then answered show (gathered e bs) else gathered e bs)
-        ≡ record { state = x b .state; line = x b .line; n = x b .n; page = x b .page; at = x b .at; used = u + used bs }
+        ≡ record { state = x b .state; display = x b .display; line = x b .line; n = x b .n; page = x b .page; at = x b .at; used = u + used bs }
     go true = refl
     go false = refl
 
-module _ {show : Bool} {d : Desk} {input : List ℕ} {s : Board} {tb l : List ℕ} {n : ℕ} {page : List ℕ} {at from : ℕ} (i : Filling show d input s tb l n page at from)
-    (h : from < length input) {t : Taken} {l′ tb′ page′ : List ℕ}
-    (w : Turns show s tb l n (take (length input - from) (drop from input)) page at t l′ tb′ page′) where
-  v : Leaves t l′ tb′ page′ (taken show (deskOf s tb l n page at) (drop from input))
+module _ {show : Show} {d : Desk} {input : List ℕ} {s : Board} {tb dp l : List ℕ} {n : ℕ} {page : List ℕ} {at from : ℕ} (i : Filling show d input s tb dp l n page at from)
+    (h : from < length input) {t : Taken} {l′ tb′ dp′ page′ : List ℕ}
+    (w : Turns show s tb dp l n (take (length input - from) (drop from input)) page at t l′ tb′ dp′ page′) where
+  v : Leaves t l′ tb′ dp′ page′ (taken show (deskOf s tb dp l n page at) (drop from input))
   v =
-      subst (λ (x : List ℕ). Leaves t l′ tb′ page′ (taken show (deskOf s tb l n page at) x))
+      subst (λ (x : List ℕ). Leaves t l′ tb′ dp′ page′ (taken show (deskOf s tb dp l n page at) x))
       (take-all (length input - from) (drop from input) (let e = length-drop from input in omega arith)) (w .leaves)
 
-  fine : Fine (taken show (deskOf s tb l n page at) (drop from input) .state)
-  fine = taken-fine show (deskOf s tb l n page at) (drop from input) (held-fine (i .held))
+  fine : Fine (taken show (deskOf s tb dp l n page at) (drop from input) .state)
+  fine = taken-fine show (deskOf s tb dp l n page at) (drop from input) (held-fine (i .held))
 
   turn-used : t .used ≡ used (drop from input)
-  turn-used = v .used ∙ taken-used show (deskOf s tb l n page at) (drop from input) ∙ zero-add _
+  turn-used = v .used ∙ taken-used show (deskOf s tb dp l n page at) (drop from input) ∙ zero-add _
 
   pub filling-on : (from + t .used ≤ length input) × (from < from + t .used)
   filling-on =
@@ -109,32 +110,32 @@ module _ {show : Bool} {d : Desk} {input : List ℕ} {s : Board} {tb l : List �
       let c = turn-used in
       (omega arith, omega arith)
 
-  next : taken show (deskAt s tb l n page at from) (drop from input) ≡ deskAt (t .state) tb′ l′ (t .line) page′ (t .at) (from + t .used)
+  next : taken show (deskAt s tb dp l n page at from) (drop from input) ≡ deskAt (t .state) tb′ dp′ l′ (t .line) page′ (t .at) (from + t .used)
   next =
-      taken-from show (deskOf s tb l n page at) (drop from input) refl from
-      ∙ (λ j. record { state = sym (leaves-state fine v) j; line = sym (v .line) j; n = sym (v .started) j; page = sym (v .page) j; at = sym (v .at) j; used = from + sym turn-used j })
+      taken-from show (deskOf s tb dp l n page at) (drop from input) refl from
+      ∙ (λ j. record { state = sym (leaves-state fine v) j; display = sym (v .display) j; line = sym (v .line) j; n = sym (v .started) j; page = sym (v .page) j; at = sym (v .at) j; used = from + sym turn-used j })
 
-  pub filling-step : leb (at + needed show) (length page) ≡ true → Filling show d input (t .state) tb′ l′ (t .line) page′ (t .at) (from + t .used)
+  pub filling-step : leb (at + needed show) (length page) ≡ true → Filling show d input (t .state) tb′ dp′ l′ (t .line) page′ (t .at) (from + t .used)
   filling-step f = go (i .left) (i .enough) (i .whole)
     where
-      go : (k : ℕ) → length input ≤ from + k → filled show d input ≡ takes show k (deskAt s tb l n page at from) (drop from input)
-          → Filling show d input (t .state) tb′ l′ (t .line) page′ (t .at) (from + t .used)
+      go : (k : ℕ) → length input ≤ from + k → filled show d input ≡ takes show k (deskAt s tb dp l n page at from) (drop from input)
+          → Filling show d input (t .state) tb′ dp′ l′ (t .line) page′ (t .at) (from + t .used)
       go zero e q = absurd (omega arith)
       go (suc k) e q =
           let m = length-drop from input in
           let b = filling-on in
           record {
             held = leaves-held fine v;
-            within = rw (v .started) (taken-within show (deskOf s tb l n page at) (drop from input) (i .within));
+            within = rw (v .started) (taken-within show (deskOf s tb dp l n page at) (drop from input) (i .within));
             inside = b .0;
             left = k;
             enough = omega arith;
-            whole = q ∙ takes-more show k (deskAt s tb l n page at from) (drop from input) (omega arith) f
+            whole = q ∙ takes-more show k (deskAt s tb dp l n page at from) (drop from input) (omega arith) f
                 ∙ ap₂ (takes show k) next (ap (λ (x : ℕ). drop x (drop from input)) (sym turn-used) ∙ drop-drop (t .used) from input);
           }
 
 -- ---- no second outcome fits
 
-pub one-filling : {show : Bool} {s : Board} {tb l : List ℕ} {n : ℕ} {bs page : List ℕ} {at : ℕ} {t t₂ : Taken} {l₁ l₂ tb₁ tb₂ page₁ page₂ : List ℕ}
-    → Fills show s tb l n bs page at t l₁ tb₁ page₁ → Fills show s tb l n bs page at t₂ l₂ tb₂ page₂ → Same t t₂ l₁ l₂ tb₁ tb₂ page₁ page₂
+pub one-filling : {show : Show} {s : Board} {tb dp l : List ℕ} {n : ℕ} {bs page : List ℕ} {at : ℕ} {t t₂ : Taken} {l₁ l₂ tb₁ tb₂ dp₁ dp₂ page₁ page₂ : List ℕ}
+    → Fills show s tb dp l n bs page at t l₁ tb₁ dp₁ page₁ → Fills show s tb dp l n bs page at t₂ l₂ tb₂ dp₂ page₂ → Same t t₂ l₁ l₂ tb₁ tb₂ dp₁ dp₂ page₁ page₂
 one-filling a b = one-leaving (a .leaves) (b .leaves)

@@ -2,10 +2,12 @@
 // None asks anything of its caller but memory that is its own. Assumes nothing.
 ghost use mathlib.Core.Path.{_≡_};
 ghost use Rattle.image.specs.Image.{STATE, CHANNEL, LOCKS, WAITERS, WAITING, OPENS, LAST, CHANNELS};
-ghost use Rattle.sizes.specs.Sizes.{TABLE, REPLIES, ANSWER, PORT, ROOM};
+ghost use Rattle.display.specs.Display.{DISPLAY};
+ghost use Rattle.sizes.specs.Sizes.{TABLE, REPLIES, ANSWER, PORT, ROOM, RECORDS};
 ghost use Rattle.handed.specs.Handed.{requestOf};
 ghost use Rattle.starting.specs.Starting.{Started};
 ghost use Rattle.boundary.specs.Boundary.{Crossed};
+ghost use Rattle.waiting_list.specs.WaitingList.{Tells};
 ghost use Rattle.fragments.specs.Fragments.{Feeds};
 ghost use Rattle.last_line.specs.LastLine.{Ends};
 ghost use Rattle.machine.specs.Lists.{if_then_else_};
@@ -53,6 +55,20 @@ pub extern "C" fn qamhudeer_room_size() -> usize
     ensures { λ r. ⌜ r ≡ ROOM ⌝ }
 {
     sizes::room_size()
+}
+
+#[no_mangle]
+pub extern "C" fn qamhudeer_display_size() -> usize
+    ensures { λ r. ⌜ r ≡ DISPLAY ⌝ }
+{
+    sizes::display_size()
+}
+
+#[no_mangle]
+pub extern "C" fn qamhudeer_records_size() -> usize
+    ensures { λ r. ⌜ r ≡ RECORDS ⌝ }
+{
+    sizes::records_size()
 }
 
 #[no_mangle]
@@ -108,14 +124,20 @@ pub extern "C" fn qamhudeer_offset_of_channels() -> usize
 
 // A fresh device of four or eight channels: 0. Another number of channels, or memory of another size: 1, and nothing moves.
 #[no_mangle]
-pub extern "C" fn qamhudeer_fresh(channels: u8, state: &mut [u8], table: &mut [u8]) -> u8
-    ensures { λ r. ⌜ Started channels (now (state .entry)) (now (table .entry)) r (now (state .exit)) (now (table .exit)) ⌝ }
+pub extern "C" fn qamhudeer_fresh(
+    channels: u8,
+    state: &mut [u8],
+    table: &mut [u8],
+    display: &mut [u8],
+) -> u8
+    ensures { λ r. ⌜ Started channels (now (state .entry)) (now (table .entry)) (now (display .entry))
+        r (now (state .exit)) (now (table .exit)) (now (display .exit)) ⌝ }
 {
-    starting::fresh(channels, state, table)
+    starting::fresh(channels, state, table, display)
 }
 
 // A desk's call: the number of replies, of which the answer's last two bytes tell how many are desk A's and desk B's; 255 where the
-// answer is not lent eight bytes, and nothing moves.
+// answer is not lent eight bytes or the display not 18, and nothing moves.
 #[no_mangle]
 pub extern "C" fn qamhudeer_call(
     desk: u8,
@@ -128,12 +150,13 @@ pub extern "C" fn qamhudeer_call(
     combos: &[u8],
     state: &mut [u8],
     table: &mut [u8],
+    display: &mut [u8],
     replies: &mut [u8],
     answer: &mut [u8],
 ) -> usize
     ensures { λ n. ⌜ Crossed op (requestOf desk op id flags map prec key) (now (combos .entry))
-        (now (state .entry)) (now (table .entry)) (now (replies .entry)) (now (answer .entry))
-        n (now (state .exit)) (now (table .exit)) (now (replies .exit)) (now (answer .exit)) ⌝ }
+        (now (state .entry)) (now (table .entry)) (now (display .entry)) (now (replies .entry)) (now (answer .entry))
+        n (now (state .exit)) (now (table .exit)) (now (display .exit)) (now (replies .exit)) (now (answer .exit)) ⌝ }
 {
     boundary::call(
         desk,
@@ -146,6 +169,7 @@ pub extern "C" fn qamhudeer_call(
         combos,
         state,
         table,
+        display,
         replies,
         answer,
     )
@@ -154,21 +178,23 @@ pub extern "C" fn qamhudeer_call(
 // ---- a log over a slow line
 
 // A fragment of a log up to its first LF, or all of it: 0, how much of it is used, and how much output stands in front of `out`: that
-// of one line at most. No port: 1. Room for less than one line's output: 12. After a refusal both numbers are 0, and nothing moves.
+// of one line at most. No port, or no display: 1. Room for less than one line's output: 12. After a refusal both numbers are 0, and
+// nothing moves.
 #[no_mangle]
 pub extern "C" fn qamhudeer_feed(
     fragment: &[u8],
     port: &mut [u8],
     state: &mut [u8],
     table: &mut [u8],
+    display: &mut [u8],
     out: &mut [u8],
     used: &mut usize,
     written: &mut usize,
 ) -> u8
-    ensures { λ r. ⌜ Feeds (now (fragment .entry)) (now (port .entry)) (now (state .entry)) (now (table .entry)) (now (out .entry))
-        r (now (used .exit)) (now (written .exit)) (now (port .exit)) (now (state .exit)) (now (table .exit)) (now (out .exit)) ⌝ }
+    ensures { λ r. ⌜ Feeds (now (fragment .entry)) (now (port .entry)) (now (state .entry)) (now (table .entry)) (now (display .entry)) (now (out .entry))
+        r (now (used .exit)) (now (written .exit)) (now (port .exit)) (now (state .exit)) (now (table .exit)) (now (display .exit)) (now (out .exit)) ⌝ }
 {
-    let f = fragments::feed(fragment, port, state, table, out);
+    let f = fragments::feed(fragment, port, state, table, display, out);
     *used = f.used;
     *written = f.written;
     f.error
@@ -180,15 +206,34 @@ pub extern "C" fn qamhudeer_feed_end(
     port: &mut [u8],
     state: &mut [u8],
     table: &mut [u8],
+    display: &mut [u8],
     out: &mut [u8],
     written: &mut usize,
 ) -> u8
-    ensures { λ r. ⌜ Ends (now (port .entry)) (now (state .entry)) (now (table .entry)) (now (out .entry))
-        r (now (written .exit)) (now (port .exit)) (now (state .exit)) (now (table .exit)) (now (out .exit)) ⌝ }
+    ensures { λ r. ⌜ Ends (now (port .entry)) (now (state .entry)) (now (table .entry)) (now (display .entry)) (now (out .entry))
+        r (now (written .exit)) (now (port .exit)) (now (state .exit)) (now (table .exit)) (now (display .exit)) (now (out .exit)) ⌝ }
 {
-    let f = last_line::feed_end(port, state, table, out);
+    let f = last_line::feed_end(port, state, table, display, out);
     *written = f.written;
     f.error
+}
+
+// ---- who waits
+
+// A record of four bytes for each waiting request, in order: 0 and their number. Bytes that hold no sound state: 1. Room for fewer than
+// 64 records: 5. After a refusal the number is 0, and nothing is written.
+#[no_mangle]
+pub extern "C" fn qamhudeer_waiting(
+    state: &[u8],
+    table: &[u8],
+    records: &mut [u8],
+    count: &mut usize,
+) -> u8
+    ensures { λ r. ⌜ Tells (now (state .entry)) (now (table .entry)) (now (records .entry)) r (now (count .exit)) (now (records .exit)) ⌝ }
+{
+    let made = waiting_list::waiting(state, table, records);
+    *count = made.count;
+    made.error
 }
 
 // ---- lists for stereo

@@ -26,7 +26,8 @@ use Rattle.answers.specs.declared.Request.{Request}
 use Rattle.board.specs.declared.Outcome.{Outcome}
 use Rattle.refusals.specs.declared.Op.{Op}
 use Rattle.refusals.specs.Refusals.{askedOf}
-use Rattle.arbiter.specs.Arbiter.{Handled}
+use Rattle.display.specs.Display.{displayedBy}
+use Rattle.arbiter.specs.Arbiter.{Handled, Shown}
 use Rattle.frames.specs.declared.Frame.{Frame}
 use Rattle.frames.specs.declared.Line.{Line}
 use Rattle.frames.specs.declared.Line.the-variants.{Call}
@@ -37,7 +38,7 @@ use Rattle.lines.proofs.Laws.{length-told, ordered-replies, tells-outcome}
 use Rattle.unheard.specs.declared.Fed.{Fed}
 use Rattle.unheard.specs.Unheard.{dull, Dull}
 use Rattle.unheard.proofs.Laws.{fed-parts}
-use Rattle.serving.specs.Serving.{Feeds}
+use Rattle.serving.specs.Serving.{Feeds, FeedsDisplay}
 
 -- ---- the machine's `feed` by the kind of line
 
@@ -64,6 +65,10 @@ dull-feeds {s} {tb} {l} {out} {f} h e d =
       kept = subst (λ (x : Board). Held x tb) (sym (d .state)) h;
       next = ap (λ (x : Board). stateIn x tb) (d .state) ∙ n;
     }
+
+pub dull-display : {s : Board} {tb l out : List ℕ} {f : Fed} {tb′ out′ : List ℕ} (dp : List ℕ) → Feeds s tb l out f tb′ out′ → frame (unhex l) ≡ none → FeedsDisplay s tb l dp dp
+unfolding displayedBy
+dull-display {s} {tb} dp _ e = sym (ap (λ o. displayedBy (stateIn s tb) o dp) e)
 
 -- ---- a line that is one
 
@@ -111,6 +116,13 @@ served-feeds {f} {s} {ms} {tb} {l} {zs} {out} os n a w p t =
       kept = w .kept;
       next = w .next ∙ m;
     }
+
+pub served-display : {f : Frame} {s : Board} {ms tb l zs : List ℕ} {d : Outcome} {tb′ l′ : List ℕ} (dp : List ℕ) {dp′ : List ℕ} → 384 ≡ length zs → Asked l ms f
+    → Handled (f .op) (f .request) s (take (f .n) ms) tb zs d tb′ l′ → Shown (f .op) (f .request) s (take (f .n) ms) tb zs dp dp′ → FeedsDisplay s tb l dp dp′
+unfolding displayedBy
+served-display {f} {s} {ms} {tb} dp n a _ w =
+    let e = a .whole ∙ ap (λ (k : ℕ). some (askedOf (f .op) (f .request) (take (f .n) ms) k)) n in
+    w ∙ sym (ap (λ o. displayedBy (stateIn s tb) o dp) e)
 
 -- ---- the room that a line's output takes
 

@@ -8,22 +8,37 @@ use unheard::Fed;
 ghost use Prim.Native.Nat.{_≤_};
 ghost use lib.ListN.{length, take};
 ghost use Rattle.board.specs.Board.{Held};
-ghost use Rattle.arbiter.specs.Arbiter.{Handled};
-ghost use Rattle.serving.specs.Serving.{Feeds};
+ghost use Rattle.arbiter.specs.Arbiter.{Handled, Shown};
+ghost use Rattle.serving.specs.Serving.{Feeds, FeedsDisplay};
 
-fn serve(f: Frame, s: Board, combos: &[u8], table: &mut [u8], replies: &mut [u8]) -> Outcome
+fn serve(
+    f: Frame,
+    s: Board,
+    combos: &[u8],
+    table: &mut [u8],
+    display: &mut [u8; 18],
+    replies: &mut [u8],
+) -> Outcome
     requires { ⌜ Held s (now table) × (f .n ≤ length (now combos)) ⌝ }
-    ensures { λ d. ⌜ Handled (f .op) (f .request) s (take (f .n) (now (combos .entry))) (now (table .entry)) (now (replies .entry)) d (now (table .exit)) (now (replies .exit)) ⌝ }
+    ensures { λ d. ⌜ Handled (f .op) (f .request) s (take (f .n) (now (combos .entry))) (now (table .entry)) (now (replies .entry)) d (now (table .exit)) (now (replies .exit))
+        × Shown (f .op) (f .request) s (take (f .n) (now (combos .entry))) (now (table .entry)) (now (replies .entry)) (now (display .entry)) (now (display .exit)) ⌝ }
 {
     let op = f.op;
     let r = f.request;
     let k = f.n;
-    arbiter::handle(op, r, s, &combos[..k], table, replies)
+    arbiter::handle(op, r, s, &combos[..k], table, display, replies)
 }
 
-pub fn feed_sound(s: Board, line: &[u8], table: &mut [u8], out: &mut [u8; 973]) -> Fed
+pub fn feed_sound(
+    s: Board,
+    line: &[u8],
+    table: &mut [u8],
+    display: &mut [u8; 18],
+    out: &mut [u8; 973],
+) -> Fed
     requires { ⌜ Held s (now table) ⌝ }
-    ensures { λ f. ⌜ Feeds s (now (table .entry)) (now (line .entry)) (now (out .entry)) f (now (table .exit)) (now (out .exit)) ⌝ }
+    ensures { λ f. ⌜ Feeds s (now (table .entry)) (now (line .entry)) (now (out .entry)) f (now (table .exit)) (now (out .exit))
+        × FeedsDisplay s (now (table .entry)) (now (line .entry)) (now (display .entry)) (now (display .exit)) ⌝ }
 {
     let mut combos = [0u8; 255];
     let read = frames::read(line, &mut combos);
@@ -31,7 +46,7 @@ pub fn feed_sound(s: Board, line: &[u8], table: &mut [u8], out: &mut [u8; 973]) 
         return unheard::malformed(s, out);
     };
     let mut replies = [0u8; 384];
-    let d = serve(f, s, &combos, table, &mut replies);
+    let d = serve(f, s, &combos, table, display, &mut replies);
     let mut ordered = [0u8; 384];
     halves::order(&replies, d.n, &mut ordered);
     let a = d.answer;

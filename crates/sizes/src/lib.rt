@@ -2,7 +2,8 @@
 // Assumes nothing.
 ghost use mathlib.Core.Path.{_≡_};
 ghost use Rattle.image.specs.Image.{STATE, CHANNEL, LOCKS, WAITERS, WAITING, OPENS, LAST, CHANNELS};
-ghost use Rattle.sizes.specs.Sizes.{TABLE, REPLIES, ANSWER, PORT, ROOM};
+ghost use Rattle.display.specs.Display.{DISPLAY};
+ghost use Rattle.sizes.specs.Sizes.{TABLE, REPLIES, ANSWER, PORT, ROOM, RECORDS};
 
 pub fn state_size() -> usize
     ensures { λ r. ⌜ r ≡ STATE ⌝ }
@@ -38,6 +39,18 @@ pub fn room_size() -> usize
     ensures { λ r. ⌜ r ≡ ROOM ⌝ }
 {
     973
+}
+
+pub fn display_size() -> usize
+    ensures { λ r. ⌜ r ≡ DISPLAY ⌝ }
+{
+    18
+}
+
+pub fn records_size() -> usize
+    ensures { λ r. ⌜ r ≡ RECORDS ⌝ }
+{
+    256
 }
 
 pub fn channel_size() -> usize

@@ -12,6 +12,9 @@ use Rattle.machine.specs.Log.{unhex, frame, feed}
 use Rattle.machine.proofs.Tests.{if-elim, and-left, and-right, and-both}
 use Rattle.machine_laws.proofs.Lists.{all-append}
 use Rattle.machine_laws.proofs.Sound.{parts}
+use Rattle.machine.specs.State.{Call, State as StateM}
+use Rattle.display.specs.Display.{DISPLAY, displayedBy}
+use Rattle.display.proofs.Display.{displayed-length}
 use Rattle.memory.specs.Splice.{splice}
 use Rattle.store.specs.Store.{tableOf}
 use Rattle.board.specs.Board.{structOf}
@@ -37,31 +40,51 @@ use Rattle.images.proofs.Images.{Bytes, key-bytes, zero-bytes, saved-of}
 
 -- ---- a line is heard, sound or not
 
-record Answered (o : Option (List ℕ)) (st tb room : List ℕ) : Type 0 where
+record Answered (o : Option (List ℕ)) (st tb dp room : List ℕ) : Type 0 where
   pub n : ℕ
   pub st′ : List ℕ
   pub tb′ : List ℕ
+  pub dp′ : List ℕ
   pub room′ : List ℕ
-  pub answers : Answers o st tb room n st′ tb′ room′
+  pub long : length dp′ ≡ DISPLAY
+  pub answers : Answers o st tb dp room n st′ tb′ dp′ room′
 
-answered : {l st tb : List ℕ} (room text st′ tb′ : List ℕ) → Hears l st tb text st′ tb′ → Answered (some l) st tb room
-answered room text st′ tb′ h =
-    record { n = length text; st′ = st′; tb′ = tb′; room′ = splice room 0 text; answers = record { text = text; heard = h; count = refl; bytes = refl } }
+answered : {l st tb dp : List ℕ} (room text st′ tb′ dp′ : List ℕ) → length dp′ ≡ DISPLAY → Hears l st tb dp text st′ tb′ dp′ → Answered (some l) st tb dp room
+answered room text st′ tb′ dp′ d h =
+    record {
+      n = length text;
+      st′ = st′;
+      tb′ = tb′;
+      dp′ = dp′;
+      room′ = splice room 0 text;
+      long = d;
+      answers = record { text = text; heard = h; count = refl; bytes = refl };
+    }
 
--- by the state that the machine's `feed` leaves: it is sound, so it has its bytes
-served-made : (l st tb room : List ℕ) → Kept st tb → Answered (some l) st tb room
-served-made l st tb room k =
-    let f = feed (heldIn st tb) l in
-    let s = f .next in
-    let p = parts s (feed-fine (heldIn st tb) l (held-fine (k .held)) .sane) in
-    answered room (f .output) (imageOf (structOf s)) (tableOf s)
-    (record { sound = λ _. record { output = refl; state = saved-of s p; table = refl }; unsound = λ n. absurd (n k) })
+shown-long : (s : StateM) (o : Option Call) (dp : List ℕ) → length dp ≡ DISPLAY → length (displayedBy s o dp) ≡ DISPLAY
+unfolding displayedBy
+shown-long s none dp d = d
+shown-long s (some c) dp d = displayed-length s c dp d
 
-answer-made : (o : Option (List ℕ)) (st tb room : List ℕ) → Answered o st tb room
-answer-made none st tb room = record { n = 0; st′ = st; tb′ = tb; room′ = room; answers = record { count = refl; state = refl; table = refl; bytes = refl } }
-answer-made (some l) st tb room =
-    kept-or-not st tb (served-made l st tb room)
-    (λ n. answered room (unheard (frame (unhex l))) st tb (record { sound = λ k. absurd (n k); unsound = λ _. record { output = refl; state = refl; table = refl } }))
+module _ (l st tb dp room : List ℕ) (d : length dp ≡ DISPLAY) where
+  -- by the state that the machine's `feed` leaves: it is sound, so it has its bytes
+  served-made : Kept st tb → Answered (some l) st tb dp room
+  served-made k =
+      let f = feed (heldIn st tb) l in
+      let s = f .next in
+      let p = parts s (feed-fine (heldIn st tb) l (held-fine (k .held)) .sane) in
+      answered room (f .output) (imageOf (structOf s)) (tableOf s) (displayedBy (heldIn st tb) (frame (unhex l)) dp) (shown-long (heldIn st tb) (frame (unhex l)) dp d)
+      (record { sound = λ _. record { output = refl; state = saved-of s p; table = refl; display = refl }; unsound = λ n. absurd (n k) })
+
+  unserved-made : (Kept st tb → ⊥) → Answered (some l) st tb dp room
+  unserved-made n =
+      answered room (unheard (frame (unhex l))) st tb dp d
+      (record { sound = λ k. absurd (n k); unsound = λ _. record { output = refl; state = refl; table = refl; display = refl } })
+
+answer-made : (o : Option (List ℕ)) (st tb dp room : List ℕ) → length dp ≡ DISPLAY → Answered o st tb dp room
+answer-made none st tb dp room d =
+    record { n = 0; st′ = st; tb′ = tb; dp′ = dp; room′ = room; long = d; answers = record { count = refl; state = refl; table = refl; display = refl; bytes = refl } }
+answer-made (some l) st tb dp room d = kept-or-not st tb (served-made l st tb dp room d) (unserved-made l st tb dp room d)
 
 -- ---- a port stays a port
 
@@ -130,52 +153,69 @@ room₀ = replicate ROOM 0
 room-long : ROOM ≤ length room₀
 room-long = let e = length-replicate {A = ℕ} ROOM 0 in omega arith
 
-module _ (p st tb : List ℕ) (h : Proper p) where
-  feed-made : (bs : List ℕ) (a : Answered (lineFed p bs) st tb room₀) → Feeds bs p st tb room₀ 0 (used bs) (a .n) (portFed p bs) (a .st′) (a .tb′) (a .room′)
-  feed-made bs a = is-served (no-refusal p (length room₀) h room-long) refl refl (record { used = refl; port = refl; answers = a .answers })
+module _ (p st tb dp : List ℕ) (h : Proper p) (d : length dp ≡ DISPLAY) where
+  feed-made : (bs : List ℕ) (a : Answered (lineFed p bs) st tb dp room₀) → Feeds bs p st tb dp room₀ 0 (used bs) (a .n) (portFed p bs) (a .st′) (a .tb′) (a .dp′) (a .room′)
+  feed-made bs a = is-served (no-refusal p (length dp) (length room₀) h d room-long) refl refl (record { used = refl; port = refl; answers = a .answers })
 
-  end-made : (a : Answered (lineLast p) st tb room₀) → Ends p st tb room₀ 0 (a .n) (portLast p) (a .st′) (a .tb′) (a .room′)
-  end-made a = is-served (no-refusal p (length room₀) h room-long) refl refl (record { used = refl; port = refl; answers = a .answers })
+  end-made : (a : Answered (lineLast p) st tb dp room₀) → Ends p st tb dp room₀ 0 (a .n) (portLast p) (a .st′) (a .tb′) (a .dp′) (a .room′)
+  end-made a = is-served (no-refusal p (length dp) (length room₀) h d room-long) refl refl (record { used = refl; port = refl; answers = a .answers })
 
 -- a call that is not refused uses some of a fragment that has any bytes
-pub progress : (bs p : List ℕ) {st tb room : List ℕ} {u n : ℕ} {p′ st′ tb′ room′ : List ℕ} → Feeds bs p st tb room 0 u n p′ st′ tb′ room′ → 0 < length bs → 0 < u
+pub progress : (bs p : List ℕ) {st tb dp room : List ℕ} {u n : ℕ} {p′ st′ tb′ dp′ room′ : List ℕ} → Feeds bs p st tb dp room 0 u n p′ st′ tb′ dp′ room′ → 0 < length bs → 0 < u
 progress bs p c h = let e = c .served (sym (c .error)) .used in let k = used-some bs h in omega arith
 
 -- ---- runs
 
-pub record Runs (p st tb : List ℕ) (bss : List (List ℕ)) : Type 0 where
+pub record Runs (p st tb dp : List ℕ) (bss : List (List ℕ)) : Type 0 where
   pub out : List ℕ
   pub port : List ℕ
   pub state : List ℕ
   pub table : List ℕ
-  pub ran : Ran p st tb bss out port state table
+  pub display : List ℕ
+  pub ran : Ran p st tb dp bss out port state table display
 
 -- whatever stands, the fragments come to some output
 abbrev Come : List (List ℕ) → Type 0
-Come bss = (p st tb : List ℕ) → Proper p → Runs p st tb bss
+Come bss = (p st tb dp : List ℕ) → Proper p → length dp ≡ DISPLAY → Runs p st tb dp bss
 
 end : Come []
-end p st tb h =
-    let a = answer-made (lineLast p) st tb room₀ in
-    record { out = take (a .n) (a .room′) ++ []; port = portLast p; state = a .st′; table = a .tb′; ran = ends (end-made p st tb h a) (over (started-back 0 (lineIn p))) }
+end p st tb dp h d =
+    let a = answer-made (lineLast p) st tb dp room₀ d in
+    record {
+      out = take (a .n) (a .room′) ++ [];
+      port = portLast p;
+      state = a .st′;
+      table = a .tb′;
+      display = a .dp′;
+      ran = ends (end-made p st tb dp h d a) (over (started-back 0 (lineIn p)));
+    }
 
 empty : (bss : List (List ℕ)) → Come bss → Come ([] ∷ bss)
-empty bss next p st tb h = let r = next p st tb h in record { out = r .out; port = r .port; state = r .state; table = r .table; ran = used-up (r .ran) }
+empty bss next p st tb dp h d =
+    let r = next p st tb dp h d in
+    record { out = r .out; port = r .port; state = r .state; table = r .table; display = r .display; ran = used-up (r .ran) }
 
 fragment : (bss : List (List ℕ)) → Come bss → (m : ℕ) (bs : List ℕ) → length bs ≤ m → Bytes bs → Come (bs ∷ bss)
-fragment bss next zero [] e t p st tb h = empty bss next p st tb h
-fragment bss next (suc m) [] e t p st tb h = empty bss next p st tb h
-fragment bss next zero (b ∷ bs) e t p st tb h = absurd (omega arith)
-fragment bss next (suc m) (b ∷ bs) e t p st tb h =
+fragment bss next zero [] e t p st tb dp h d = empty bss next p st tb dp h d
+fragment bss next (suc m) [] e t p st tb dp h d = empty bss next p st tb dp h d
+fragment bss next zero (b ∷ bs) e t p st tb dp h d = absurd (omega arith)
+fragment bss next (suc m) (b ∷ bs) e t p st tb dp h d =
     let cs = b ∷ bs in
-    let a = answer-made (lineFed p cs) st tb room₀ in
+    let a = answer-made (lineFed p cs) st tb dp room₀ d in
     let u = used-some cs (omega arith) in
-    let d = length-drop (used cs) cs in
-    let r = fragment bss next m (drop (used cs) cs) (omega arith) (bytes-drop (used cs) cs t) (portFed p cs) (a .st′) (a .tb′) (port-fed p h cs t) in
-    record { out = take (a .n) (a .room′) ++ r .out; port = r .port; state = r .state; table = r .table; ran = feeds (feed-made p st tb h cs a) (r .ran) }
+    let k = length-drop (used cs) cs in
+    let r = fragment bss next m (drop (used cs) cs) (omega arith) (bytes-drop (used cs) cs t) (portFed p cs) (a .st′) (a .tb′) (a .dp′) (port-fed p h cs t) (a .long) in
+    record {
+      out = take (a .n) (a .room′) ++ r .out;
+      port = r .port;
+      state = r .state;
+      table = r .table;
+      display = r .display;
+      ran = feeds (feed-made p st tb dp h d cs a) (r .ran);
+    }
 
--- of bytes, from any port, and any bytes as state and table
-pub run-exists : (bss : List (List ℕ)) → T (all isByte (joined bss)) → (p st tb : List ℕ) → Proper p → Runs p st tb bss
-run-exists [] t p st tb h = end p st tb h
-run-exists (bs ∷ bss) t p st tb h =
-    fragment bss (λ p st tb h. run-exists bss (bytes-right bs (joined bss) t) p st tb h) (length bs) bs (omega arith) (bytes-left bs (joined bss) t) p st tb h
+-- of bytes, from any port and display, and any bytes as state and table
+pub run-exists : (bss : List (List ℕ)) → T (all isByte (joined bss)) → (p st tb dp : List ℕ) → Proper p → length dp ≡ DISPLAY → Runs p st tb dp bss
+run-exists [] t p st tb dp h d = end p st tb dp h d
+run-exists (bs ∷ bss) t p st tb dp h d =
+    fragment bss (λ p st tb dp h d. run-exists bss (bytes-right bs (joined bss) t) p st tb dp h d) (length bs) bs (omega arith) (bytes-left bs (joined bss) t) p st tb dp h d

@@ -15,7 +15,7 @@ fn digit(n: u8) -> u8
     if n < 10 { 48 + n } else { 55 + n }
 }
 
-fn put_byte(out: &mut [u8], at: usize, b: u8)
+pub fn put_byte(out: &mut [u8], at: usize, b: u8)
     requires { ⌜ at + 2 ≤ length (now out) ⌝ }
     ensures { λ _. ⌜ now (out .exit) ≡ splice (now (out .entry)) at (digits (b ∷ [])) ⌝ }
 {

@@ -2,7 +2,7 @@
 -- call leaves is held again. Assumes nothing.
 use Prim.Native.Nat.{ℕ, zero, suc, _+_, _*_, _-_, _%_, _≤_, _<_}
 use mathlib.Core.Path.{_≡_, refl, ap, sym, subst, _∙_}
-use mathlib.Core.Bool.{Bool, true, false, _&&_}
+use mathlib.Core.Bool.{_&&_}
 use mathlib.Core.List.{List, [], _∷_}
 use mathlib.Core.Option.{Option, none, some}
 use native.Mathlib.Nat.{mod-lt}
@@ -25,6 +25,7 @@ use Rattle.board.specs.Board.{sized, structOf, stateIn, Held}
 use Rattle.board.proofs.Laws.{held-next}
 use Rattle.gathering.specs.Lumps.{ended, used}
 use Rattle.digits.proofs.Laws.{Small, small-digit}
+use Rattle.taking.specs.declared.Show.{Show}
 use Rattle.taking.specs.declared.Taken.{Taken}
 use Rattle.taking.specs.Desk.{fed, Desk, gathered, answered, taken, fits, takes, filled, closed, finished, Leaves}
 
@@ -97,18 +98,18 @@ feed-fine s l h = go (frame (unhex l)) (frame-fits (unhex l) (unhex-bytes l))
     go none t = unfold outcomeOf silent in h
     go (some c) t = record { sane = call-sound s c (t .0) (t .1) (h .sane); size = subst (λ (n : ℕ). T (sized n)) (sym (call-wide s c)) (h .size) }
 
-pub fed-next : (show : Bool) (s : StateM) (l : List ℕ) → fed show s l .next ≡ feed s l .next
+pub fed-next : (show : Show) (s : StateM) (d l : List ℕ) → fed show s d l .next ≡ feed s l .next
 unfolding fed
-fed-next show s l = refl
+fed-next show s d l = refl
 
-pub answered-fine : (show : Bool) (d : Desk) → Fine (d .state) → Fine (answered show d .state)
-answered-fine show d h = rw (fed-next show (d .state) (take (d .n) (d .line))) (feed-fine (d .state) (take (d .n) (d .line)) h)
+pub answered-fine : (show : Show) (d : Desk) → Fine (d .state) → Fine (answered show d .state)
+answered-fine show d h = rw (fed-next show (d .state) (d .display) (take (d .n) (d .line))) (feed-fine (d .state) (take (d .n) (d .line)) h)
 
-pub taken-fine : (show : Bool) (d : Desk) (bs : List ℕ) → Fine (d .state) → Fine (taken show d bs .state)
+pub taken-fine : (show : Show) (d : Desk) (bs : List ℕ) → Fine (d .state) → Fine (taken show d bs .state)
 unfolding taken
 taken-fine show d bs h = if-elim (λ (x : Desk). Fine (x .state)) (ended bs) (λ _. answered-fine show (gathered d bs) h) (λ _. h)
 
-takes-fine : (show : Bool) (k : ℕ) (d : Desk) (bs : List ℕ) → Fine (d .state) → Fine (takes show k d bs .state)
+takes-fine : (show : Show) (k : ℕ) (d : Desk) (bs : List ℕ) → Fine (d .state) → Fine (takes show k d bs .state)
 unfolding takes
 takes-fine show zero d bs h = h
 takes-fine show (suc k) d [] h = h
@@ -117,21 +118,21 @@ takes-fine show (suc k) d (b ∷ bs) h =
     (λ _. takes-fine show k (taken show d (b ∷ bs)) (drop (used (b ∷ bs)) (b ∷ bs)) (taken-fine show d (b ∷ bs) h))
     (λ _. h)
 
-pub filled-fine : (show : Bool) (d : Desk) (bs : List ℕ) → Fine (d .state) → Fine (filled show d bs .state)
+pub filled-fine : (show : Show) (d : Desk) (bs : List ℕ) → Fine (d .state) → Fine (filled show d bs .state)
 unfolding filled
 filled-fine show d bs h = takes-fine show (length bs) d bs h
 
-pub closed-fine : (show : Bool) (d : Desk) → Fine (d .state) → Fine (closed show d .state)
+pub closed-fine : (show : Show) (d : Desk) → Fine (d .state) → Fine (closed show d .state)
 unfolding closed
 closed-fine show d h = if-elim (λ (x : Desk). Fine (x .state)) (eqb (d .n) 0) (λ _. h) (λ _. answered-fine show d h)
 
-pub finished-fine : (show : Bool) (d : Desk) → Fine (d .state) → Fine (finished show d .state)
+pub finished-fine : (show : Show) (d : Desk) → Fine (d .state) → Fine (finished show d .state)
 unfolding finished
 finished-fine show d h = if-elim (λ (x : Desk). Fine (x .state)) (fits show d) (λ _. closed-fine show d h) (λ _. h)
 
 -- ---- what a call leaves
 
-module _ {t : Taken} {l tb page : List ℕ} {d : Desk} (h : Fine (d .state)) (w : Leaves t l tb page d) where
+module _ {t : Taken} {l tb dp page : List ℕ} {d : Desk} (h : Fine (d .state)) (w : Leaves t l tb dp page d) where
   left : Held (t .state) tb × (stateIn (t .state) tb ≡ d .state)
   left = held-next (d .state) (t .state) tb (parts (d .state) (h .sane)) (h .size) (w .struct) (w .table)
 

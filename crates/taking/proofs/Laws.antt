@@ -1,7 +1,7 @@
 -- Gathering and feeding are what `taken` and `finished` say; and no second outcome fits. Assumes nothing.
 use Prim.Native.Nat.{ℕ, suc, _+_, _-_, _≤_, _<_}
 use mathlib.Core.Path.{_≡_, refl, ap, sym, subst, _∙_}
-use mathlib.Core.Bool.{Bool, true, false}
+use mathlib.Core.Bool.{true, false}
 use mathlib.Core.List.{List, [], _∷_, append-nil}
 use native.Mathlib.Nat.{zero-add}
 use native.Mathlib.Omega.{arith}
@@ -19,19 +19,20 @@ use Rattle.board.specs.Board.{structOf, stateIn, Held}
 use Rattle.gathering.specs.declared.Gathered.{Gathered}
 use Rattle.gathering.specs.Lumps.{LINE, front, ended, used, kept, Gathers}
 use Rattle.unheard.specs.declared.Fed.{Fed}
-use Rattle.serving.specs.Serving.{Feeds}
+use Rattle.serving.specs.Serving.{Feeds, FeedsDisplay}
+use Rattle.taking.specs.declared.Show.{Show}
 use Rattle.taking.specs.declared.Taken.{Taken}
-use Rattle.taking.specs.Desk.{shownOf, fed, Desk, deskOf, gathered, answered, taken, closed, Leaves, Takes, Ends}
+use Rattle.taking.specs.Desk.{hidden, shownOf, fed, Desk, deskOf, gathered, answered, taken, closed, Leaves, Takes, Ends}
 
 -- ---- fed
 
-pub fed-hidden : (s : StateM) (l : List ℕ) → fed false s l ≡ feed s l
+pub fed-hidden : (s : StateM) (d l : List ℕ) → fed hidden s d l ≡ feed s l
 unfolding fed shownOf
-fed-hidden s l i = record { output = append-nil (feed s l .output) i; next = feed s l .next }
+fed-hidden s d l i = record { output = append-nil (feed s l .output) i; next = feed s l .next }
 
 -- ---- taken, by whether there is an LF
 
-module _ (show : Bool) (d : Desk) (bs : List ℕ) where
+module _ (show : Show) (d : Desk) (bs : List ℕ) where
   pub taken-open : ended bs ≡ false → taken show d bs ≡ gathered d bs
   unfolding taken
   taken-open e = rw e
@@ -42,7 +43,7 @@ module _ (show : Bool) (d : Desk) (bs : List ℕ) where
 
 -- ---- closed, by whether anything stands
 
-module _ (show : Bool) (d : Desk) where
+module _ (show : Show) (d : Desk) where
   pub closed-none : d .n ≡ 0 → closed show d ≡ d
   unfolding closed
   closed-none e = rw (eq-eqb (d .n) 0 e)
@@ -56,7 +57,7 @@ module _ (show : Bool) (d : Desk) where
 pub kept-few : (n : ℕ) (bs : List ℕ) → n ≤ LINE → n + length (kept n bs) ≤ LINE
 kept-few n bs h = let k = length-take (LINE - n) (front bs) in omega arith
 
-module _ (show : Bool) (d : Desk) (bs : List ℕ) where
+module _ (show : Show) (d : Desk) (bs : List ℕ) where
   pub taken-within : d .n ≤ LINE → taken show d bs .n ≤ LINE
   unfolding taken
   taken-within h = if-elim (λ (x : Desk). x .n ≤ LINE) (ended bs) (λ _. omega arith) (λ _. kept-few (d .n) bs h)
@@ -87,14 +88,15 @@ module _ {l : List ℕ} {n : ℕ} {bs : List ℕ} {g : Gathered} {l′ : List �
   gathered-few h = rw gathered-n (kept-few n bs h)
 
   -- the line goes on: nothing is answered
-  pub open-takes : {s : Board} {tb out : List ℕ} → Held s tb → g .ended ≡ false
-      → Takes s tb l n bs out (record { state = s; line = g .n; used = g .used; at = 0 }) l′ tb out
-  open-takes {s} {tb} {out} h e =
+  pub open-takes : {s : Board} {tb dp out : List ℕ} → Held s tb → g .ended ≡ false
+      → Takes s tb dp l n bs out (record { state = s; line = g .n; used = g .used; at = 0 }) l′ tb dp out
+  open-takes {s} {tb} {dp} {out} h e =
       record {
-        leaves = rw (taken-open false (deskOf s tb l n out 0) bs (sym gathered-ended ∙ e))
+        leaves = rw (taken-open hidden (deskOf s tb dp l n out 0) bs (sym gathered-ended ∙ e))
             (record {
               struct = h .struct;
               table = h .table;
+              display = refl;
               line = w .filled;
               started = gathered-n;
               page = refl;
@@ -103,17 +105,21 @@ module _ {l : List ℕ} {n : ℕ} {bs : List ℕ} {g : Gathered} {l′ : List �
             });
       }
 
-  gathered-desk : (s : Board) (tb out : List ℕ) → record { state = stateIn s tb; line = l′; n = g .n; page = out; at = 0; used = g .used } ≡ gathered (deskOf s tb l n out 0) bs
-  gathered-desk s tb out i = record { state = stateIn s tb; line = w .filled i; n = gathered-n i; page = out; at = 0; used = (gathered-used ∙ sym (zero-add (used bs))) i }
+  gathered-desk : (s : Board) (tb dp out : List ℕ)
+      → record { state = stateIn s tb; display = dp; line = l′; n = g .n; page = out; at = 0; used = g .used } ≡ gathered (deskOf s tb dp l n out 0) bs
+  gathered-desk s tb dp out i =
+      record { state = stateIn s tb; display = dp; line = w .filled i; n = gathered-n i; page = out; at = 0; used = (gathered-used ∙ sym (zero-add (used bs))) i }
 
 -- a line that is fed is answered on an empty page
-feeds-answered : {s : Board} {tb l out : List ℕ} (n u : ℕ) {f : Fed} {tb′ out′ : List ℕ} → Feeds s tb (take n l) out f tb′ out′
-    → Leaves (record { state = f .state; line = 0; used = u; at = f .n }) l tb′ out′ (answered false (record { state = stateIn s tb; line = l; n = n; page = out; at = 0; used = u }))
-feeds-answered {s} {tb} {l} {out} n u v =
-    let a : feed (stateIn s tb) (take n l) ≡ fed false (stateIn s tb) (take n l) = sym (fed-hidden (stateIn s tb) (take n l)) in
+feeds-answered : {s : Board} {tb l out : List ℕ} (dp : List ℕ) (n u : ℕ) {f : Fed} {tb′ dp′ out′ : List ℕ} → Feeds s tb (take n l) out f tb′ out′ → FeedsDisplay s tb (take n l) dp dp′
+    → Leaves (record { state = f .state; line = 0; used = u; at = f .n }) l tb′ dp′ out′
+    (answered hidden (record { state = stateIn s tb; display = dp; line = l; n = n; page = out; at = 0; used = u }))
+feeds-answered {s} {tb} {l} {out} dp n u v q =
+    let a : feed (stateIn s tb) (take n l) ≡ fed hidden (stateIn s tb) dp (take n l) = sym (fed-hidden (stateIn s tb) dp (take n l)) in
     record {
       struct = v .struct ∙ ap (λ (x : FedM). structOf (x .next)) a;
       table = v .table ∙ ap (λ (x : FedM). tableOf (x .next)) a;
+      display = q;
       line = refl;
       started = refl;
       page = v .bytes ∙ ap (λ (x : FedM). splice out 0 (x .output)) a;
@@ -122,54 +128,57 @@ feeds-answered {s} {tb} {l} {out} n u v =
     }
 
 -- the line has ended, and is fed
-pub ended-takes : {s : Board} {tb l out : List ℕ} {n : ℕ} {bs : List ℕ} {g : Gathered} {l′ : List ℕ} {f : Fed} {tb′ out′ : List ℕ}
-    → Gathers l n bs g l′ → g .ended ≡ true → Feeds s tb (take (g .n) l′) out f tb′ out′
-    → Takes s tb l n bs out (record { state = f .state; line = 0; used = g .used; at = f .n }) l′ tb′ out′
-ended-takes {s} {tb} {l} {out} {n} {bs} {g} {l′} {f} {tb′} {out′} w e v =
+pub ended-takes : {s : Board} {tb l out : List ℕ} (dp : List ℕ) {n : ℕ} {bs : List ℕ} {g : Gathered} {l′ : List ℕ} {f : Fed} {tb′ dp′ out′ : List ℕ}
+    → Gathers l n bs g l′ → g .ended ≡ true → Feeds s tb (take (g .n) l′) out f tb′ out′ → FeedsDisplay s tb (take (g .n) l′) dp dp′
+    → Takes s tb dp l n bs out (record { state = f .state; line = 0; used = g .used; at = f .n }) l′ tb′ dp′ out′
+ended-takes {s} {tb} {l} {out} dp {n} {bs} {g} {l′} {f} {tb′} {dp′} {out′} w e v q =
     let t : Taken = record { state = f .state; line = 0; used = g .used; at = f .n } in
     record {
-      leaves = rw (taken-ended false (deskOf s tb l n out 0) bs (sym (gathered-ended w) ∙ e))
-          (subst (λ (d : Desk). Leaves t l′ tb′ out′ (answered false d)) (gathered-desk w s tb out) (feeds-answered (g .n) (g .used) v));
+      leaves = rw (taken-ended hidden (deskOf s tb dp l n out 0) bs (sym (gathered-ended w) ∙ e))
+          (subst (λ (d : Desk). Leaves t l′ tb′ dp′ out′ (answered hidden d)) (gathered-desk w s tb dp out) (feeds-answered dp (g .n) (g .used) v q));
     }
 
 -- ---- the end of the log
 
-pub none-ends : {s : Board} {tb l out : List ℕ} {n : ℕ} → Held s tb → n ≡ 0 → Ends s tb l n out (record { state = s; line = 0; used = 0; at = 0 }) tb out
-none-ends {s} {tb} {l} {out} {n} h e =
+pub none-ends : {s : Board} {tb dp l out : List ℕ} {n : ℕ} → Held s tb → n ≡ 0 → Ends s tb dp l n out (record { state = s; line = 0; used = 0; at = 0 }) tb dp out
+none-ends {s} {tb} {dp} {l} {out} {n} h e =
     record {
-      leaves = rw (closed-none false (deskOf s tb l n out 0) e)
-          (record { struct = h .struct; table = h .table; line = refl; started = sym e; page = refl; at = refl; used = refl });
+      leaves = rw (closed-none hidden (deskOf s tb dp l n out 0) e)
+          (record { struct = h .struct; table = h .table; display = refl; line = refl; started = sym e; page = refl; at = refl; used = refl });
     }
 
-pub some-ends : {s : Board} {tb l out : List ℕ} {n : ℕ} {f : Fed} {tb′ out′ : List ℕ} → (n ≡ 0 → ⊥) → Feeds s tb (take n l) out f tb′ out′
-    → Ends s tb l n out (record { state = f .state; line = 0; used = 0; at = f .n }) tb′ out′
-some-ends {s} {tb} {l} {out} {n} h v = record { leaves = rw (closed-some false (deskOf s tb l n out 0) h) (feeds-answered n 0 v) }
+pub some-ends : {s : Board} {tb l out : List ℕ} (dp : List ℕ) {n : ℕ} {f : Fed} {tb′ dp′ out′ : List ℕ} → (n ≡ 0 → ⊥) → Feeds s tb (take n l) out f tb′ out′
+    → FeedsDisplay s tb (take n l) dp dp′ → Ends s tb dp l n out (record { state = f .state; line = 0; used = 0; at = f .n }) tb′ dp′ out′
+some-ends {s} {tb} {l} {out} dp {n} h v q = record { leaves = rw (closed-some hidden (deskOf s tb dp l n out 0) h) (feeds-answered dp n 0 v q) }
 
 -- ---- no second outcome fits
 
-pub record Same (t t₂ : Taken) (l l₂ tb tb₂ p p₂ : List ℕ) : Type 0 where
+pub record Same (t t₂ : Taken) (l l₂ tb tb₂ dp dp₂ p p₂ : List ℕ) : Type 0 where
   pub taken : t ≡ t₂
   pub line : l ≡ l₂
   pub table : tb ≡ tb₂
+  pub display : dp ≡ dp₂
   pub page : p ≡ p₂
 
 taken-parts : (t t₂ : Taken) → t .state ≡ t₂ .state → t .line ≡ t₂ .line → t .used ≡ t₂ .used → t .at ≡ t₂ .at → t ≡ t₂
 taken-parts t t₂ s l u a i = record { state = s i; line = l i; used = u i; at = a i }
 
 -- whichever of the functions left it
-pub one-leaving : {t t₂ : Taken} {l l₂ tb tb₂ page page₂ : List ℕ} {d : Desk} → Leaves t l tb page d → Leaves t₂ l₂ tb₂ page₂ d → Same t t₂ l l₂ tb tb₂ page page₂
+pub one-leaving : {t t₂ : Taken} {l l₂ tb tb₂ dp dp₂ page page₂ : List ℕ} {d : Desk} → Leaves t l tb dp page d → Leaves t₂ l₂ tb₂ dp₂ page₂ d
+    → Same t t₂ l l₂ tb tb₂ dp dp₂ page page₂
 one-leaving {t} {t₂} a b =
     record {
       taken = taken-parts t t₂ (a .struct ∙ sym (b .struct)) (a .started ∙ sym (b .started)) (a .used ∙ sym (b .used)) (a .at ∙ sym (b .at));
       line = a .line ∙ sym (b .line);
       table = a .table ∙ sym (b .table);
+      display = a .display ∙ sym (b .display);
       page = a .page ∙ sym (b .page);
     }
 
-pub one-taking : {s : Board} {tb l : List ℕ} {n : ℕ} {bs out : List ℕ} {t t₂ : Taken} {l₁ l₂ tb₁ tb₂ out₁ out₂ : List ℕ} → Takes s tb l n bs out t l₁ tb₁ out₁
-    → Takes s tb l n bs out t₂ l₂ tb₂ out₂ → Same t t₂ l₁ l₂ tb₁ tb₂ out₁ out₂
+pub one-taking : {s : Board} {tb dp l : List ℕ} {n : ℕ} {bs out : List ℕ} {t t₂ : Taken} {l₁ l₂ tb₁ tb₂ dp₁ dp₂ out₁ out₂ : List ℕ} → Takes s tb dp l n bs out t l₁ tb₁ dp₁ out₁
+    → Takes s tb dp l n bs out t₂ l₂ tb₂ dp₂ out₂ → Same t t₂ l₁ l₂ tb₁ tb₂ dp₁ dp₂ out₁ out₂
 one-taking a b = one-leaving (a .leaves) (b .leaves)
 
-pub one-ending : {s : Board} {tb l : List ℕ} {n : ℕ} {out : List ℕ} {t t₂ : Taken} {tb₁ tb₂ out₁ out₂ : List ℕ} → Ends s tb l n out t tb₁ out₁ → Ends s tb l n out t₂ tb₂ out₂
-    → Same t t₂ l l tb₁ tb₂ out₁ out₂
+pub one-ending : {s : Board} {tb dp l : List ℕ} {n : ℕ} {out : List ℕ} {t t₂ : Taken} {tb₁ tb₂ dp₁ dp₂ out₁ out₂ : List ℕ} → Ends s tb dp l n out t tb₁ dp₁ out₁
+    → Ends s tb dp l n out t₂ tb₂ dp₂ out₂ → Same t t₂ l l tb₁ tb₂ dp₁ dp₂ out₁ out₂
 one-ending a b = one-leaving (a .leaves) (b .leaves)

@@ -5,9 +5,15 @@ use unheard::Fed;
 ghost use Prim.Native.Nat.{_≤_};
 ghost use lib.ListN.{length, take};
 ghost use Rattle.board.specs.Board.{Held};
-ghost use Rattle.serving.specs.Serving.{Feeds};
+ghost use Rattle.serving.specs.Serving.{Feeds, FeedsDisplay};
 ghost use Rattle.gathering.specs.Lumps.{LINE};
 ghost use Rattle.taking.specs.Desk.{Takes, Ends};
+
+// What is told behind each line's answer: the board's channels, the wall display.
+pub struct Show {
+    pub channels: bool,
+    pub display: bool,
+}
 
 // What a call leaves beside the lent bytes: the state, how much stands of a line that has not ended, how much of the fragment
 // is used, and how much output stands.
@@ -19,11 +25,19 @@ pub struct Taken {
 }
 
 // The first n bytes of the line, fed.
-fn answer(s: Board, line: &[u8], n: usize, table: &mut [u8], out: &mut [u8; 973]) -> Fed
+fn answer(
+    s: Board,
+    line: &[u8],
+    n: usize,
+    table: &mut [u8],
+    display: &mut [u8; 18],
+    out: &mut [u8; 973],
+) -> Fed
     requires { ⌜ Held s (now table) × (n ≤ length (now line)) ⌝ }
-    ensures { λ f. ⌜ Feeds s (now (table .entry)) (take n (now (line .entry))) (now (out .entry)) f (now (table .exit)) (now (out .exit)) ⌝ }
+    ensures { λ f. ⌜ Feeds s (now (table .entry)) (take n (now (line .entry))) (now (out .entry)) f (now (table .exit)) (now (out .exit))
+        × FeedsDisplay s (now (table .entry)) (take n (now (line .entry))) (now (display .entry)) (now (display .exit)) ⌝ }
 {
-    serving::feed_sound(s, &line[..n], table, out)
+    serving::feed_sound(s, &line[..n], table, display, out)
 }
 
 // The fragment up to its first LF, or all of it. Where the line has ended it is answered.
@@ -33,10 +47,12 @@ pub fn take(
     n: usize,
     fragment: &[u8],
     table: &mut [u8],
+    display: &mut [u8; 18],
     out: &mut [u8; 973],
 ) -> Taken
     requires { ⌜ Held s (now table) × (n ≤ LINE) ⌝ }
-    ensures { λ t. ⌜ Takes s (now (table .entry)) (now (line .entry)) n (now (fragment .entry)) (now (out .entry)) t (now (line .exit)) (now (table .exit)) (now (out .exit)) ⌝ }
+    ensures { λ t. ⌜ Takes s (now (table .entry)) (now (display .entry)) (now (line .entry)) n (now (fragment .entry)) (now (out .entry))
+        t (now (line .exit)) (now (table .exit)) (now (display .exit)) (now (out .exit)) ⌝ }
 {
     let g = gathering::gather(line, n, fragment);
     let k = g.n;
@@ -49,7 +65,7 @@ pub fn take(
             at: 0,
         };
     }
-    let f = answer(s, line, k, table, out);
+    let f = answer(s, line, k, table, display, out);
     let t = f.state;
     Taken {
         state: t,
@@ -65,10 +81,12 @@ pub fn take_end(
     line: &[u8; 527],
     n: usize,
     table: &mut [u8],
+    display: &mut [u8; 18],
     out: &mut [u8; 973],
 ) -> Taken
     requires { ⌜ Held s (now table) × (n ≤ LINE) ⌝ }
-    ensures { λ t. ⌜ Ends s (now (table .entry)) (now (line .entry)) n (now (out .entry)) t (now (table .exit)) (now (out .exit)) ⌝ }
+    ensures { λ t. ⌜ Ends s (now (table .entry)) (now (display .entry)) (now (line .entry)) n (now (out .entry))
+        t (now (table .exit)) (now (display .exit)) (now (out .exit)) ⌝ }
 {
     if n == 0 {
         return Taken {
@@ -78,7 +96,7 @@ pub fn take_end(
             at: 0,
         };
     }
-    let last = answer(s, line, n, table, out);
+    let last = answer(s, line, n, table, display, out);
     let t = last.state;
     Taken {
         state: t,

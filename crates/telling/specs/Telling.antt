@@ -15,30 +15,31 @@ use lib.ListN.{length, take}
 use Rattle.admitting.specs.Admitting.{refusal}
 use Rattle.hearing.specs.Hearing.{Tells}
 
-pub record Silent (st tb out : List ℕ) (n : ℕ) (st′ tb′ out′ : List ℕ) : Type 0 where
+pub record Silent (st tb dp out : List ℕ) (n : ℕ) (st′ tb′ dp′ out′ : List ℕ) : Type 0 where
   pub count : n ≡ 0
   pub state : st′ ≡ st
   pub table : tb′ ≡ tb
+  pub display : dp′ ≡ dp
   pub bytes : out′ ≡ out
 
-pub record Says (l : List ℕ) (n : ℕ) (st tb out : List ℕ) (k : ℕ) (st′ tb′ out′ : List ℕ) : Type 0 where
-  pub tells : Tells (take n l) st tb out k st′ tb′ out′
+pub record Says (l : List ℕ) (n : ℕ) (st tb dp out : List ℕ) (k : ℕ) (st′ tb′ dp′ out′ : List ℕ) : Type 0 where
+  pub tells : Tells (take n l) st tb dp out k st′ tb′ dp′ out′
 
-abbrev pub Answers : Option (List ℕ) → List ℕ → List ℕ → List ℕ → ℕ → List ℕ → List ℕ → List ℕ → Type 0
-Answers none st tb out n st′ tb′ out′ = Silent st tb out n st′ tb′ out′
-Answers (some l) st tb out n st′ tb′ out′ = Tells l st tb out n st′ tb′ out′
+abbrev pub Answers : Option (List ℕ) → List ℕ → List ℕ → List ℕ → List ℕ → ℕ → List ℕ → List ℕ → List ℕ → List ℕ → Type 0
+Answers none st tb dp out n st′ tb′ dp′ out′ = Silent st tb dp out n st′ tb′ dp′ out′
+Answers (some l) st tb dp out n st′ tb′ dp′ out′ = Tells l st tb dp out n st′ tb′ dp′ out′
 
-pub record Still (p st tb out : List ℕ) (u n : ℕ) (p′ st′ tb′ out′ : List ℕ) : Type 0 where
+pub record Still (p st tb dp out : List ℕ) (u n : ℕ) (p′ st′ tb′ dp′ out′ : List ℕ) : Type 0 where
   pub used : u ≡ 0
   pub port : p′ ≡ p
-  pub silent : Silent st tb out n st′ tb′ out′
+  pub silent : Silent st tb dp out n st′ tb′ dp′ out′
 
-pub record Moves (o : Option (List ℕ)) (q : List ℕ) (v : ℕ) (st tb out : List ℕ) (u n : ℕ) (p′ st′ tb′ out′ : List ℕ) : Type 0 where
+pub record Moves (o : Option (List ℕ)) (q : List ℕ) (v : ℕ) (st tb dp out : List ℕ) (u n : ℕ) (p′ st′ tb′ dp′ out′ : List ℕ) : Type 0 where
   pub used : u ≡ v
   pub port : p′ ≡ q
-  pub answers : Answers o st tb out n st′ tb′ out′
+  pub answers : Answers o st tb dp out n st′ tb′ dp′ out′
 
-pub record Ported (o : Option (List ℕ)) (q : List ℕ) (v : ℕ) (p st tb out : List ℕ) (e u n : ℕ) (p′ st′ tb′ out′ : List ℕ) : Type 0 where
-  pub error : e ≡ refusal p (length out)
-  pub refused : (refusal p (length out) ≡ 0 → ⊥) → Still p st tb out u n p′ st′ tb′ out′
-  pub served : refusal p (length out) ≡ 0 → Moves o q v st tb out u n p′ st′ tb′ out′
+pub record Ported (o : Option (List ℕ)) (q : List ℕ) (v : ℕ) (p st tb dp out : List ℕ) (e u n : ℕ) (p′ st′ tb′ dp′ out′ : List ℕ) : Type 0 where
+  pub error : e ≡ refusal p (length dp) (length out)
+  pub refused : (refusal p (length dp) (length out) ≡ 0 → ⊥) → Still p st tb dp out u n p′ st′ tb′ dp′ out′
+  pub served : refusal p (length dp) (length out) ≡ 0 → Moves o q v st tb dp out u n p′ st′ tb′ dp′ out′

@@ -3,7 +3,7 @@
 -- of what is still to come, is the whole. Assumes nothing.
 use Prim.Native.Nat.{ℕ, zero, suc, _+_, _≤_}
 use mathlib.Core.Path.{_≡_, refl, ap, ap₂, sym, subst, _∙_}
-use mathlib.Core.Bool.{Bool, true, false}
+use mathlib.Core.Bool.{true, false}
 use mathlib.Core.List.{List, [], _∷_, _++_, append-assoc, append-nil}
 use native.Mathlib.Omega.{arith}
 use borrow.Author.Tests.{eqb-true, eqb-false}
@@ -13,6 +13,7 @@ use lib.Seq.{take-at, drop-drop, length-take-le}
 use Rattle.machine.specs.Lists.{if_then_else_}
 use Rattle.machine.specs.State.{State as StateM, frees, freshOn}
 use Rattle.machine.specs.Log.{Fed as FedM, lines, feed, run, log}
+use Rattle.display.specs.Display.{blank, displayedBy}
 use Rattle.machine.proofs.Tests.{if-elim, by-test, test-true, test-false}
 use Rattle.machine_laws.proofs.Sound.{parts}
 use Rattle.widening.proofs.Maps.{length-frees}
@@ -22,25 +23,27 @@ use Rattle.store.specs.Store.{tableOf}
 use Rattle.board.specs.Board.{sized, structOf, stateIn, Held}
 use Rattle.board.proofs.Laws.{held-of, stateIn-of, fresh-sane}
 use Rattle.gathering.specs.Lumps.{LINE, front, ended, used, kept, gatheredOf, Gathers}
-use Rattle.gathering.proofs.Lumps.{Stands, stands-none, stands-more, stands-feed, stands-within, front-open, used-open, lines-none, lines-last, lines-step, lines-on}
+use Rattle.gathering.proofs.Lumps.{Stands, stands-none, stands-more, stands-frame, stands-feed, stands-within, front-open, used-open, lines-none, lines-last, lines-step, lines-on}
+use Rattle.taking.specs.declared.Show.{Show}
 use Rattle.taking.specs.declared.Taken.{Taken}
-use Rattle.taking.specs.Desk.{shownOf, fed, runShown, logShown, Desk, deskOf, gathered, answered, taken, fits, takes, filled, closed, finished, Leaves}
+use Rattle.taking.specs.Desk.{hidden, shownOf, displayAfter, fed, runShown, logShown, Desk, deskOf, gathered, answered, taken, fits, takes, filled, closed, finished, Leaves}
 use Rattle.taking.proofs.Kept.{leaves-state}
 use Rattle.taking.proofs.Laws.{fed-hidden, taken-open, taken-ended, taken-used, closed-none, closed-some}
 use Rattle.paging.specs.Paging.{Fills}
 use Rattle.finishing.specs.Finishing.{Finishes}
 use Rattle.whole_log.specs.Whole.{joined, Ran, fills, used-up, finishes, writes, over}
-use Rattle.whole_log.proofs.Progress.{Good, Went, desk-good, taken-went, filled-went, finished-went, left-held, left-inside}
+use Rattle.whole_log.proofs.Progress.{Good, Went, desk-good, taken-went, filled-went, finished-went, left-held, left-shown, left-inside}
 
 -- ---- runShown
 
-run-cons : (show : Bool) (s : StateM) (l : List ℕ) (ls : List (List ℕ)) → runShown show s (l ∷ ls) ≡ fed show s l .output ++ runShown show (fed show s l .next) ls
+run-cons : (show : Show) (s : StateM) (d l : List ℕ) (ls : List (List ℕ))
+    → runShown show s d (l ∷ ls) ≡ fed show s d l .output ++ runShown show (fed show s d l .next) (displayAfter s l d) ls
 unfolding runShown
-run-cons show s l ls = refl
+run-cons show s d l ls = refl
 
-run-none : (show : Bool) (s : StateM) → runShown show s [] ≡ []
+run-none : (show : Show) (s : StateM) (d : List ℕ) → runShown show s d [] ≡ []
 unfolding runShown
-run-none show s = refl
+run-none show s d = refl
 
 none-ended : ended [] ≡ false
 unfolding ended
@@ -56,45 +59,51 @@ not-empty t h e = h (t .count ∙ ap (λ (x : List ℕ). length (take LINE x)) e
 -- ---- what is to come
 
 -- what stands on the page, then the output of the line that has begun with p and of what is left
-abbrev pub comes : Bool → Desk → List ℕ → List ℕ → List ℕ
-comes show d p rest = take (d .at) (d .page) ++ runShown show (d .state) (lines (p ++ rest))
+abbrev pub comes : Show → Desk → List ℕ → List ℕ → List ℕ
+comes show d p rest = take (d .at) (d .page) ++ runShown show (d .state) (d .display) (lines (p ++ rest))
 
 -- a line that is cut is fed as it is whole
-fed-stands : (show : Bool) (s : StateM) {l : List ℕ} {n : ℕ} {p : List ℕ} → Stands l n p → fed show s (take n l) ≡ fed show s p
-unfolding fed
-fed-stands show s t = rw (stands-feed t s)
+module _ (s : StateM) (d : List ℕ) {l : List ℕ} {n : ℕ} {p : List ℕ} (t : Stands l n p) where
+  after-stands : displayAfter s (take n l) d ≡ displayAfter s p d
+  after-stands = ap (λ o. displayedBy s o d) (stands-frame t)
+
+  fed-stands : (show : Show) → fed show s d (take n l) ≡ fed show s d p
+  unfolding fed
+  fed-stands show = ap₂ (λ (f : FedM) (x : List ℕ). record { output = f .output ++ shownOf show (f .next) x; next = f .next }) (stands-feed t s) after-stands
 
 -- an answer on the page
-answered-comes : (show : Bool) (d : Desk) (p : List ℕ) (ls : List (List ℕ)) → Good d → Stands (d .line) (d .n) p
-    → take (answered show d .at) (answered show d .page) ++ runShown show (answered show d .state) ls ≡ take (d .at) (d .page) ++ runShown show (d .state) (p ∷ ls)
+answered-comes : (show : Show) (d : Desk) (p : List ℕ) (ls : List (List ℕ)) → Good d → Stands (d .line) (d .n) p
+    → take (answered show d .at) (answered show d .page) ++ runShown show (answered show d .state) (answered show d .display) ls
+    ≡ take (d .at) (d .page) ++ runShown show (d .state) (d .display) (p ∷ ls)
 unfolding splice
 answered-comes show d p ls g t =
-    let f = fed-stands show (d .state) t in
-    let o = fed show (d .state) (take (d .n) (d .line)) .output in
+    let f = fed-stands (d .state) (d .display) t show in
+    let z = after-stands (d .state) (d .display) t in
+    let o = fed show (d .state) (d .display) (take (d .n) (d .line)) .output in
     let h = take (d .at) (d .page) in
     let e = length-take-le (d .at) (d .page) (g .inside) in
     let m : length (h ++ o) ≡ d .at + length o = length-append h o ∙ ap (λ (x : ℕ). x + length o) e in
     let a : take (answered show d .at) (answered show d .page) ≡ h ++ o =
     ap (take (d .at + length o)) (sym (append-assoc h o _)) ∙ take-at (h ++ o) _ (d .at + length o) m in
-    ap (λ (x : List ℕ). x ++ runShown show (answered show d .state) ls) a ∙ append-assoc h o _
-    ∙ ap (λ (x : List ℕ). h ++ x) (ap (λ (x : FedM). x .output ++ runShown show (x .next) ls) f ∙ sym (run-cons show (d .state) p ls))
+    ap (λ (x : List ℕ). x ++ runShown show (answered show d .state) (answered show d .display) ls) a ∙ append-assoc h o _
+    ∙ ap (λ (x : List ℕ). h ++ x) (ap₂ (λ (x : FedM) (y : List ℕ). x .output ++ runShown show (x .next) y ls) f z ∙ sym (run-cons show (d .state) (d .display) p ls))
 
 -- ---- a lump
 
 -- from the desk d, with p standing, the call went to x: what is to come is the same
-record Goes (show : Bool) (whole : List ℕ) (d : Desk) (p : List ℕ) (x : Desk) : Type 0 where
+record Goes (show : Show) (whole : List ℕ) (d : Desk) (p : List ℕ) (x : Desk) : Type 0 where
   pub begun : List ℕ
   pub stands : Stands (x .line) (x .n) begun
   pub unended : ended begun ≡ false
   pub same : (rest : List ℕ) → comes show x begun (drop (x .used) whole ++ rest) ≡ comes show d p (drop (d .used) whole ++ rest)
 
-goes-nowhere : (show : Bool) (whole : List ℕ) (d : Desk) (p : List ℕ) → Stands (d .line) (d .n) p → ended p ≡ false → Goes show whole d p d
+goes-nowhere : (show : Show) (whole : List ℕ) (d : Desk) (p : List ℕ) → Stands (d .line) (d .n) p → ended p ≡ false → Goes show whole d p d
 goes-nowhere show whole d p t o = record { begun = p; stands = t; unended = o; same = λ rest. refl }
 
-goes-on : {show : Bool} {whole : List ℕ} {d x y : Desk} {p : List ℕ} (g : Goes show whole d p x) → Goes show whole x (g .begun) y → Goes show whole d p y
+goes-on : {show : Show} {whole : List ℕ} {d x y : Desk} {p : List ℕ} (g : Goes show whole d p x) → Goes show whole x (g .begun) y → Goes show whole d p y
 goes-on g h = record { begun = h .begun; stands = h .stands; unended = h .unended; same = λ rest. h .same rest ∙ g .same rest }
 
-module _ (show : Bool) (whole : List ℕ) (d : Desk) (p bs : List ℕ) (g : Good d) (t : Stands (d .line) (d .n) p) (o : ended p ≡ false) (e : drop (d .used) whole ≡ bs) where
+module _ (show : Show) (whole : List ℕ) (d : Desk) (p bs : List ℕ) (g : Good d) (t : Stands (d .line) (d .n) p) (o : ended p ≡ false) (e : drop (d .used) whole ≡ bs) where
   more : Stands (gathered d bs .line) (gathered d bs .n) (p ++ front bs)
   more = let w : Gathers (d .line) (d .n) bs (gatheredOf (d .n) bs) (gathered d bs .line) = record { answer = refl; filled = refl } in stands-more t w
 
@@ -110,8 +119,8 @@ module _ (show : Bool) (whole : List ℕ) (d : Desk) (p bs : List ℕ) (g : Good
         begun = p ++ bs;
         stands = subst (λ (x : List ℕ). Stands (gathered d bs .line) (gathered d bs .n) (p ++ x)) (front-open bs b) more;
         unended = lines-on p bs [] o b .0;
-        same = λ rest. ap (λ (x : List ℕ). take (d .at) (d .page) ++ runShown show (d .state) (lines ((p ++ bs) ++ (x ++ rest)))) (left-over ∙ z)
-            ∙ ap (λ (x : List (List ℕ)). take (d .at) (d .page) ++ runShown show (d .state) x) (sym (lines-on p bs rest o b .1))
+        same = λ rest. ap (λ (x : List ℕ). take (d .at) (d .page) ++ runShown show (d .state) (d .display) (lines ((p ++ bs) ++ (x ++ rest)))) (left-over ∙ z)
+            ∙ ap (λ (x : List (List ℕ)). take (d .at) (d .page) ++ runShown show (d .state) (d .display) x) (sym (lines-on p bs rest o b .1))
             ∙ ap (λ (x : List ℕ). comes show d p (x ++ rest)) (sym e);
       }
 
@@ -122,8 +131,8 @@ module _ (show : Bool) (whole : List ℕ) (d : Desk) (p bs : List ℕ) (g : Good
         stands = stands-none _;
         unended = none-ended;
         same = λ rest. ap (λ (x : List ℕ). comes show (answered show (gathered d bs)) [] (x ++ rest)) left-over
-            ∙ answered-comes show (gathered d bs) (p ++ front bs) (lines (drop (used bs) bs ++ rest)) (record { fine = g .fine; within = stands-within more; inside = g .inside }) more
-            ∙ ap (λ (x : List (List ℕ)). take (d .at) (d .page) ++ runShown show (d .state) x) (sym (lines-step p bs rest o b))
+            ∙ answered-comes show (gathered d bs) (p ++ front bs) (lines (drop (used bs) bs ++ rest)) (record { fine = g .fine; within = stands-within more; inside = g .inside; shown = g .shown }) more
+            ∙ ap (λ (x : List (List ℕ)). take (d .at) (d .page) ++ runShown show (d .state) (d .display) x) (sym (lines-step p bs rest o b))
             ∙ ap (λ (x : List ℕ). comes show d p (x ++ rest)) (sym e);
       }
 
@@ -133,7 +142,7 @@ module _ (show : Bool) (whole : List ℕ) (d : Desk) (p bs : List ℕ) (g : Good
       (λ y. let b = test-true (ended bs) y in rw (taken-ended show d bs b) (ended-goes b))
       (λ y. let b = test-false (ended bs) y in rw (taken-open show d bs b) (open-goes b))
 
-takes-goes : (show : Bool) (whole : List ℕ) (k : ℕ) (d : Desk) (p bs : List ℕ) → Good d → Stands (d .line) (d .n) p → ended p ≡ false → drop (d .used) whole ≡ bs
+takes-goes : (show : Show) (whole : List ℕ) (k : ℕ) (d : Desk) (p bs : List ℕ) → Good d → Stands (d .line) (d .n) p → ended p ≡ false → drop (d .used) whole ≡ bs
     → Goes show whole d p (takes show k d bs)
 unfolding takes
 takes-goes show whole zero d p bs g t o e = goes-nowhere show whole d p t o
@@ -147,20 +156,20 @@ takes-goes show whole (suc k) d p (b ∷ bs) g t o e =
     goes-on a (takes-goes show whole k (taken show d cs) (a .begun) (drop (used cs) cs) (taken-went show d cs g f .good) (a .stands) (a .unended) u))
     (λ _. goes-nowhere show whole d p t o)
 
-filled-goes : (show : Bool) (d : Desk) (p bs : List ℕ) → d .used ≡ 0 → Good d → Stands (d .line) (d .n) p → ended p ≡ false → Goes show bs d p (filled show d bs)
+filled-goes : (show : Show) (d : Desk) (p bs : List ℕ) → d .used ≡ 0 → Good d → Stands (d .line) (d .n) p → ended p ≡ false → Goes show bs d p (filled show d bs)
 unfolding filled
 filled-goes show d p bs z g t o = takes-goes show bs (length bs) d p bs g t o (ap (λ (x : ℕ). drop x bs) z)
 
 -- ---- the end
 
 -- from the desk d, with p standing, and nothing to come, the call went to x
-record Closes (show : Bool) (d : Desk) (p : List ℕ) (x : Desk) : Type 0 where
+record Closes (show : Show) (d : Desk) (p : List ℕ) (x : Desk) : Type 0 where
   pub begun : List ℕ
   pub stands : Stands (x .line) (x .n) begun
   pub unended : ended begun ≡ false
   pub same : comes show x begun [] ≡ comes show d p []
 
-module _ (show : Bool) (d : Desk) (p : List ℕ) (g : Good d) (t : Stands (d .line) (d .n) p) (o : ended p ≡ false) where
+module _ (show : Show) (d : Desk) (p : List ℕ) (g : Good d) (t : Stands (d .line) (d .n) p) (o : ended p ≡ false) where
   closes-nowhere : Closes show d p d
   closes-nowhere = record { begun = p; stands = t; unended = o; same = refl }
 
@@ -174,9 +183,9 @@ module _ (show : Bool) (d : Desk) (p : List ℕ) (g : Good d) (t : Stands (d .li
         begun = [];
         stands = stands-none _;
         unended = none-ended;
-        same = ap (λ (x : List (List ℕ)). take (answered show d .at) (answered show d .page) ++ runShown show (answered show d .state) x) lines-none
+        same = ap (λ (x : List (List ℕ)). take (answered show d .at) (answered show d .page) ++ runShown show (answered show d .state) (answered show d .display) x) lines-none
             ∙ answered-comes show d p [] g t
-            ∙ ap (λ (x : List (List ℕ)). take (d .at) (d .page) ++ runShown show (d .state) x) (sym (ap lines (append-nil p) ∙ lines-last p o (not-empty t h)));
+            ∙ ap (λ (x : List (List ℕ)). take (d .at) (d .page) ++ runShown show (d .state) (d .display) x) (sym (ap lines (append-nil p) ∙ lines-last p o (not-empty t h)));
       }))
 
   finished-closes : Closes show d p (finished show d)
@@ -186,69 +195,74 @@ module _ (show : Bool) (d : Desk) (p : List ℕ) (g : Good d) (t : Stands (d .li
 -- ---- a run
 
 -- what a call leaves is to come as the desk says
-left-comes : (show : Bool) {t : Taken} {l tb page : List ℕ} {d x : Desk} {m : ℕ} → Went d m x → Leaves t l tb page x → (p rest : List ℕ)
-    → take (t .at) page ++ runShown show (stateIn (t .state) tb) (lines (p ++ rest)) ≡ comes show x p rest
-left-comes show v w p rest = rw (w .at, w .page, leaves-state (v .good .fine) w)
+left-comes : (show : Show) {t : Taken} {l tb dp page : List ℕ} {d x : Desk} {m : ℕ} → Went d m x → Leaves t l tb dp page x → (p rest : List ℕ)
+    → take (t .at) page ++ runShown show (stateIn (t .state) tb) dp (lines (p ++ rest)) ≡ comes show x p rest
+left-comes show v w p rest = rw (w .at, w .page, w .display, leaves-state (v .good .fine) w)
 
-left-stands : {t : Taken} {l tb page : List ℕ} {x : Desk} {p : List ℕ} → Leaves t l tb page x → Stands (x .line) (x .n) p → Stands l (t .line) p
+left-stands : {t : Taken} {l tb dp page : List ℕ} {x : Desk} {p : List ℕ} → Leaves t l tb dp page x → Stands (x .line) (x .n) p → Stands l (t .line) p
 left-stands w s = rw (w .line, w .started) s
 
-pub ran-run : {show : Bool} {s : Board} {tb l : List ℕ} {n : ℕ} {page : List ℕ} {at : ℕ} {bss : List (List ℕ)} {out : List ℕ} (p : List ℕ) → Held s tb → at ≤ length page
-    → Stands l n p → ended p ≡ false → Ran show s tb l n page at bss out → out ≡ take at page ++ runShown show (stateIn s tb) (lines (p ++ joined bss))
-ran-run p h r t o (fills {show} {s} {tb} {l} {n} {page} {at} {bs} {bss} {t = u} w k) =
-    let d = deskOf s tb l n page at in
-    let g = desk-good l h (stands-within t) r in
+pub ran-run : {show : Show} {s : Board} {tb dp l : List ℕ} {n : ℕ} {page : List ℕ} {at : ℕ} {bss : List (List ℕ)} {out : List ℕ} (p : List ℕ) → Held s tb → length dp ≡ 18
+    → at ≤ length page → Stands l n p → ended p ≡ false → Ran show s tb dp l n page at bss out
+    → out ≡ take at page ++ runShown show (stateIn s tb) dp (lines (p ++ joined bss))
+ran-run p h e r t o (fills {show} {s} {tb} {dp} {l} {n} {page} {at} {bs} {bss} {t = u} w k) =
+    let d = deskOf s tb dp l n page at in
+    let g = desk-good l h e (stands-within t) r in
     let v = filled-went show d bs g in
     let c = filled-goes show d p bs refl g t o in
-    ran-run (c .begun) (left-held v (w .leaves)) (left-inside v (w .leaves)) (left-stands (w .leaves) (c .stands)) (c .unended) k
+    ran-run (c .begun) (left-held v (w .leaves)) (left-shown v (w .leaves)) (left-inside v (w .leaves)) (left-stands (w .leaves) (c .stands)) (c .unended) k
     ∙ left-comes show v (w .leaves) (c .begun) (drop (u .used) bs ++ joined bss)
     ∙ ap (λ (x : ℕ). comes show (filled show d bs) (c .begun) (drop x bs ++ joined bss)) (w .leaves .used)
     ∙ c .same (joined bss)
-ran-run p h r t o (used-up k) = ran-run p h r t o k
-ran-run p h r t o (finishes {show} {s} {tb} {l} {n} {page} {at} w k) =
-    let d = deskOf s tb l n page at in
-    let g = desk-good l h (stands-within t) r in
+ran-run p h e r t o (used-up k) = ran-run p h e r t o k
+ran-run p h e r t o (finishes {show} {s} {tb} {dp} {l} {n} {page} {at} w k) =
+    let d = deskOf s tb dp l n page at in
+    let g = desk-good l h e (stands-within t) r in
     let v = finished-went show d g in
     let c = finished-closes show d p g t o in
-    ran-run (c .begun) (left-held v (w .leaves)) (left-inside v (w .leaves)) (left-stands (w .leaves) (c .stands)) (c .unended) k
+    ran-run (c .begun) (left-held v (w .leaves)) (left-shown v (w .leaves)) (left-inside v (w .leaves)) (left-stands (w .leaves) (c .stands)) (c .unended) k
     ∙ left-comes show v (w .leaves) (c .begun) []
     ∙ c .same
-ran-run p h r t o (writes {page = page} {at = at} k) = ap (λ (x : List ℕ). take at page ++ x) (ran-run p h (omega arith) t o k)
-ran-run p h r t o (over {show} {s} {tb} {l} e) =
-    let q = empty (rw e at t) in
-    sym (ap (λ (x : List ℕ). runShown show (stateIn s tb) (lines (x ++ []))) q ∙ ap (runShown show (stateIn s tb)) lines-none ∙ run-none show (stateIn s tb))
+ran-run p h e r t o (writes {page = page} {at = at} k) = ap (λ (x : List ℕ). take at page ++ x) (ran-run p h e (omega arith) t o k)
+ran-run p h e r t o (over {show} {s} {tb} {dp} {l} z) =
+    let q = empty (rw z at t) in
+    sym (ap (λ (x : List ℕ). runShown show (stateIn s tb) dp (lines (x ++ []))) q ∙ ap (runShown show (stateIn s tb) dp) lines-none ∙ run-none show (stateIn s tb) dp)
 
 -- ---- from the fresh device
 
 pub fresh-held : (w : ℕ) → T (sized w) → Held (structOf (freshOn w)) (tableOf (freshOn w))
 fresh-held w t = held-of (freshOn w) (parts (freshOn w) (fresh-sane w t)) (subst (λ (n : ℕ). T (sized n)) (sym (length-frees w)) t)
 
-pub whole-log-shown : (w : ℕ) → T (sized w) → {show : Bool} {l page : List ℕ} {bss : List (List ℕ)} {out : List ℕ}
-    → Ran show (structOf (freshOn w)) (tableOf (freshOn w)) l 0 page 0 bss out → out ≡ logShown show w (joined bss)
+-- the log's output, with what is shown, whatever the lumps: the last LF absent or not, no bytes, empty lines, garbage, lines of any
+-- length
+pub whole-log-shown : (w : ℕ) → T (sized w) → {show : Show} {l page : List ℕ} {bss : List (List ℕ)} {out : List ℕ}
+    → Ran show (structOf (freshOn w)) (tableOf (freshOn w)) blank l 0 page 0 bss out → out ≡ logShown show w (joined bss)
 unfolding logShown
 whole-log-shown w t {show} {l} {page} {bss} r =
-    ran-run [] (fresh-held w t) (omega arith) (stands-none l) none-ended r
-    ∙ ap (λ x. runShown show x (lines (joined bss))) (stateIn-of (freshOn w) (parts (freshOn w) (fresh-sane w t)))
+    ran-run [] (fresh-held w t) refl (omega arith) (stands-none l) none-ended r
+    ∙ ap (λ x. runShown show x blank (lines (joined bss))) (stateIn-of (freshOn w) (parts (freshOn w) (fresh-sane w t)))
 
-run-hidden : (s : StateM) (ls : List (List ℕ)) → runShown false s ls ≡ run s ls .output
+run-hidden : (s : StateM) (d : List ℕ) (ls : List (List ℕ)) → runShown hidden s d ls ≡ run s ls .output
 unfolding runShown run
-run-hidden s [] = refl
-run-hidden s (l ∷ ls) = ap (λ (f : FedM). f .output ++ runShown false (f .next) ls) (fed-hidden s l) ∙ ap (λ (x : List ℕ). feed s l .output ++ x) (run-hidden (feed s l .next) ls)
+run-hidden s d [] = refl
+run-hidden s d (l ∷ ls) =
+    ap (λ (f : FedM). f .output ++ runShown hidden (f .next) (displayAfter s l d) ls) (fed-hidden s d l)
+    ∙ ap (λ (x : List ℕ). feed s l .output ++ x) (run-hidden (feed s l .next) (displayAfter s l d) ls)
 
-pub log-hidden : (w : ℕ) (bs : List ℕ) → logShown false w bs ≡ run (freshOn w) (lines bs) .output
+pub log-hidden : (w : ℕ) (bs : List ℕ) → logShown hidden w bs ≡ run (freshOn w) (lines bs) .output
 unfolding logShown
-log-hidden w bs = run-hidden (freshOn w) (lines bs)
+log-hidden w bs = run-hidden (freshOn w) blank (lines bs)
 
 -- on four channels that is the machine's log
 four-log : (bs : List ℕ) → run (freshOn 4) (lines bs) .output ≡ log bs
 unfolding log frees
 four-log bs = refl
 
--- the log's output, whatever the lumps: the last LF absent or not, no bytes, empty lines, garbage, lines of any length
-pub whole-log : (w : ℕ) → T (sized w) → {l page : List ℕ} {bss : List (List ℕ)} {out : List ℕ} → Ran false (structOf (freshOn w)) (tableOf (freshOn w)) l 0 page 0 bss out
+-- where nothing is shown, it is the machine's
+pub whole-log : (w : ℕ) → T (sized w) → {l page : List ℕ} {bss : List (List ℕ)} {out : List ℕ} → Ran hidden (structOf (freshOn w)) (tableOf (freshOn w)) blank l 0 page 0 bss out
     → out ≡ run (freshOn w) (lines (joined bss)) .output
 whole-log w t {bss = bss} r = whole-log-shown w t r ∙ log-hidden w (joined bss)
 
-pub whole-log-on-four : {l page : List ℕ} {bss : List (List ℕ)} {out : List ℕ} → Ran false (structOf (freshOn 4)) (tableOf (freshOn 4)) l 0 page 0 bss out
+pub whole-log-on-four : {l page : List ℕ} {bss : List (List ℕ)} {out : List ℕ} → Ran hidden (structOf (freshOn 4)) (tableOf (freshOn 4)) blank l 0 page 0 bss out
     → out ≡ log (joined bss)
 whole-log-on-four {bss = bss} r = whole-log 4 tt r ∙ four-log (joined bss)

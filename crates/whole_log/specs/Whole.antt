@@ -2,9 +2,9 @@
 -- Assumes nothing.
 --
 --   joined bss                   the bytes of lumps, one behind the other
---   Ran show s tb l n page at bss out   from the struct s and the table tb, with n bytes of a line standing in l and `at` bytes on
---                                the page, the lumps bss come to the output out. Of the code only its promises are used: `Fills` of
---                                `fill`, `Finishes` of `finish`.
+--   Ran show s tb dp l n page at bss out   from the struct s, the table tb and the display dp, with n bytes of a line standing in l and
+--                                `at` bytes on the page, the lumps bss come to the output out. Of the code only its promises are used:
+--                                `Fills` of `fill`, `Finishes` of `finish`.
 --     fills                      a call takes the next lump, or a part of it: what it does not use is next
 --     used-up                    a lump is used up, or had no bytes
 --     finishes                   the input has ended, and a call answers what stands of a line
@@ -12,10 +12,10 @@
 --     over                       the input has ended, and nothing stands of a line or on the page
 use Prim.Native.Nat.{ℕ}
 use mathlib.Core.Path.{_≡_}
-use mathlib.Core.Bool.{Bool}
 use mathlib.Core.List.{List, [], _∷_, _++_}
 use lib.ListN.{take, drop}
 use Rattle.board.specs.declared.Board.{Board}
+use Rattle.taking.specs.declared.Show.{Show}
 use Rattle.taking.specs.declared.Taken.{Taken}
 use Rattle.paging.specs.Paging.{Fills}
 use Rattle.finishing.specs.Finishing.{Finishes}
@@ -24,14 +24,14 @@ abbrev pub joined : List (List ℕ) → List ℕ
 joined [] = []
 joined (bs ∷ bss) = bs ++ joined bss
 
-pub data Ran : Bool → Board → List ℕ → List ℕ → ℕ → List ℕ → ℕ → List (List ℕ) → List ℕ → Type 0 where
-  fills : {show : Bool} {s : Board} {tb l : List ℕ} {n : ℕ} {page : List ℕ} {at : ℕ} {bs : List ℕ} {bss : List (List ℕ)} {out : List ℕ} {t : Taken} {l′ tb′ page′ : List ℕ}
-      → Fills show s tb l n bs page at t l′ tb′ page′ → Ran show (t .state) tb′ l′ (t .line) page′ (t .at) (drop (t .used) bs ∷ bss) out
-      → Ran show s tb l n page at (bs ∷ bss) out
-  used-up : {show : Bool} {s : Board} {tb l : List ℕ} {n : ℕ} {page : List ℕ} {at : ℕ} {bss : List (List ℕ)} {out : List ℕ}
-      → Ran show s tb l n page at bss out → Ran show s tb l n page at ([] ∷ bss) out
-  finishes : {show : Bool} {s : Board} {tb l : List ℕ} {n : ℕ} {page : List ℕ} {at : ℕ} {out : List ℕ} {t : Taken} {tb′ page′ : List ℕ}
-      → Finishes show s tb l n page at t tb′ page′ → Ran show (t .state) tb′ l (t .line) page′ (t .at) [] out → Ran show s tb l n page at [] out
-  writes : {show : Bool} {s : Board} {tb l : List ℕ} {n : ℕ} {page : List ℕ} {at : ℕ} {bss : List (List ℕ)} {out : List ℕ}
-      → Ran show s tb l n page 0 bss out → Ran show s tb l n page at bss (take at page ++ out)
-  over : {show : Bool} {s : Board} {tb l : List ℕ} {n : ℕ} {page : List ℕ} → n ≡ 0 → Ran show s tb l n page 0 [] []
+pub data Ran : Show → Board → List ℕ → List ℕ → List ℕ → ℕ → List ℕ → ℕ → List (List ℕ) → List ℕ → Type 0 where
+  fills : {show : Show} {s : Board} {tb dp l : List ℕ} {n : ℕ} {page : List ℕ} {at : ℕ} {bs : List ℕ} {bss : List (List ℕ)} {out : List ℕ} {t : Taken} {l′ tb′ dp′ page′ : List ℕ}
+      → Fills show s tb dp l n bs page at t l′ tb′ dp′ page′ → Ran show (t .state) tb′ dp′ l′ (t .line) page′ (t .at) (drop (t .used) bs ∷ bss) out
+      → Ran show s tb dp l n page at (bs ∷ bss) out
+  used-up : {show : Show} {s : Board} {tb dp l : List ℕ} {n : ℕ} {page : List ℕ} {at : ℕ} {bss : List (List ℕ)} {out : List ℕ}
+      → Ran show s tb dp l n page at bss out → Ran show s tb dp l n page at ([] ∷ bss) out
+  finishes : {show : Show} {s : Board} {tb dp l : List ℕ} {n : ℕ} {page : List ℕ} {at : ℕ} {out : List ℕ} {t : Taken} {tb′ dp′ page′ : List ℕ}
+      → Finishes show s tb dp l n page at t tb′ dp′ page′ → Ran show (t .state) tb′ dp′ l (t .line) page′ (t .at) [] out → Ran show s tb dp l n page at [] out
+  writes : {show : Show} {s : Board} {tb dp l : List ℕ} {n : ℕ} {page : List ℕ} {at : ℕ} {bss : List (List ℕ)} {out : List ℕ}
+      → Ran show s tb dp l n page 0 bss out → Ran show s tb dp l n page at bss (take at page ++ out)
+  over : {show : Show} {s : Board} {tb dp l : List ℕ} {n : ℕ} {page : List ℕ} → n ≡ 0 → Ran show s tb dp l n page 0 [] []

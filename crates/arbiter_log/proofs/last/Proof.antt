@@ -13,7 +13,7 @@ finish-requires c κs = search needs
 write-requires : tie.Need-write-requires
 write-requires c κs =
     let f = c .before .before .before .before .before in
-    finish-inside (f .before .before .before .before .before .before .before .before .pre) (f .finish .ensures)
+    finish-inside (f .before .before .before .before .before .before .before .before .before .pre) (f .finish .ensures)
 
 same-length : tie.Need-same-length
 same-length c = search needs

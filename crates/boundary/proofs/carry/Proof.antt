@@ -11,22 +11,22 @@ use Rattle.boundary.proofs.carry.Tie as tie
 load-requires : tie.Need-load-requires
 load-requires c κs = search needs
 
-call-requires : tie.Need-call-requires
-call-requires c κs = search needs
+show-requires : tie.Need-show-requires
+show-requires c κs = search needs
 
 save-requires : tie.Need-save-requires
-save-requires c κs = whole-long _ (c .before .before .before .before .before .before .before .before .before .before .before .before .before .before .before .before .before .pre .0)
+save-requires c κs = whole-long _ (c .before .before .before .before .before .before .before .before .before .before .before .before .before .before .before .before .before .before .before .before .before .pre .0)
 
 put-answer-requires : tie.Need-put-answer-requires
 put-answer-requires c κs =
-    let k = c .before .before .before .before .before .before .before .before .before .before .before in
-    let f = few-each-half (k .call .ensures) in
-    (k .before .before .before .before .before .before .before .before .before .before .pre .1, omega arith, omega arith)
+    let k = c .before .before .before .before .before .before .before .before .before .before .before .before .before in
+    let f = few-each-half (k .show .ensures .0) in
+    (k .before .before .before .before .before .before .before .before .before .before .before .before .pre .1, omega arith, omega arith)
 
 add-result : tie.Need-add-result
 add-result c =
-    let k = c .before .before .before .before .before .before .before .before .before .before .before .before .before .before .before in
-    let f = few-each-half (k .call .ensures) in
+    let k = c .before .before .before .before .before .before .before .before .before .before .before .before .before .before .before .before .before in
+    let f = few-each-half (k .show .ensures .0) in
     omega arith
 
 same-length : tie.Need-same-length
@@ -41,15 +41,19 @@ same-length-3 c = search needs
 same-length-4 : tie.Need-same-length-4
 same-length-4 c = search needs
 
+same-length-5 : tie.Need-same-length-5
+same-length-5 c = search needs
+
 returns : tie.Need-returns
 returns c =
     let p = c .before .before .before in
     let v = p .before .before .before .before in
-    let k = v .before .before .before .before .before .before .before .before in
-    let l = k .before .before .before in
+    let k = v .before .before .before .before .before .before .before .before .before .before in
+    let l = k .before .before .before .before in
     record {
-      outcome = k .call .result;
-      called = rw (l .load .ensures) at (k .call .ensures);
+      outcome = k .show .result;
+      called = rw (l .load .ensures) at (k .show .ensures .0);
+      shown = rw (l .load .ensures) at (k .show .ensures .1);
       count = omega arith;
       state = v .save .ensures;
       answer = p .put-answer .ensures;
@@ -60,7 +64,7 @@ carry-spec =
     tie.close
     (tie.spec
     load-requires
-    call-requires
+    show-requires
     save-requires
     put-answer-requires
     add-result
@@ -68,4 +72,5 @@ carry-spec =
     same-length-2
     same-length-3
     same-length-4
+    same-length-5
     returns)

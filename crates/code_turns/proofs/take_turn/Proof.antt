@@ -20,14 +20,16 @@ same-length-2 c = search needs
 returns : tie.Need-returns
 returns c =
     let a = c .before .before .before .before in
-    let r = a .before .before .before in
-    let b = r .before .before .before .shared-slice-known in
-    record {
-      called = a .call .ensures;
-      prec = r .ranges .ensures .0;
-      key = r .ranges .ensures .1;
-      count = bytes-counted _ _ (λ i. b .given i .fits);
-    }
+    let r = a .before .before .before .before in
+    let b = r .before .before .before .shared-slice-known in (
+      record {
+        called = a .call .ensures .0;
+        prec = r .ranges .ensures .0;
+        key = r .ranges .ensures .1;
+        count = bytes-counted _ _ (λ i. b .given i .fits);
+      },
+      a .call .ensures .1,
+    )
 
 pub take-turn-spec : {M : Type 1} → statement M
 take-turn-spec =

@@ -1,6 +1,6 @@
 -- `decided` meets its contract: refused, or performed and then settled but for an OPEN answered -11. Assumes nothing.
 use mathlib.Core.Path.{sym, _∙_}
-use Rattle.deciding.proofs.Laws.{refused-told, zero-allowed, resting-told, settle-ready, settled-told}
+use Rattle.deciding.proofs.Laws.{refused-told, zero-allowed, resting-told, settle-ready, settled-told, refused-looks, resting-looks, settled-looks}
 use borrow.Author.Needs.{needs}
 use Rattle.deciding.proofs.decided.Statement.{statement}
 use Rattle.deciding.proofs.decided.Tie as tie
@@ -15,7 +15,8 @@ returns : tie.Need-returns
 returns c =
     let f = c .before .before in
     let t = f .before .before in
-    refused-told (t .before .before .before .before .pre) (t .if1 .taken) (f .refuse .ensures)
+    let p = t .before .before .before .before .pre in
+    (refused-told p (t .if1 .taken) (f .refuse .ensures), refused-looks p (t .if1 .taken))
 
 perform-requires : tie.Need-perform-requires
 perform-requires c κs = let e = c .before .before in zero-allowed (e .before .before .before .before .pre) (e .if1 .left)
@@ -34,7 +35,9 @@ returns-2 c =
     let p = c .before .before .before .before .before .before .before in
     let e = p .before .before .before in
     let s = e .before .before .before .before in
-    resting-told (zero-allowed (s .pre) (e .if1 .left)) (p .perform .ensures) (e .if1 .left) (sym (c .before .rests .ensures) ∙ c .if2 .taken)
+    let a = zero-allowed (s .pre) (e .if1 .left) in
+    let q = sym (c .before .rests .ensures) ∙ c .if2 .taken in
+    (resting-told a (p .perform .ensures) (e .if1 .left) q, resting-looks a (p .perform .ensures) (e .if1 .left) q)
 
 settle-requires : tie.Need-settle-requires
 settle-requires c κs =
@@ -57,7 +60,11 @@ returns-3 c =
     let p = u .before .before .before .before .before .before .before in
     let e = p .before .before .before in
     let s = e .before .before .before .before in
-    settled-told (zero-allowed (s .pre) (e .if1 .left)) (p .perform .ensures) (sym (u .before .rests .ensures) ∙ u .if2 .left) (s .pre .range) (s .pre .bytes) (w .settle .ensures) (e .if1 .left)
+    let a = zero-allowed (s .pre) (e .if1 .left) in
+    let q = sym (u .before .rests .ensures) ∙ u .if2 .left in (
+      settled-told a (p .perform .ensures) q (s .pre .range) (s .pre .bytes) (w .settle .ensures .did) (e .if1 .left),
+      settled-looks a (p .perform .ensures) (s .pre .range) (s .pre .bytes) _ (e .if1 .left) q (w .settle .ensures .looks),
+    )
 
 pub decided-spec : {M : Type 1} → statement M
 decided-spec =

@@ -1,7 +1,7 @@
 -- `finish` meets its contract: without room nothing is done, and with it what `take_end` answered is put on the page. Assumes nothing.
 use mathlib.Core.Path.{refl, sym, _∙_}
 use borrow.Author.Tests.{not-true, not-false, leb-true}
-use Rattle.finishing.proofs.Laws.{end-few, end-size, end-eight, end-put, full-stays}
+use Rattle.finishing.proofs.Laws.{end-few, end-size, end-held, end-put, full-stays}
 use borrow.Author.Needs.{needs}
 use Rattle.finishing.proofs.finish.Statement.{statement}
 use Rattle.finishing.proofs.finish.Tie as tie
@@ -22,25 +22,25 @@ returns c =
     let r = c .before in
     let start = r .before .before .before .before in
     let a = start .args in
-    full-stays (a .show) (start .pre .0) (a .line .now) (a .n) (a .page .now) (a .at) (sym (r .room .ensures) ∙ not-true (r .room .result) (c .if1 .taken))
+    full-stays (a .show) (start .pre .0) (a .display .now) (a .line .now) (a .n) (a .page .now) (a .at) (sym (r .room .ensures) ∙ not-true (r .room .result) (c .if1 .taken))
 
 take-end-requires : tie.Need-take-end-requires
 take-end-requires c κs = search needs
 
 slice-aggregate-put : tie.Need-slice-aggregate-put
 slice-aggregate-put c =
-    let t = c .before .before .before in
-    let r = t .before .before .before .before in
+    let t = c .before .before .before .before .before in
+    let r = t .before .before .before .before .before in
     end-size (t .take-end .ensures) (r .before .before .before .before .pre .0) refl
 
 put-requires : tie.Need-put-requires
 put-requires c κs =
-    let t = c .before .before .before .before in
-    let some = t .before .before .before in
+    let t = c .before .before .before .before .before .before in
+    let some = t .before .before .before .before in
     let r = some .before in
     let held = r .before .before .before .before .pre .0 in
     let fits = sym (r .room .ensures) ∙ not-false (r .room .result) (some .if1 .left) in
-    (end-few (t .take-end .ensures) held, sym (end-size (t .take-end .ensures) held refl), end-eight (t .take-end .ensures) held, leb-true _ _ fits)
+    (end-few (t .take-end .ensures) held, sym (end-size (t .take-end .ensures) held refl), end-held (t .take-end .ensures) held, leb-true _ _ fits)
 
 same-length-2 : tie.Need-same-length-2
 same-length-2 c = search needs
@@ -51,10 +51,10 @@ same-length-3 c = search needs
 returns-2 : tie.Need-returns-2
 returns-2 c =
     let p = c .before .before in
-    let t = p .before .before .before .before .before in
-    let some = t .before .before .before in
+    let t = p .before .before .before .before .before .before .before in
+    let some = t .before .before .before .before in
     let r = some .before in
-    end-put (t .take-end .ensures) (sym (r .room .ensures) ∙ not-false (r .room .result) (some .if1 .left)) (p .put .ensures)
+    end-put (t .take-end .ensures) (r .before .before .before .before .pre .0) (sym (r .room .ensures) ∙ not-false (r .room .result) (some .if1 .left)) (p .put .ensures)
 
 pub finish-spec : {M : Type 1} → statement M
 finish-spec =

@@ -23,15 +23,15 @@ returns : tie.Need-returns
 returns c = is-refused (c .before .refusal .ensures) (c .if1 .taken) (omega arith) (omega arith) (omega arith)
 
 -- the test passed: a port, and room
-lent : (c : tie.Else1) → Proper (c .before .before .before .before .before .before .before .before .args .port .now) × (ROOM ≤ length (c .before .before .before .before .before .before .before .before .args .out .now))
-lent c = allowed _ _ (sym (c .before .refusal .ensures) ∙ c .if1 .left)
+lent : (c : tie.Else1) → Proper (c .before .before .before .before .before .before .before .before .before .args .port .now) × (length (c .before .before .before .before .before .before .before .before .before .args .display .now) ≡ 18) × (ROOM ≤ length (c .before .before .before .before .before .before .before .before .before .args .out .now))
+lent c = allowed _ _ _ (sym (c .before .refusal .ensures) ∙ c .if1 .left)
 
 -- what is gathered is no more than a line
 within : (c : tie.After-struct-known) → c .before .gather .result .n ≤ LINE
 within c =
     let l = c .before .before .before in
     let s = l .before .before in
-    let a = s .before .before .before .before .before .before .before .before .before .before .args in
+    let a = s .before .before .before .before .before .before .before .before .before .before .before .args in
     gathered-within (a .port .now) (a .fragment .now) (l .line-in .ensures) (s .started .ensures) (c .before .gather .ensures) (lent (s .before .before) .0 .few)
 
 -- and the line keeps its length
@@ -39,7 +39,7 @@ as-long : (c : tie.After-struct-known) → length (c .before .gather .last .0) �
 as-long c =
     let l = c .before .before .before in
     let s = l .before .before in
-    let a = s .before .before .before .before .before .before .before .before .before .before .args in
+    let a = s .before .before .before .before .before .before .before .before .before .before .before .args in
     gathered-length (a .port .now) (a .fragment .now) (l .line-in .ensures) (s .started .ensures) (c .before .gather .ensures) (lent (s .before .before) .0)
 
 started-requires : tie.Need-started-requires
@@ -64,7 +64,7 @@ returns-2 c =
     let l = g .before .before in
     let s = l .before .before in
     let e = s .before .before in
-    let a = e .before .before .before .before .before .before .before .before .args in
+    let a = e .before .before .before .before .before .before .before .before .before .args in
     let n = not-true _ (k .before .before .before .if2 .taken) in
     let u = gathered-used (a .port .now) (a .fragment .now) (l .line-in .ensures) (s .started .ensures) (g .gather .ensures) in
     let v = open-used (a .port .now) (a .fragment .now) (l .line-in .ensures) (s .started .ensures) (g .gather .ensures) n in
@@ -79,7 +79,11 @@ slice-aggregate-answer : tie.Need-slice-aggregate-answer
 slice-aggregate-answer c = sym (as-long (c .before .before .before .before .before .before .before))
 
 answer-requires : tie.Need-answer-requires
-answer-requires c κs = let k = within (c .before .before .before .before .before .before .before .before .before .before) in let l = as-long (c .before .before .before .before .before .before .before .before .before .before) in (omega arith, lent (c .before .before .before .before .before .before .before .before .before .before .before .before .before .before .before .before .before) .1)
+answer-requires c κs =
+    let k = within (c .before .before .before .before .before .before .before .before .before .before .before) in
+    let l = as-long (c .before .before .before .before .before .before .before .before .before .before .before) in
+    let p = lent (c .before .before .before .before .before .before .before .before .before .before .before .before .before .before .before .before .before .before) in
+    (omega arith, p .1, p .2)
 
 same-length-3 : tie.Need-same-length-3
 same-length-3 c = search needs
@@ -93,15 +97,18 @@ same-length-5 c = search needs
 same-length-6 : tie.Need-same-length-6
 same-length-6 c = search needs
 
+same-length-7 : tie.Need-same-length-7
+same-length-7 c = search needs
+
 returns-3 : tie.Need-returns-3
 returns-3 c =
-    let t = c .before .before .before .before .before .before in
-    let k = t .before .before .before .before .before .before .before in
+    let t = c .before .before .before .before .before .before .before .before in
+    let k = t .before .before .before .before .before .before .before .before in
     let g = k .before .before .before .before .before in
     let l = g .before .before in
     let s = l .before .before in
     let e = s .before .before in
-    let a = e .before .before .before .before .before .before .before .before .args in
+    let a = e .before .before .before .before .before .before .before .before .before .args in
     let u = gathered-used (a .port .now) (a .fragment .now) (l .line-in .ensures) (s .started .ensures) (g .gather .ensures) in
     let m = within (k .before .before .before .before) in
     is-served (e .before .refusal .ensures) (e .if1 .left) (omega arith)
@@ -127,4 +134,5 @@ feed-spec =
     same-length-4
     same-length-5
     same-length-6
+    same-length-7
     returns-3)

@@ -40,7 +40,7 @@ feed-requires : tie.Need-feed-requires
 feed-requires c κs = search needs
 
 save-requires : tie.Need-save-requires
-save-requires c κs = whole-long _ (whole-so (c .before .before .before .before .before .before .before .before .before))
+save-requires c κs = whole-long _ (whole-so (c .before .before .before .before .before .before .before .before .before .before))
 
 same-length-2 : tie.Need-same-length-2
 same-length-2 c = search needs
@@ -52,7 +52,7 @@ returns-2 : tie.Need-returns-2
 returns-2 c =
     let v = c .before .before in
     let f = v .before .before .before .before .before in
-    let l = f .before .before .before in
+    let l = f .before .before .before .before in
     read-tells (whole-so (l .before .before)) (v .save .ensures) (omega arith) (rw (l .load .ensures) at (f .feed .ensures))
 
 pub hear-spec : {M : Type 1} → statement M

@@ -1,6 +1,6 @@
 -- `feed_end` meets its contract: what stands is answered, and nothing where nothing stands. Assumes nothing.
 use Prim.Native.Nat.{_≤_}
-use mathlib.Core.Path.{refl, ap, sym, _∙_}
+use mathlib.Core.Path.{_≡_, refl, ap, sym, _∙_}
 use native.Mathlib.Omega.{arith}
 use lib.ListN.{length, length-drop}
 use Rattle.sizes.specs.Sizes.{ROOM}
@@ -21,8 +21,8 @@ returns : tie.Need-returns
 returns c = is-refused (c .before .refusal .ensures) (c .if1 .taken) (omega arith) refl (omega arith)
 
 -- the test passed: a port, and room
-lent : (c : tie.Else1) → Proper (c .before .before .before .before .before .before .before .args .port .now) × (ROOM ≤ length (c .before .before .before .before .before .before .before .args .out .now))
-lent c = allowed _ _ (sym (c .before .refusal .ensures) ∙ c .if1 .left)
+lent : (c : tie.Else1) → Proper (c .before .before .before .before .before .before .before .before .args .port .now) × (length (c .before .before .before .before .before .before .before .before .args .display .now) ≡ 18) × (ROOM ≤ length (c .before .before .before .before .before .before .before .before .args .out .now))
+lent c = allowed _ _ _ (sym (c .before .refusal .ensures) ∙ c .if1 .left)
 
 started-requires : tie.Need-started-requires
 started-requires c κs = lent (c .before) .0 .long
@@ -47,14 +47,14 @@ slice-aggregate-answer c = search needs
 
 answer-requires : tie.Need-answer-requires
 answer-requires c κs =
-    let l = c .before .before .before .before .before .before .before .before .before .line-in .ensures in
-    let s = c .before .before .before .before .before .before .before .before .before .before .before .before in
+    let l = c .before .before .before .before .before .before .before .before .before .before .line-in .ensures in
+    let s = c .before .before .before .before .before .before .before .before .before .before .before .before .before in
     let t = s .started .ensures in
     let p = lent (s .before .before) in
     let f = p .0 .few in
-    let d = ap length l ∙ length-drop 2 (s .before .before .before .before .before .before .before .before .before .args .port .now) in
+    let d = ap length l ∙ length-drop 2 (s .before .before .before .before .before .before .before .before .before .before .args .port .now) in
     let e = p .0 .long in
-    (omega arith, p .1)
+    (omega arith, p .1, p .2)
 
 same-length-3 : tie.Need-same-length-3
 same-length-3 c = search needs
@@ -68,15 +68,18 @@ same-length-5 c = search needs
 same-length-6 : tie.Need-same-length-6
 same-length-6 c = search needs
 
+same-length-7 : tie.Need-same-length-7
+same-length-7 c = search needs
+
 returns-3 : tie.Need-returns-3
 returns-3 c =
-    let t = c .before .before .before .before .before .before in
-    let k = t .before .before .before .before .before .before .before in
+    let t = c .before .before .before .before .before .before .before .before in
+    let k = t .before .before .before .before .before .before .before .before in
     let l = k .before .before .before in
     let n = l .before .before in
     let s = n .before in
     let e = s .before .before in
-    let a = e .before .before .before .before .before .before .before .args in
+    let a = e .before .before .before .before .before .before .before .before .args in
     let v = s .started .ensures in
     let f = lent e .0 .few in
     is-served (e .before .refusal .ensures) (e .if1 .left) (omega arith)
@@ -100,4 +103,5 @@ feed-end-spec =
     same-length-4
     same-length-5
     same-length-6
+    same-length-7
     returns-3)

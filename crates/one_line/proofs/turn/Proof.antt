@@ -1,6 +1,6 @@
 -- `turn` meets its contract: what `take` answered in memory of its own is put on the page. Assumes nothing.
 use mathlib.Core.Path.{refl, sym}
-use Rattle.one_line.proofs.Laws.{take-few, take-size, take-eight, take-put}
+use Rattle.one_line.proofs.Laws.{take-few, take-size, take-held, take-put}
 use borrow.Author.Needs.{needs}
 use Rattle.one_line.proofs.turn.Statement.{statement}
 use Rattle.one_line.proofs.turn.Tie as tie
@@ -14,14 +14,14 @@ take-requires c κs = search needs
 
 slice-aggregate-put : tie.Need-slice-aggregate-put
 slice-aggregate-put c =
-    let t = c .before .before .before in
-    take-size (t .take .ensures) (t .before .before .before .before .before .before .before .pre .0) refl
+    let t = c .before .before .before .before .before in
+    take-size (t .take .ensures) (t .before .before .before .before .before .before .before .before .pre .0) refl
 
 put-requires : tie.Need-put-requires
 put-requires c κs =
-    let t = c .before .before .before .before in
-    let p = t .before .before .before .before .before .before .before .pre in
-    (take-few (t .take .ensures) (p .0), sym (take-size (t .take .ensures) (p .0) refl), take-eight (t .take .ensures) (p .0), p .2)
+    let t = c .before .before .before .before .before .before in
+    let p = t .before .before .before .before .before .before .before .before .pre in
+    (take-few (t .take .ensures) (p .0), sym (take-size (t .take .ensures) (p .0) refl), take-held (t .take .ensures) (p .0), p .2)
 
 same-length : tie.Need-same-length
 same-length c = search needs
@@ -32,7 +32,8 @@ same-length-2 c = search needs
 returns : tie.Need-returns
 returns c =
     let p = c .before .before in
-    take-put (p .before .before .before .before .before .take .ensures) (p .put .ensures)
+    let t = p .before .before .before .before .before .before .before in
+    take-put (t .take .ensures) (t .before .before .before .before .before .before .before .before .pre .0) (p .put .ensures)
 
 pub turn-spec : {M : Type 1} → statement M
 turn-spec =

@@ -16,11 +16,11 @@ use Rattle.one_line.proofs.room.Reads as room-reads
 use Rattle.one_line.proofs.turn.Reads as turn-reads
 
 abbrev Inv-loop : tie.InvT-loop
-Inv-loop show line₀ started input table₀ page₀ stands s₀ n₀ at₀ from₀ line table page s n at from =
-    Filling show (deskOf s₀ table₀ line₀ n₀ page₀ at₀) input s table line n page at from × (length table ≡ length table₀) × (length page ≡ length page₀)
+Inv-loop show line₀ started input table₀ display₀ page₀ stands s₀ n₀ at₀ from₀ line table display page s n at from =
+    Filling show (deskOf s₀ table₀ display₀ line₀ n₀ page₀ at₀) input s table display line n page at from × (length table ≡ length table₀) × (length page ≡ length page₀)
 
 abbrev μ-loop : tie.MeasureT-loop
-μ-loop show line₀ started input table₀ page₀ stands s₀ n₀ at₀ from₀ line table page s n at from = length input - from
+μ-loop show line₀ started input table₀ display₀ page₀ stands s₀ n₀ at₀ from₀ line table display page s n at from = length input - from
 
 loop-holds : tie.Need-loop-holds Inv-loop μ-loop
 loop-holds c = let p = c .before .before .before .pre in (filling-start (p .0) (p .1), refl, refl)
@@ -50,7 +50,7 @@ part-turn-end c = search needs
 
 turn-requires : tie.Need-turn-requires Inv-loop μ-loop
 turn-requires c κs =
-    let some = c .before .before .before .before in
+    let some = c .before .before .before .before .before in
     let r = some .before in
     let i = r .before .before .before .loop .inv .0 in
     (i .held, i .within, leb-true _ _ (sym (r .room .ensures) ∙ not-false (r .room .result) (some .if1 .left)))
@@ -58,7 +58,7 @@ turn-requires c κs =
 add-from : tie.Need-add-from Inv-loop μ-loop
 add-from c =
     let t = c .before .before .before .before .before .before in
-    let test = t .before .before .before .before .before .before .before .before in
+    let test = t .before .before .before .before .before .before .before .before .before in
     let start = test .before .before .before .before .before in
     let w = filling-on (test .before .loop .inv .0) (test .loop-test .taken) (t .turn .ensures) .0 in
     let z = start .good .1 .1 .1 .1 .0 .0 in
@@ -67,7 +67,7 @@ add-from c =
 loop-less : tie.Need-loop-less Inv-loop μ-loop
 loop-less c =
     let t = c .before .before .before .before .before .before in
-    let test = t .before .before .before .before .before .before .before .before in
+    let test = t .before .before .before .before .before .before .before .before .before in
     let w = filling-on (test .before .loop .inv .0) (test .loop-test .taken) (t .turn .ensures) in
     let a = w .0 in
     let b = w .1 in
@@ -76,14 +76,14 @@ loop-less c =
 loop-again : tie.Need-loop-again Inv-loop μ-loop
 loop-again c =
     let t = c .before .before .before .before .before .before in
-    let some = t .before .before .before .before .before in
+    let some = t .before .before .before .before .before .before in
     let r = some .before in
     let test = r .before .before in
     let i = test .before .loop .inv in
     let k = t .turn .kept in (
       filling-step (i .0) (test .loop-test .taken) (t .turn .ensures) (sym (r .room .ensures) ∙ not-false (r .room .result) (some .if1 .left)),
       k .1 .1 .1 .1 .1 .0 ∙ i .1,
-      k .1 .1 .1 .1 .1 .1 .0 ∙ i .2,
+      k .1 .1 .1 .1 .1 .1 .1 .0 ∙ i .2,
     )
 
 same-length-3 : tie.Need-same-length-3 Inv-loop μ-loop

@@ -19,19 +19,22 @@ sized-requires : tie.Need-sized-requires
 sized-requires c κs = search needs
 
 returns : tie.Need-returns
-returns c = not-begun (λ h. no-T (sym (c .before .sized .ensures) ∙ not-true _ (c .if1 .taken)) (h .0))
+returns c = not-begun (λ h. no-T (sym (c .before .sized .ensures) ∙ not-true _ (c .if1 .taken)) (h .board))
 
 returns-2 : tie.Need-returns-2
 returns-2 c =
-    let s = c .before .before .before .before .before in
-    let n : length (s .args .state .now) ≡ 823 → ⊥ = c .if2 .taken in
-    not-begun (λ h. n (h .1))
+    let n : length (c .before .before .before .before .before .before .args .state .now) ≡ 823 → ⊥ = c .if2 .taken in
+    not-begun (λ h. n (h .state))
 
 returns-3 : tie.Need-returns-3
 returns-3 c =
-    let s = c .before .before .before .before .before .before in
-    let n : length (s .args .table .now) ≡ 1472 → ⊥ = c .if3 .taken in
-    not-begun (λ h. n (h .2))
+    let n : length (c .before .before .before .before .before .before .before .args .table .now) ≡ 1472 → ⊥ = c .if3 .taken in
+    not-begun (λ h. n (h .table))
+
+returns-4 : tie.Need-returns-4
+returns-4 c =
+    let n : length (c .before .before .before .before .before .before .before .before .args .display .now) ≡ 18 → ⊥ = c .if4 .taken in
+    not-begun (λ h. n (h .display))
 
 fresh-requires : tie.Need-fresh-requires
 fresh-requires c κs = search needs
@@ -42,20 +45,37 @@ save-requires c κs = search needs
 clear-requires : tie.Need-clear-requires
 clear-requires c κs = search needs
 
+clear-requires-2 : tie.Need-clear-requires-2
+clear-requires-2 c κs = search needs
+
 same-length : tie.Need-same-length
 same-length c = search needs
 
 same-length-2 : tie.Need-same-length-2
 same-length-2 c = search needs
 
-returns-4 : tie.Need-returns-4
-returns-4 c =
-    let k = c .before .before in
+same-length-3 : tie.Need-same-length-3
+same-length-3 c = search needs
+
+returns-5 : tie.Need-returns-5
+returns-5 c =
+    let d = c .before .before in
+    let k = d .before .before .before .before in
     let v = k .before .before .before .before in
     let f = v .before .before in
-    let e = f .before in
-    let d = e .before in
-    begun (yes-T _ (sym (d .before .before .sized .ensures) ∙ not-false _ (d .before .if1 .left))) (d .if2 .left) (e .if3 .left) (f .fresh .ensures) (v .save .ensures) (k .clear .ensures)
+    let g = f .before in
+    let t = g .before .before .before in
+    begun
+    (record {
+      board = yes-T _ (sym (t .before .sized .ensures) ∙ not-false _ (t .if1 .left));
+      state = g .before .before .if2 .left;
+      table = g .before .if3 .left;
+      display = g .if4 .left;
+    })
+    (f .fresh .ensures)
+    (v .save .ensures)
+    (k .clear .ensures)
+    (d .clear2 .ensures)
 
 pub fresh-spec : {M : Type 1} → statement M
 fresh-spec =
@@ -65,9 +85,12 @@ fresh-spec =
     returns
     returns-2
     returns-3
+    returns-4
     fresh-requires
     save-requires
     clear-requires
+    clear-requires-2
     same-length
     same-length-2
-    returns-4)
+    same-length-3
+    returns-5)

@@ -20,7 +20,7 @@ returns c =
 
 answer-requires : tie.Need-answer-requires
 answer-requires c κs =
-    let g = c .before .before .before .before .before .before in
+    let g = c .before .before .before .before .before .before .before in
     let p = g .before .before .before .before .pre in
     let f = gathered-few (g .gather .ensures) (p .1) in
     (p .0, omega arith)
@@ -31,9 +31,10 @@ same-length c = search needs
 returns-2 : tie.Need-returns-2
 returns-2 c =
     let f = c .before .before .before in
-    let t = f .before .before .before .before .before in
+    let t = f .before .before .before .before .before .before in
     let g = t .before .before in
-    ended-takes (g .gather .ensures) (not-false (g .gather .result .ended) (t .if1 .left)) (f .answer .ensures)
+    let e = f .answer .ensures in
+    ended-takes _ (g .gather .ensures) (not-false (g .gather .result .ended) (t .if1 .left)) (e .0) (e .1)
 
 pub take-spec : {M : Type 1} → statement M
 take-spec = tie.close (tie.spec gather-requires returns answer-requires same-length returns-2)

@@ -19,8 +19,9 @@ same-length c = search needs
 returns-2 : tie.Need-returns-2
 returns-2 c =
     let f = c .before .before .before in
-    let t = f .before .before .before .before in
-    some-ends (t .if1 .left) (f .answer .ensures)
+    let t = f .before .before .before .before .before in
+    let e = f .answer .ensures in
+    some-ends _ (t .if1 .left) (e .0) (e .1)
 
 pub take-end-spec : {M : Type 1} → statement M
 take-end-spec = tie.close (tie.spec returns answer-requires same-length returns-2)

@@ -30,7 +30,7 @@ slice-relend-prefix-call-2 : tie.Need-slice-relend-prefix-call-2
 slice-relend-prefix-call-2 c = search needs
 
 slice-aggregate-call-2 : tie.Need-slice-aggregate-call-2
-slice-aggregate-call-2 c = sym (length-take-le _ _ (c .before .before .before .before .before .least2 .ensures))
+slice-aggregate-call-2 c = sym (length-take-le _ _ (c .before .before .before .before .before .before .least2 .ensures))
 
 call-requires : tie.Need-call-requires
 call-requires c κs = search needs

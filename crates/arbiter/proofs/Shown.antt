@@ -1,0 +1,88 @@
+-- The display after a call: what is corrected on eight channels is what the machine says of the board's own. Assumes nothing.
+use Prim.Native.Nat.{ℕ, _-_, _≤_, _<_}
+use mathlib.Core.Path.{_≡_, refl, ap, ap₂, sym, subst, _∙_}
+use mathlib.Core.List.{List, _++_}
+use native.Mathlib.Omega.{arith}
+use lib.ListN.{length, getD, take}
+use Rattle.machine.specs.State.{State as StateM, Call, Request as Waiting}
+use Rattle.machine.specs.Refusals.{Refusal, refusal}
+use Rattle.machine.specs.Call.{answering, call}
+use Rattle.machine_laws.proofs.Board.{call-wide as call-as-wide}
+use Rattle.widening.specs.Widening.{widen}
+use Rattle.display.specs.Looks.{lookedBy, looked}
+use Rattle.display.specs.Display.{NUMBERS, corrected, looksOf, looksBytes, displayed}
+use Rattle.display.proofs.Looks.{looked-most}
+use Rattle.display.proofs.Standing.{Agree, call-agree}
+use Rattle.display.proofs.Wide.{looked-wide, corrected-wide}
+use Rattle.store.specs.declared.State.{State}
+use Rattle.store.specs.Store.{stateIn as wideIn, Held as WideHeld}
+use Rattle.answers.specs.declared.Request.{Request}
+use Rattle.answers.specs.declared.Outcome.{Outcome as WideOutcome}
+use Rattle.answers.specs.Answers.{Told as WideTold}
+use Rattle.board.specs.declared.Board.{Board}
+use Rattle.board.specs.Board.{stateIn, Held}
+use Rattle.board.proofs.Laws.{held-parts, held-wide}
+use Rattle.refusals.specs.declared.Op.{Op}
+use Rattle.refusals.specs.Refusals.{askedOf, Refuses}
+use Rattle.deciding.specs.Deciding.{decisionOf}
+use Rattle.arbiter.proofs.Own.{in-range, decision, own-told}
+use Rattle.arbiter.proofs.Outcome.{handled}
+use Rattle.arbiter.specs.Arbiter.{Handled, Shown}
+
+module _ (l : List ℕ) {o : Op} {r : Request} {b : Board} {ms tb : List ℕ} {e : ℕ} (h : Held b tb) (g : (r .prec ≤ 255) × (r .key ≤ 65535)) (w : Refuses o r b ms tb (length l) e)
+    (y : (i : ℕ) → getD ms i 0 < 256) where
+  abbrev c₀ : Call
+  c₀ = askedOf o r ms (length l)
+
+  abbrev u₀ : StateM
+  u₀ = stateIn b tb
+
+  abbrev k₀ : ℕ
+  k₀ = 8 - length (u₀ .channels)
+
+  -- the looks of eight channels are the board's
+  looks-own : (k : ℕ) → lookedBy (decisionOf e) c₀ (wideIn (b .state) tb) k ≡ looked u₀ c₀ k
+  looks-own k =
+      ap₂ (λ (f : Refusal) (s : StateM). lookedBy f c₀ s k) (decision l h g w) (held-wide h .1) ∙ looked-wide k₀ u₀ c₀ k (held-parts h) (in-range l h g w)
+
+  looks-fit : {k x : ℕ} → k < 65536 → x ≡ lookedBy (decisionOf e) c₀ (wideIn (b .state) tb) k → x < 65536
+  looks-fit {k} {x} f q = let a = looked-most 65535 k (omega arith) (omega arith) u₀ c₀ in omega (arith, a, q ∙ looks-own k)
+
+  module _ {d : WideOutcome} {tb′ l′ : List ℕ} (t : WideTold (answering (decisionOf e) c₀ (wideIn (b .state) tb)) l d tb′ l′) where
+    abbrev after : Board
+    after = record { width = b .width; state = d .state }
+
+    pub done : Handled o r b ms tb l (record { answer = d .answer; state = after; n = d .n }) tb′ l′
+    done = handled o r ms l h g y (own-told l h g w t)
+
+    after-held : WideHeld (d .state) tb′
+    after-held = held-wide (done .kept) .0
+
+    after-is : wideIn (d .state) tb′ ≡ widen k₀ (call u₀ c₀ .next)
+    after-is =
+        held-wide (done .kept) .1 ∙ (ap (λ (s : StateM). widen (8 - length (s .channels)) s) (done .next) ∙ ap (λ (n : ℕ). widen (8 - n) (call u₀ c₀ .next)) (call-as-wide u₀ c₀))
+
+    agrees : Agree (wideIn (b .state) tb .waiting) (wideIn (d .state) tb′ .waiting)
+    agrees =
+        subst (λ (ws : List Waiting). Agree ws (wideIn (d .state) tb′ .waiting)) (sym (ap (λ (s : StateM). s .waiting) (held-wide h .1)))
+        (subst (λ (ws : List Waiting). Agree (u₀ .waiting) ws) (sym (ap (λ (s : StateM). s .waiting) after-is)) (call-agree u₀ c₀))
+
+    -- `was` is the table as it was
+    module _ {was : List ℕ} (v : was ≡ tb) where
+      pub may-show : {k x : ℕ} → k < 65536 → x ≡ lookedBy (decisionOf e) c₀ (wideIn (b .state) tb) k
+          → WideHeld (b .state) was × WideHeld (d .state) tb′ × Agree (wideIn (b .state) was .waiting) (wideIn (d .state) tb′ .waiting) × (x < 65536)
+      may-show f q = (
+        subst (WideHeld (b .state)) (sym v) (held-wide h .0),
+        after-held,
+        subst (λ (x : List ℕ). Agree (wideIn (b .state) x .waiting) (wideIn (d .state) tb′ .waiting)) (sym v) agrees,
+        looks-fit f q,
+      )
+
+      pub shown : (dp : List ℕ) {dp′ : List ℕ} {k x : ℕ} → k ≡ looksOf dp → x ≡ lookedBy (decisionOf e) c₀ (wideIn (b .state) tb) k
+          → dp′ ≡ corrected (wideIn (b .state) was) (wideIn (d .state) tb′) 0 (take 16 dp) ++ looksBytes x → Shown o r b ms tb l dp dp′
+      unfolding displayed
+      shown dp {dp′} {k} {x} m q z =
+          z
+          ∙ (ap₂ (λ (s u : StateM). corrected s u 0 (take 16 dp) ++ looksBytes x) (ap (wideIn (b .state)) v ∙ held-wide h .1) after-is
+          ∙ ap₂ (λ (xs : List ℕ) (n : ℕ). xs ++ looksBytes n) (corrected-wide k₀ u₀ (call u₀ c₀ .next) 0 (take 16 dp))
+          (q ∙ (looks-own k ∙ ap (looked u₀ c₀) m)))

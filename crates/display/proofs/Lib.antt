@@ -1,0 +1,11 @@
+pub mod Examples
+pub mod Acting
+pub mod Looks
+pub mod Looking
+pub mod Standing
+pub mod Wide
+pub mod Numbers
+pub mod Display
+pub mod Rooms
+pub mod Runs
+pub mod Pinned

@@ -1,0 +1,77 @@
+// The wall display as lines of upper-case hexadecimal, each ended by LF: the numbers, then who waits, from the bytes of their records.
+// A line is written at its place and nowhere else. Assumes nothing.
+ghost use mathlib.Core.Path.{_≡_};
+ghost use mathlib.Core.List.{_∷_};
+ghost use Prim.Native.Nat.{_+_, _*_, _≤_};
+ghost use lib.ListN.{length};
+ghost use Rattle.memory.specs.Splice.{splice};
+ghost use Rattle.machine.specs.Log.{line};
+ghost use Rattle.spelling.specs.Spelling.{digits};
+ghost use Rattle.display_lines.specs.DisplayLines.{loadOf, recordLines, Shows};
+
+// The digits of bytes.
+fn put_bytes(out: &mut [u8], at: usize, bs: &[u8])
+    requires { ⌜ at + 2 * length (now bs) ≤ length (now out) ⌝ }
+    ensures { λ _. ⌜ now (out .exit) ≡ splice (now (out .entry)) at (digits (now (bs .entry))) ⌝ }
+{
+    let mut i: usize = 0;
+    while i < bs.len() {
+        spelling::put_byte(out, at + 2 * i, bs[i]);
+        i += 1;
+    }
+}
+
+// E0: the two numbers of each of w channels, then the looks.
+fn put_load(out: &mut [u8], w: usize, display: &[u8])
+    requires { ⌜ (w ≤ 8) × (length (now display) ≡ 18) × (39 ≤ length (now out)) ⌝ }
+    ensures { λ _. ⌜ now (out .exit) ≡ splice (now (out .entry)) 0 (loadOf w (now (display .entry))) ⌝ }
+{
+    let k = 2 * w;
+    let e = 2 + 2 * k;
+    spelling::put_byte(out, 0, 0xE0);
+    put_bytes(out, 2, &display[..k]);
+    put_bytes(out, e, &display[16..]);
+    out[e + 4] = 10;
+}
+
+// E1 and a record's four bytes.
+fn put_record(out: &mut [u8], at: usize, bs: &[u8])
+    requires { ⌜ (length (now bs) ≡ 4) × (at + 11 ≤ length (now out)) ⌝ }
+    ensures { λ _. ⌜ now (out .exit) ≡ splice (now (out .entry)) at (line (0xE1 ∷ now (bs .entry))) ⌝ }
+{
+    spelling::put_byte(out, at, 0xE1);
+    put_bytes(out, at + 2, bs);
+    out[at + 10] = 10;
+}
+
+// The lines of the first n records.
+fn put_records(out: &mut [u8], at: usize, bs: &[u8], n: usize)
+    requires { ⌜ (n * 4 ≤ length (now bs)) × (at + n * 11 ≤ length (now out)) ⌝ }
+    ensures { λ _. ⌜ now (out .exit) ≡ splice (now (out .entry)) at (recordLines n (now (bs .entry))) ⌝ }
+{
+    let mut i: usize = 0;
+    while i < n {
+        let a = i * 4;
+        let e = a + 4;
+        put_record(out, at + i * 11, &bs[a..e]);
+        i += 1;
+    }
+}
+
+// The lines of a display on a board of `width` channels, with the records of the n that wait; how many bytes they are.
+pub fn spell(
+    width: u8,
+    display: &[u8; 18],
+    records: &[u8; 256],
+    n: usize,
+    out: &mut [u8; 743],
+) -> usize
+    requires { ⌜ (width ≤ 8) × (n ≤ 64) ⌝ }
+    ensures { λ r. ⌜ Shows width (now (display .entry)) (now (records .entry)) n (now (out .entry)) r (now (out .exit)) ⌝ }
+{
+    let w = width as usize;
+    put_load(out, w, display);
+    let k = 7 + 4 * w;
+    put_records(out, k, records, n);
+    k + n * 11
+}

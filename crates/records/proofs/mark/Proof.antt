@@ -1,0 +1,29 @@
+-- `mark` meets its contract: each arm is a case of the definition. Assumes nothing.
+use Rattle.display.specs.Display.{holds}
+use borrow.Author.Needs.{needs}
+use Rattle.records.proofs.mark.Statement.{statement}
+use Rattle.records.proofs.mark.Tie as tie
+
+enum-told : tie.Need-enum-told
+enum-told c = search needs
+
+enum-told-2 : tie.Need-enum-told-2
+enum-told-2 c = search needs
+
+enum-told-3 : tie.Need-enum-told-3
+enum-told-3 c = search needs
+
+returns : tie.Need-returns
+unfolding holds
+returns c = rw (c .enum-told .given .1)
+
+returns-2 : tie.Need-returns-2
+unfolding holds
+returns-2 c = rw (c .enum-told2 .given .1)
+
+returns-3 : tie.Need-returns-3
+unfolding holds
+returns-3 c = rw (c .enum-told3 .given .1)
+
+pub mark-spec : {M : Type 1} → statement M
+mark-spec = tie.close (tie.spec enum-told enum-told-2 enum-told-3 returns returns-2 returns-3)
