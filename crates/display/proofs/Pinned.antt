@@ -190,7 +190,7 @@ pub record-length : (cs : List Channel) (r : Request) → length (recordOf cs r)
 unfolding recordOf
 record-length cs r = refl
 
-pub records-length : (cs : List Channel) (rs : List Request) → length (records cs rs) ≡ 4 * length rs
+pub records-length : (cs : List Channel) (rs : List Request) → length (records cs rs) ≡ length rs * 4
 unfolding records recordOf
 records-length cs [] = refl
 records-length cs (r ∷ rs) = let ih = records-length cs rs in omega arith

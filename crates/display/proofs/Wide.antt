@@ -14,9 +14,9 @@ use Rattle.machine.specs.State.{Channel, Lock, Request, State, Outcome, Call, O
 use Rattle.machine.specs.Maps.{odd, half, meets, lowest, at}
 use Rattle.machine.specs.Choosing.{Look, fails, held, grants, look}
 use Rattle.machine.specs.Granting.{keyFor, granted, taken}
-use Rattle.machine.specs.Commands.{finished, silent, matches, setWrites, writeOf, cyclesIn, doWrite}
+use Rattle.machine.specs.Commands.{cyclesIn}
 use Rattle.machine.specs.Allocating.{doOpen}
-use Rattle.machine.specs.Settling.{Found, nobody, somebody, Walk, staying, saying, onLook, walk, walked}
+use Rattle.machine.specs.Settling.{Found, nobody, somebody, Walk, walk, walked}
 use Rattle.machine.specs.Sound.{ids}
 use Rattle.machine.specs.Kinds.{Kind, RESET, READ, WRITE, UPDATE, CLEAR, STOP, START, FLUSH, FREE, SETPREC, FINISH, PERVOL, LOCK, WAITCYCLE, ALLOCATE, UNKNOWN, kind, allocates, carries}
 use Rattle.machine.specs.Refusals.{Refusal, accepted, refused, badMap, badMaps, badList, badNumbers, refusal}
@@ -30,14 +30,14 @@ use Rattle.machine_laws.proofs.KeepingSettle.{look-unlocked}
 use Rattle.machine_laws.proofs.KeepingCalls.{open-sound, close-sound, abort-sound, event-sound, perform-sound, range-prec, range-key, id-small}
 use Rattle.machine_laws.proofs.Lists.{Sub, sub-all, sub-length}
 use Rattle.widening.specs.Widening.{wider, widen, widenO, smallList}
-use Rattle.widening.proofs.Choosing.{BelowL, look-below, look-wide}
+use Rattle.widening.proofs.Choosing.{look-wide}
 use Rattle.widening.proofs.Keys.{Few, granted-wide}
-use Rattle.widening.proofs.Settling.{Waits, walk-wide}
-use Rattle.widening.proofs.Calls.{waits-fit, locks-fit, few-fit, perform-wide, call-wide}
+use Rattle.widening.proofs.Settling.{Waits, FoundFits, walk-fits, walk-wide}
+use Rattle.widening.proofs.Calls.{locks-fit, few-fit, Fit, sound-fit, write-fit, map-on, maps-on, perform-wide, call-wide}
 use Rattle.widening.proofs.Commands.{event-wide, close-wide, abort-wide, open-wide}
 use Rattle.display.specs.Looks.{beyond, reached, lookOn, looksIn, looks, acting, looksAfter, lookedBy, looked}
 use Rattle.display.specs.Display.{NUMBERS, names, naming, writesOn, number, corrected, looksOf, looksBytes, displayed}
-use Rattle.display.proofs.Acting.{not-not, walk-sub}
+use Rattle.display.proofs.Acting.{walk-sub}
 
 -- ---- a walk
 
@@ -49,33 +49,7 @@ reached-wide k cs (r ∷ rs) t =
     let b = and-right (smallList (length cs) (r .combos)) (all (λ r. smallList (length cs) (r .combos)) rs) t in
     ap₂ (λ (l : Look) (n : ℕ). suc (beyond l n)) (look-wide (r .prec) k cs (r .combos) a) (reached-wide k cs rs b)
 
-abbrev FoundFits : ℕ → Found → Type 0
-FoundFits n nobody = Unit {0}
-FoundFits n (somebody r m) = m < 2 ^ n
-
-onLook-fits : (n i : ℕ) (l : Look) (r : Request) (rs : List Request) (ls : List Lock) (rest : List Lock → Walk) → BelowL (2 ^ n) l
-    → ((x : List Lock) → FoundFits n (rest x .found)) → FoundFits n (onLook i l r rs ls rest .found)
-unfolding onLook saying staying
-onLook-fits n i fails r rs ls rest b ih = if-elim (λ (w : Walk). FoundFits n (w .found)) (r .impatient) (λ _. ih ls) (λ _. ih ls)
-onLook-fits n i (held m) r rs ls rest b ih = ih (keep (λ l. not (meets i m (l .map))) ls)
-onLook-fits n i (grants m) r rs ls rest b ih = b
-
-walk-fits : (n : ℕ) (cs : List Channel) (rs : List Request) → Waits n rs → (ls : List Lock) → FoundFits n (walk cs rs ls .found)
-unfolding walk all
-walk-fits n cs [] t ls = tt
-walk-fits n cs (r ∷ rs) t ls =
-    let a = and-left (smallList n (r .combos)) (all (λ r. smallList n (r .combos)) rs) t in
-    let b = and-right (smallList n (r .combos)) (all (λ r. smallList n (r .combos)) rs) t in
-    onLook-fits n (length cs) (look (r .prec) (r .combos) cs) r rs ls (walk cs rs) (look-below n (r .prec) (r .combos) cs a) (walk-fits n cs rs b)
-
 -- ---- the walks of a settling
-
-record Fit (s : State) : Type 0 where
-  few : Few s
-  waits : Waits (length (s .channels)) (s .waiting)
-
-sound-fit : (s : State) → Parts s → Fit s
-sound-fit s p = record { few = few-fit s p; waits = waits-fit s p }
 
 granted-fit : (m key prec : ℕ) (w : Walk) (s : State) → Sub (w .waiting) (s .waiting) → Fit s → Fit (granted m key prec (walked w s))
 unfolding granted walked
@@ -101,7 +75,7 @@ looksIn-wide (suc n) k s f =
     let w = walk (s .channels) (s .waiting) (s .locks) in
     ap₂ _+_ (reached-wide k (s .channels) (s .waiting) (f .waits))
     (ap (λ (x : Walk). lookOn (x .found) x (widen k s) (looksIn n)) (walk-wide k (s .channels) (s .waiting) (f .waits) (s .locks))
-    ∙ lookOn-wide k (w .found) w s (looksIn n) (walk-fits (length (s .channels)) (s .channels) (s .waiting) (f .waits) (s .locks))
+    ∙ lookOn-wide k (w .found) w s (looksIn n) (walk-fits (length (s .channels)) (s .channels) (s .waiting) (f .waits) (s .locks) .found)
     (walk-sub (s .channels) (s .waiting) (s .locks)) f (looksIn-wide n k))
 
 looks-fit : (k : ℕ) (s : State) → Fit s → looks (widen k s) ≡ looks s
@@ -112,16 +86,6 @@ pub looks-wide : (k : ℕ) (s : State) → Parts s → looks (widen k s) ≡ loo
 looks-wide k s p = looks-fit k s (sound-fit s p)
 
 -- ---- what a call comes to before it settles fits the board
-
--- a WRITE leaves all of it, whatever numbers it carries
-write-fit : (c : Call) (s : State) → Fit s → Fit (doWrite c s .next)
-unfolding doWrite silent finished
-write-fit c s f =
-    let m = lowest (length (s .channels)) (c .map) in
-    let g = setWrites (at m (s .channels) .writes ++ writeOf c ∷ []) in
-    if-elim (λ (o : Outcome). Fit (o .next)) (matches (c .key) (at m (s .channels)))
-    (λ _. let e = length-change g m (s .channels) in record { few = rw e (f .few); waits = rw e (f .waits) })
-    (λ _. f)
 
 module _ (c : Call) (s : State) (p : Parts s) (r : T (inRange c)) where
   -- of another kind
@@ -160,21 +124,6 @@ module _ (c : Call) (s : State) (p : Parts s) (r : T (inRange c)) where
       perform-fit (kind j) (id-small (c .id) (n .1 .1 .0)) (n .1 .1 .1 .1 .0) (n .1 .1 .1 .1 .1 .1 .1 .0) (n .1 .1 .1 .1 .1 .1 .1 .1 .0) (n .1 .1 .1 .1 .1 .1 .1 .1 .1 .0)
 
 -- ---- and is the same on the wide board
-
-map-on : (c : Call) (s : State) → T (not (badMap c s)) → c .map < 2 ^ length (s .channels)
-unfolding badMap
-map-on c s t = ltb→lt (c .map) (2 ^ length (s .channels)) (not-not (ltb (c .map) (2 ^ length (s .channels))) t)
-
-list-on : (b : ℕ) (ms : List ℕ) → T (not (any (λ m. not (ltb m b)) ms)) → T (all (λ m. ltb m b) ms)
-unfolding any all
-list-on b [] u = tt
-list-on b (m ∷ ms) u =
-    and-both (ltb m b) (all (λ x. ltb x b) ms) (not-not (ltb m b) (nor-left (not (ltb m b)) (any (λ x. not (ltb x b)) ms) u))
-    (list-on b ms (nor-right (not (ltb m b)) (any (λ x. not (ltb x b)) ms) u))
-
-maps-on : (c : Call) (s : State) → T (not (badMaps c s)) → T (smallList (length (s .channels)) (c .combos))
-unfolding badMaps smallList
-maps-on c s t = list-on (2 ^ length (s .channels)) (c .combos) t
 
 pub acting-wide : (k : ℕ) (o : Op) (c : Call) (s : State) → Parts s → refusal o c s ≡ accepted → acting o c (widen k s) ≡ widenO k (acting o c s)
 unfolding acting refusal

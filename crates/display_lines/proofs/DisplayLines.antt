@@ -13,6 +13,7 @@ use Rattle.machine.specs.State.{Channel, Request, State}
 use Rattle.machine.specs.Log.{hexDigit, line}
 use Rattle.spelling.specs.Spelling.{digits}
 use Rattle.display.specs.Display.{recordOf, records, loadLine, requestLines, displayLines}
+use Rattle.display.proofs.Pinned.{records-length}
 use Rattle.display_lines.specs.DisplayLines.{loadOf, recordLines, displayOf, Shows}
 
 -- ---- digits
@@ -128,11 +129,6 @@ spelt {w} {d} {bs} {n} {out} h k e f g p q =
 
 -- ---- they are the lines of a display
 
-length-records : (cs : List Channel) (rs : List Request) → length (records cs rs) ≡ length rs * 4
-unfolding records recordOf
-length-records cs [] = refl
-length-records cs (r ∷ rs) = let e = length-records cs rs in omega arith
-
 -- E1 and a record for each
 pub record-lines : (cs : List Channel) (rs : List Request) (rest : List ℕ) → recordLines (length rs) (records cs rs ++ rest) ≡ requestLines cs rs
 unfolding recordLines records requestLines recordOf
@@ -149,7 +145,7 @@ display-few s d h k e =
     let rs = records (s .channels) (s .waiting) ++ [] in
     let a = length-loadOf (length (s .channels)) d h e in
     let c = length-append (records (s .channels) (s .waiting)) [] in
-    let z = length-records (s .channels) (s .waiting) in
+    let z = records-length (s .channels) (s .waiting) in
     let b = length-recordLines (length (s .waiting)) rs (omega arith) in
     let n = length-append (loadOf (length (s .channels)) d) (recordLines (length (s .waiting)) rs) in
     rw (sym (display-lines s d [])) (omega arith)

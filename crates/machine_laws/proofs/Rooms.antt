@@ -26,7 +26,7 @@ lent n c =
     record { op = c .op; desk = c .desk; id = c .id; flags = c .flags; map = c .map; prec = c .prec; key = c .key; combos = c .combos; room = n }
 
 module _ (c : Call) (n : ℕ) (h : 64 ≤ n) (g : 64 ≤ c .room) where
-  refusal-lent : (o : Op) (s : State) → refusal o (lent n c) s ≡ refusal o c s
+  pub refusal-lent : (o : Op) (s : State) → refusal o (lent n c) s ≡ refusal o c s
   unfolding refusal foreign badList badMaps badMap badNumbers
   refusal-lent OPEN s = rw (le-ltb n 64 h, le-ltb (c .room) 64 g)
   refusal-lent CLOSE s = rw (le-ltb n 64 h, le-ltb (c .room) 64 g)
@@ -40,13 +40,13 @@ module _ (c : Call) (n : ℕ) (h : 64 ≤ n) (g : 64 ≤ c .room) where
   look-lent (held m) s = refl
   look-lent (grants m) s = refl
 
-  open-lent : (l : Look) (s : State) → opening l (lent n c) s ≡ opening l c s
+  pub open-lent : (l : Look) (s : State) → opening l (lent n c) s ≡ opening l c s
   unfolding opening silent
   open-lent fails s = refl
   open-lent (held m) s = refl
   open-lent (grants m) s = refl
 
-  perform-lent : (k : Kind) (s : State) → perform k (lent n c) s ≡ perform k c s
+  pub perform-lent : (k : Kind) (s : State) → perform k (lent n c) s ≡ perform k c s
   unfolding perform eachChange each finished silent doRead doWrite doFree doFinish doPervol doLock doWaitcycle doAllocate
   perform-lent RESET s = refl
   perform-lent READ s = refl
@@ -96,7 +96,7 @@ module _ (s : State) (c : Call) (h : c .room < 64) where
   two-first true ts = inr (rw (lt-ltb (c .room) 64 h) refl)
   two-first false ts = inl refl
 
-  short-refused : (o : Op) → (refusal o c s ≡ refused 1) ⊎ (refusal o c s ≡ refused 5)
+  pub short-refused : (o : Op) → (refusal o c s ≡ refused 1) ⊎ (refusal o c s ≡ refused 5)
   unfolding refusal
   short-refused OPEN = two-first (sound s) _
   short-refused CLOSE = two-first (sound s) _

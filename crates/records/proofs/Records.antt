@@ -16,6 +16,7 @@ use Rattle.machine.proofs.Tests.{and-left, and-right}
 use Rattle.widening.specs.Widening.{wider, smallList}
 use Rattle.widening.proofs.Choosing.{look-wide}
 use Rattle.display.specs.Display.{holds, recordOf, records}
+use Rattle.display.proofs.Pinned.{records-length}
 use Rattle.memory.specs.Splice.{splice}
 use Rattle.memory.proofs.Splice.{splice-then, splice-none, length-splice}
 use Rattle.queue.specs.declared.Queue.{Queue}
@@ -41,11 +42,6 @@ unfolding records recordOf
 records-append cs [] qs = refl
 records-append cs (r ∷ rs) qs = rw (records-append cs rs qs)
 
-pub length-records : (cs : List Channel) (rs : List Request) → length (records cs rs) ≡ length rs * 4
-unfolding records recordOf
-length-records cs [] = refl
-length-records cs (r ∷ rs) = let e = length-records cs rs in omega arith
-
 map-last : (tb is : List ℕ) (i : ℕ) → map (requestIn tb) (is ++ i ∷ []) ≡ map (requestIn tb) is ++ requestIn tb i ∷ []
 map-last tb [] i = refl
 map-last tb (j ∷ is) i = ap (λ (l : List Request). requestIn tb j ∷ l) (map-last tb is i)
@@ -53,7 +49,7 @@ map-last tb (j ∷ is) i = ap (λ (l : List Request). requestIn tb j ∷ l) (map
 module _ (cs : List Channel) (q : Queue) (tb : List ℕ) where
   first-length : (i : ℕ) → i ≤ length (q .ids) → length (firstRecords cs q tb i) ≡ i * 4
   first-length i h =
-      length-records cs (map (requestIn tb) (take i (q .ids))) ∙ ap (λ (n : ℕ). n * 4) (length-map (take i (q .ids)) (requestIn tb) ∙ length-take-le i (q .ids) h)
+      records-length cs (map (requestIn tb) (take i (q .ids))) ∙ ap (λ (n : ℕ). n * 4) (length-map (take i (q .ids)) (requestIn tb) ∙ length-take-le i (q .ids) h)
 
   first-more : (i : ℕ) → i < length (q .ids) → firstRecords cs q tb i ++ recordOf cs (asked q tb i) ≡ firstRecords cs q tb (i + 1)
   unfolding records recordOf

@@ -85,18 +85,18 @@ not-not : (x : Bool) → T (not (not x)) → T x
 not-not true w = tt
 not-not false w = w
 
-map-on : (c : Call) (s : State) → T (not (badMap c s)) → c .map < 2 ^ length (s .channels)
+pub map-on : (c : Call) (s : State) → T (not (badMap c s)) → c .map < 2 ^ length (s .channels)
 unfolding badMap
 map-on c s t = ltb→lt (c .map) (2 ^ length (s .channels)) (not-not (ltb (c .map) (2 ^ length (s .channels))) t)
 
-list-on : (b : ℕ) (ms : List ℕ) → T (not (any (λ m. not (ltb m b)) ms)) → T (all (λ m. ltb m b) ms)
+pub list-on : (b : ℕ) (ms : List ℕ) → T (not (any (λ m. not (ltb m b)) ms)) → T (all (λ m. ltb m b) ms)
 unfolding any all
 list-on b [] u = tt
 list-on b (m ∷ ms) u =
     and-both (ltb m b) (all (λ x. ltb x b) ms) (not-not (ltb m b) (nor-left (not (ltb m b)) (any (λ x. not (ltb x b)) ms) u))
     (list-on b ms (nor-right (not (ltb m b)) (any (λ x. not (ltb x b)) ms) u))
 
-maps-on : (c : Call) (s : State) → T (not (badMaps c s)) → T (smallList (length (s .channels)) (c .combos))
+pub maps-on : (c : Call) (s : State) → T (not (badMaps c s)) → T (smallList (length (s .channels)) (c .combos))
 unfolding badMaps smallList
 maps-on c s t = list-on (2 ^ length (s .channels)) (c .combos) t
 
@@ -123,15 +123,15 @@ perform-wide k ALLOCATE c s p t = allocate-wide k c s (maps-on c s t) (few-fit s
 perform-wide k UNKNOWN c s p t = unfold silent in refl
 
 -- what settling asks of a state
-record Fit (s : State) : Type 0 where
-  few : Few s
-  waits : Waits (length (s .channels)) (s .waiting)
+pub record Fit (s : State) : Type 0 where
+  pub few : Few s
+  pub waits : Waits (length (s .channels)) (s .waiting)
 
-sound-fit : (s : State) → Parts s → Fit s
+pub sound-fit : (s : State) → Parts s → Fit s
 sound-fit s p = record { few = few-fit s p; waits = waits-fit s p }
 
 -- a WRITE leaves all of it, whatever numbers it carries
-write-fit : (c : Call) (s : State) → Fit s → Fit (doWrite c s .next)
+pub write-fit : (c : Call) (s : State) → Fit s → Fit (doWrite c s .next)
 unfolding doWrite silent finished
 write-fit c s f =
     let m = lowest (length (s .channels)) (c .map) in

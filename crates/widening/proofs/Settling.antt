@@ -49,14 +49,14 @@ walk-wide k cs (r ∷ rs) t ls =
 
 -- ---- what a walk leaves fits the board
 
-abbrev FoundFits : ℕ → Found → Type 0
+abbrev pub FoundFits : ℕ → Found → Type 0
 FoundFits n nobody = Unit {0}
 FoundFits n (somebody r m) = m < 2 ^ n
 
-record Fits (n : ℕ) (rs : List Request) (w : Walk) : Type 0 where
-  found : FoundFits n (w .found)
-  waits : Waits n (w .waiting)
-  few : length (w .waiting) ≤ length rs
+pub record Fits (n : ℕ) (rs : List Request) (w : Walk) : Type 0 where
+  pub found : FoundFits n (w .found)
+  pub waits : Waits n (w .waiting)
+  pub few : length (w .waiting) ≤ length rs
 
 onLook-fits : (n i : ℕ) (l : Look) (r : Request) (rs : List Request) (ls : List Lock) (rest : List Lock → Walk) → BelowL (2 ^ n) l → Waits n (r ∷ rs)
     → ((x : List Lock) → Fits n rs (rest x)) → Fits n (r ∷ rs) (onLook i l r rs ls rest)
@@ -75,7 +75,7 @@ onLook-fits n i (held m) r rs ls rest b t ih =
 onLook-fits n i (grants m) r rs ls rest b t ih =
     record { found = b; waits = and-right (smallList n (r .combos)) (all (λ r. smallList n (r .combos)) rs) t; few = omega arith }
 
-walk-fits : (n : ℕ) (cs : List Channel) (rs : List Request) → Waits n rs → (ls : List Lock) → Fits n rs (walk cs rs ls)
+pub walk-fits : (n : ℕ) (cs : List Channel) (rs : List Request) → Waits n rs → (ls : List Lock) → Fits n rs (walk cs rs ls)
 unfolding walk all
 walk-fits n cs [] t ls = record { found = tt; waits = tt; few = omega arith }
 walk-fits n cs (r ∷ rs) t ls =
