@@ -2,8 +2,8 @@
 use mathlib.Core.Path.{refl}
 use Rattle.image.proofs.Laws.{channel-read}
 use borrow.Author.Needs.{needs}
-use Rattle.loading.proofs.channel_at.Statement.{statement}
-use Rattle.loading.proofs.channel_at.Tie as tie
+use Rattle.decoding.proofs.channel_at.Statement.{statement}
+use Rattle.decoding.proofs.channel_at.Tie as tie
 
 add-queue-at : tie.Need-add-queue-at
 add-queue-at c = search needs

@@ -4,8 +4,8 @@ use native.Mathlib.Omega.{arith}
 use Rattle.image.specs.Image.{queueAt}
 use Rattle.image.proofs.Laws.{queue-read}
 use borrow.Author.Needs.{needs}
-use Rattle.loading.proofs.queue_at.Statement.{statement}
-use Rattle.loading.proofs.queue_at.Tie as tie
+use Rattle.decoding.proofs.queue_at.Statement.{statement}
+use Rattle.decoding.proofs.queue_at.Tie as tie
 
 add-from : tie.Need-add-from
 add-from c = search needs

@@ -3,8 +3,8 @@ use native.Mathlib.Omega.{arith}
 use lib.ListN.{length-set}
 use Rattle.image.proofs.Laws.{wrote-length, open-wrote}
 use borrow.Author.Needs.{needs}
-use Rattle.saving.proofs.put_open.Statement.{statement}
-use Rattle.saving.proofs.put_open.Tie as tie
+use Rattle.encoding.proofs.put_open.Statement.{statement}
+use Rattle.encoding.proofs.put_open.Tie as tie
 
 slice-write-bytes : tie.Need-slice-write-bytes
 slice-write-bytes c = search needs

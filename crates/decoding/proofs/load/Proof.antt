@@ -1,8 +1,8 @@
 -- `load` meets its contract, part by part. Assumes nothing.
 use native.Mathlib.Omega.{arith}
 use Rattle.image.proofs.Laws.{whole-long, state-parts}
-use Rattle.loading.proofs.load.Statement.{statement}
-use Rattle.loading.proofs.load.Tie as tie
+use Rattle.decoding.proofs.load.Statement.{statement}
+use Rattle.decoding.proofs.load.Tie as tie
 
 channels-at-requires : tie.Need-channels-at-requires
 channels-at-requires c κs = let e = whole-long _ (c .before .pre) in omega arith

@@ -7,8 +7,8 @@ use lib.Seq.{take-all}
 use Rattle.image.specs.Image.{keysFrom}
 use Rattle.image.proofs.Laws.{keys-more-at}
 use borrow.Author.Needs.{needs}
-use Rattle.loading.proofs.keys_at.Statement.{statement}
-use Rattle.loading.proofs.keys_at.Tie as tie
+use Rattle.decoding.proofs.keys_at.Statement.{statement}
+use Rattle.decoding.proofs.keys_at.Tie as tie
 
 abbrev Inv-loop : tie.InvT-loop
 Inv-loop bytes at keys₀ i₀ keys i = (i ≤ 32) × (at + 64 ≤ length bytes) × (length keys ≡ 32) × (take i keys ≡ keysFrom i bytes at)

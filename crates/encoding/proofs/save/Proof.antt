@@ -3,8 +3,8 @@ use mathlib.Core.Path.{_∙_}
 use Rattle.image.proofs.Laws.{state-wrote, queue-filled, open-filled}
 use Rattle.image.proofs.Round.{saved}
 use borrow.Author.Needs.{needs}
-use Rattle.saving.proofs.save.Statement.{statement}
-use Rattle.saving.proofs.save.Tie as tie
+use Rattle.encoding.proofs.save.Statement.{statement}
+use Rattle.encoding.proofs.save.Tie as tie
 
 put-channels-requires : tie.Need-put-channels-requires
 put-channels-requires c κs = search needs

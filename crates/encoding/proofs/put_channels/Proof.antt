@@ -6,8 +6,8 @@ use borrow.Author.Needs.{needs}
 use lib.ListN.{length, take}
 use Rattle.image.specs.Image.{channelsBytes, AllFilled, Wrote}
 use Rattle.image.proofs.Laws.{wrote-length, channels-start, channels-turn, filled-turn, channels-entered}
-use Rattle.saving.proofs.put_channels.Statement.{statement}
-use Rattle.saving.proofs.put_channels.Tie as tie
+use Rattle.encoding.proofs.put_channels.Statement.{statement}
+use Rattle.encoding.proofs.put_channels.Tie as tie
 
 abbrev Inv-loop : tie.InvT-loop
 Inv-loop bytes₀ cs i₀ bytes i = (i ≤ 8) × (560 ≤ length bytes₀) × (length bytes ≡ length bytes₀) × Wrote bytes₀ 0 (channelsBytes (take i cs)) (i * 70) bytes × AllFilled (take i cs)

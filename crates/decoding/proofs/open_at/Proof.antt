@@ -6,8 +6,8 @@ use Prim.Native.Nat.{ℕ}
 use borrow.Author.Needs.{needs}
 use Rattle.open_keys.specs.declared.Keys.{Keys}
 use Rattle.image.specs.Image.{openAt}
-use Rattle.loading.proofs.open_at.Statement.{statement}
-use Rattle.loading.proofs.open_at.Tie as tie
+use Rattle.decoding.proofs.open_at.Statement.{statement}
+use Rattle.decoding.proofs.open_at.Tie as tie
 
 add-keys-at : tie.Need-add-keys-at
 add-keys-at c = search needs

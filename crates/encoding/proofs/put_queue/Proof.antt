@@ -4,8 +4,8 @@ use mathlib.Core.Path.{_≡_}
 use lib.ListN.{length, length-set}
 use Rattle.image.proofs.Laws.{wrote-length, queue-wrote}
 use borrow.Author.Needs.{needs}
-use Rattle.saving.proofs.put_queue.Statement.{statement}
-use Rattle.saving.proofs.put_queue.Tie as tie
+use Rattle.encoding.proofs.put_queue.Statement.{statement}
+use Rattle.encoding.proofs.put_queue.Tie as tie
 
 slice-write-bytes : tie.Need-slice-write-bytes
 slice-write-bytes c = search needs

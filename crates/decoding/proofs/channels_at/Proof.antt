@@ -7,8 +7,8 @@ use lib.Seq.{take-all}
 use Rattle.image.specs.Image.{channelsAt}
 use Rattle.image.proofs.Laws.{channels-more-at}
 use borrow.Author.Needs.{needs}
-use Rattle.loading.proofs.channels_at.Statement.{statement}
-use Rattle.loading.proofs.channels_at.Tie as tie
+use Rattle.decoding.proofs.channels_at.Statement.{statement}
+use Rattle.decoding.proofs.channels_at.Tie as tie
 
 abbrev Inv-loop : tie.InvT-loop
 Inv-loop bytes cs₀ i₀ cs i = (i ≤ 8) × (560 ≤ length bytes) × (length cs ≡ 8) × (take i cs ≡ channelsAt i bytes 0)

@@ -7,8 +7,8 @@ use lib.ListN.{length, take}
 use Rattle.memory.proofs.Splice.{length-splice}
 use Rattle.image.specs.Image.{keysBytes, Wrote}
 use Rattle.image.proofs.Laws.{keys-start, keys-turn, keys-all}
-use Rattle.saving.proofs.put_keys.Statement.{statement}
-use Rattle.saving.proofs.put_keys.Tie as tie
+use Rattle.encoding.proofs.put_keys.Statement.{statement}
+use Rattle.encoding.proofs.put_keys.Tie as tie
 
 abbrev Inv-loop : tie.InvT-loop
 Inv-loop bytes₀ at keys i₀ bytes i = (i ≤ 32) × (at + 64 ≤ length bytes₀) × (length bytes ≡ length bytes₀) × Wrote bytes₀ at (keysBytes (take i keys)) (i * 2) bytes
