@@ -7,12 +7,12 @@ use lib.Seq.{take-all}
 use Rattle.memory.specs.Splice.{splice}
 use Rattle.memory.proofs.Splice.{splice-none}
 use Rattle.spelling.specs.Spelling.{digits}
-use Rattle.display_lines.proofs.DisplayLines.{digits-turn}
+use Rattle.hex_lines.proofs.HexLines.{digits-turn}
 use borrow.Author.Needs.{needs}
-use Rattle.display_lines.proofs.put_bytes.Statement.{statement}
-use Rattle.display_lines.proofs.put_bytes.Tie as tie
-use Rattle.display_lines.proofs.put_bytes.Reads as reads
-use Rattle.display_lines.proofs.put_bytes.Lts as lts
+use Rattle.hex_lines.proofs.put_bytes.Statement.{statement}
+use Rattle.hex_lines.proofs.put_bytes.Tie as tie
+use Rattle.hex_lines.proofs.put_bytes.Reads as reads
+use Rattle.hex_lines.proofs.put_bytes.Lts as lts
 use Rattle.spelling.proofs.put_byte.Reads as put-byte-reads
 
 abbrev Inv-loop : tie.InvT-loop
