@@ -175,7 +175,7 @@ fn numbers(f: &[u8], q: Queue, kept: &[u8]) -> [u8; 12]
 
 // D5: a write, behind the others of its channel.
 fn take_write(s: State, f: &[u8], table: &mut [u8], kept: &[u8]) -> State
-    requires { ⌜ (length (now table) ≡ 1472) × (length (now kept) ≡ 48) ⌝ }
+    requires { ⌜ (length (s .channels) ≡ 8) × (length (now table) ≡ 1472) × (length (now kept) ≡ 48) ⌝ }
     ensures { λ r. ⌜ Took (writeTaken (now (f .entry)) (sheet s 0 (now (table .entry)) (now (kept .entry)))) r (now (table .exit)) ⌝ }
 {
     if f.len() != 9 {
@@ -254,7 +254,7 @@ fn take_last(s: State, f: &[u8]) -> State
 
 // A frame that is no channel's, by its first byte.
 fn take_part(first: u8, s: State, f: &[u8], table: &mut [u8], kept: &[u8]) -> State
-    requires { ⌜ (length (now table) ≡ 1472) × (length (now kept) ≡ 48) ⌝ }
+    requires { ⌜ (length (s .channels) ≡ 8) × (length (now table) ≡ 1472) × (length (now kept) ≡ 48) ⌝ }
     ensures { λ r. ⌜ Took (partTaken first (now (f .entry)) (sheet s 0 (now (table .entry)) (now (kept .entry)))) r (now (table .exit)) ⌝ }
 {
     if first == 0xD2 {
@@ -280,7 +280,7 @@ fn take_part(first: u8, s: State, f: &[u8], table: &mut [u8], kept: &[u8]) -> St
 
 // Any frame.
 pub fn take(d: Draft, f: &[u8], table: &mut [u8], kept: &mut [u8]) -> Draft
-    requires { ⌜ (length (now table) ≡ 1472) × (length (now kept) ≡ 48) ⌝ }
+    requires { ⌜ (length (d .state .channels) ≡ 8) × (length (now table) ≡ 1472) × (length (now kept) ≡ 48) ⌝ }
     ensures { λ r. ⌜ Takes (taken (now (f .entry)) (sheet (d .state) (d .seen) (now (table .entry)) (now (kept .entry)))) r (now (table .exit)) (now (kept .exit)) ⌝ }
 {
     if f.len() == 0 {
