@@ -11,7 +11,7 @@
 --   frames s              all lines behind the first, in their order
 --   spelt fs              lines of hexadecimal, each ended by LF
 --   text s                the saved text of a state
---   Saved w s t           the text t was saved of the sound state s of a board with w channels
+--   TextOf w s t          the text t was saved of the sound state s of a board with w channels
 use Prim.Native.Nat.{ℕ, suc, _+_, _/_, _%_}
 use mathlib.Core.Path.{_≡_}
 use mathlib.Core.Bool.{Bool}
@@ -95,7 +95,7 @@ FIRST = 0xD0 ∷ 0x01 ∷ []
 unfoldable pub text : State → List ℕ
 text s = spelt (FIRST ∷ frames s)
 
-pub record Saved (w : ℕ) (s : State) (t : List ℕ) : Type 0 where
+pub record TextOf (w : ℕ) (s : State) (t : List ℕ) : Type 0 where
   pub sane : T (sound s)
   pub width : length (s .channels) ≡ w
   pub saved : t ≡ text s
