@@ -2,14 +2,20 @@
 -- Assumes nothing.
 use Prim.Native.Nat.{ℕ, zero, suc, _+_, _-_, _*_, _/_, _%_, _≤_, _<_}
 use mathlib.Core.Path.{_≡_, refl, ap, sym, _∙_}
+use mathlib.Core.Bool.{Bool, true, false, _&&_}
 use mathlib.Core.List.{List, [], _∷_, _++_, append-assoc, append-nil}
 use native.Mathlib.Omega.{arith}
 use native.Mathlib.Numerals.{add-one}
+use borrow.Author.Tests.{le-leb, lt-leb}
+use lib.Dec.{leb}
 use lib.ListN.{length, take, drop, getD, set, length-append, length-drop}
 use lib.Seq.{take-suc, drop-drop, length-take-le}
 use Rattle.memory.specs.Splice.{splice}
 use Rattle.memory.proofs.Splice.{splice-then, splice-snoc}
+use Rattle.machine.specs.Lists.{if_then_else_}
 use Rattle.machine.specs.Log.{hexDigit, line}
+use Rattle.digits.specs.Digits.{spells, pairs}
+use Rattle.hex_lines.specs.HexLines.{octetsOf}
 use Rattle.spelling.specs.Spelling.{digits}
 
 -- ---- digits
@@ -46,3 +52,30 @@ line-ends out at bs q e h =
     let k = length-digits bs in
     let f : q ≡ at + length (digits bs) = omega arith in
     rw f (splice-snoc out at (digits bs) 10 (omega arith)) ∙ ap (splice out at) (sym (line-digits bs))
+
+-- the digits of some bytes, of some more, then LF
+pub line-put : (out : List ℕ) (at : ℕ) (hs ts : List ℕ) (k e : ℕ) → k ≡ at + 2 * length hs → e ≡ k + 2 * length ts → e < length out
+    → set (splice (splice out at (digits hs)) k (digits ts)) e 10 ≡ splice out at (line (hs ++ ts))
+line-put out at hs ts k e p q h =
+    let a = length-digits hs in
+    let n = length-append hs ts in
+    let x = splice-then out at (digits hs) (digits ts) k (omega arith) (omega arith) in
+    rw (x, ← digits-append hs ts) (line-ends out at (hs ++ ts) e (omega arith) h)
+
+-- ---- the bytes of a line
+
+pub octets-long : (l : List ℕ) → 46 < length l → octetsOf l ≡ []
+unfolding octetsOf
+octets-long l h = rw (lt-leb (length l) 46 h)
+
+pub octets-unspelt : (l : List ℕ) → spells l ≡ false → octetsOf l ≡ []
+unfolding octetsOf
+octets-unspelt l h = rw h (go (leb (length l) 46))
+  where
+    go : (b : Bool) → _≡_ {A = List ℕ} (if b && false then pairs l else []) []
+    go true = refl
+    go false = refl
+
+pub octets-are : (l : List ℕ) → length l ≤ 46 → spells l ≡ true → octetsOf l ≡ pairs l
+unfolding octetsOf
+octets-are l h g = rw (le-leb (length l) 46 h, g)

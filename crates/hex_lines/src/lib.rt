@@ -22,7 +22,7 @@ pub fn put_bytes(out: &mut [u8], at: usize, bs: &[u8])
 
 // A line of some bytes and some more; the place behind it.
 pub fn put_line(out: &mut [u8], at: usize, head: &[u8], tail: &[u8]) -> usize
-    requires { ⌜ at + length (line (now head ++ now tail)) ≤ length (now out) ⌝ }
+    requires { ⌜ at + 2 * (length (now head) + length (now tail)) + 1 ≤ length (now out) ⌝ }
     ensures { λ r. ⌜ Put (now (out .entry)) at (line (now (head .entry) ++ now (tail .entry))) r (now (out .exit)) ⌝ }
 {
     let k = at + 2 * head.len();
@@ -34,7 +34,8 @@ pub fn put_line(out: &mut [u8], at: usize, head: &[u8], tail: &[u8]) -> usize
 }
 
 // The bytes that a line spells, in front of `f`; how many they are. None where it spells none, or more than 23.
-pub fn octets(line: &[u8], f: &mut [u8; 23]) -> usize
+pub fn octets(line: &[u8], f: &mut [u8]) -> usize
+    requires { ⌜ length (now f) ≡ 23 ⌝ }
     ensures { λ n. ⌜ (n ≡ length (octetsOf (now (line .entry)))) × (now (f .exit) ≡ splice (now (f .entry)) 0 (octetsOf (now (line .entry)))) ⌝ }
 {
     if line.len() > 46 {
