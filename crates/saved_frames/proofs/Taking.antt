@@ -7,13 +7,13 @@ use mathlib.Core.List.{List, [], _∷_, _++_, append-nil}
 use native.Mathlib.Omega.{arith}
 use borrow.Author.Tests.{ne-eqb, eq-eqb, le-leb, lt-ltb}
 use lib.Dec.{T, eqb, leb, ltb, eqb→eq, leb→le, ltb→lt}
-use lib.ListN.{length, getD, take, drop, set, replicate, length-append, length-drop}
+use lib.ListN.{length, getD, take, drop, set, replicate, length-append, length-drop, length-set}
 use lib.Seq.{take-all}
 use Rattle.memory.specs.Splice.{splice}
 use Rattle.memory.proofs.Splice.{splice-then}
 use Rattle.machine.specs.Lists.{if_then_else_}
 use Rattle.machine.specs.State.{free}
-use Rattle.machine.proofs.Tests.{by-test, test-true, test-false, and-left, and-right}
+use Rattle.machine.proofs.Tests.{if-elim, by-test, test-true, test-false, and-left, and-right}
 use Rattle.queue.specs.declared.Queue.{Queue}
 use Rattle.queue.specs.Queue.{pushed}
 use Rattle.open_keys.specs.declared.Keys.{Keys}
@@ -358,3 +358,21 @@ module _ (f : List ℕ) (s : State) (n : ℕ) (tb ks : List ℕ) where
         table = t .table ∙ sym (ap (λ (d : Sheet). d .table) a);
         kept = sym (ap (λ (d : Sheet). d .kept) a);
       })
+
+-- ---- no frame changes how many channels there are
+
+module _ (d : Sheet) where
+  abbrev AsMany : Sheet → Type 0
+  AsMany x = length (x .state .channels) ≡ length (d .state .channels)
+
+  pub taken-as-many : (f : List ℕ) → AsMany (taken f d)
+  unfolding taken channelTaken partTaken requestTaken lockTaken waiterTaken writeTaken openTaken lastTaken tookChannel tookRequest tookLock tookWaiter tookWrite tookOpen tookLast
+  taken-as-many f =
+      if-elim AsMany (eqb (getD f 0 0) 0xD1)
+      (λ _. if-elim AsMany (hasChannel f d) (λ _. length-set (d .state .channels) (d .seen) (channelFrom f)) (λ _. refl))
+      (λ _. if-elim AsMany (eqb (getD f 0 0) 0xD2) (λ _. if-elim AsMany (hasRequest f d) (λ _. refl) (λ _. refl))
+      (λ _. if-elim AsMany (eqb (getD f 0 0) 0xD3) (λ _. if-elim AsMany (hasSpan f (d .state .locks)) (λ _. refl) (λ _. refl))
+      (λ _. if-elim AsMany (eqb (getD f 0 0) 0xD4) (λ _. if-elim AsMany (hasSpan f (d .state .waiters)) (λ _. refl) (λ _. refl))
+      (λ _. if-elim AsMany (eqb (getD f 0 0) 0xD5) (λ _. if-elim AsMany (hasWrite f d) (λ _. length-set (d .state .channels) (getD f 1 0) _) (λ _. refl))
+      (λ _. if-elim AsMany (eqb (getD f 0 0) 0xD6) (λ _. if-elim AsMany (hasOpen f d) (λ _. refl) (λ _. refl))
+      (λ _. if-elim AsMany (eqb (getD f 0 0) 0xD7) (λ _. if-elim AsMany (eqb (length f) 3) (λ _. refl) (λ _. refl)) (λ _. refl)))))))
