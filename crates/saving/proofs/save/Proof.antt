@@ -87,7 +87,7 @@ copy-requires c κs =
     let e = p .before .before .before .before in
     let f = text-fits (e .before .sound .ensures .only (not-false _ (e .if2 .left))) (omega arith) in
     let n = page-within (p .spell .ensures) f in
-    let k = length-take-le _ _ n in
+    let k = length-take-le (p .spell .result) (p .spell .last .1 .1 .0) n in
     omega arith
 
 same-length : tie.Need-same-length
