@@ -2,44 +2,26 @@
 -- Assumes nothing.
 --
 --   BADTEXT                  9: no text that was saved
---   opening                  the bytes of the line D001, which every text opens with
---   Accepts t f tb′          the promise of `accept`: the text was saved of the state that the board and the table then hold; or it was
---                            saved of none
 --   Fits st tb dp            each memory has its size
 --   Unmoved c ..             the refusal c: "the state lent stays as it was", and so do the table and the display
 --   Loaded s ..              0, and the state s, its table, and its display counted once
 --   Loads w t st tb dp r ..  the promise of `load` for a board of w channels: 1 comes before 9
 use Prim.Native.Nat.{ℕ}
 use mathlib.Core.Path.{_≡_}
-use mathlib.Core.Bool.{true, false}
-use mathlib.Core.List.{List, [], _∷_}
+use mathlib.Core.List.{List}
 use lib.ListN.{length}
 use Rattle.machine.specs.Numbers.{UNSOUND}
 use Rattle.machine.specs.State.{State}
-use Rattle.machine.specs.Log.{line}
 use Rattle.display.specs.Display.{DISPLAY}
 use Rattle.store.specs.Store.{tableOf}
-use Rattle.board.specs.Board.{structOf, stateIn, Held}
+use Rattle.board.specs.Board.{structOf}
 use Rattle.image.specs.Image.{STATE, Saved}
 use Rattle.sizes.specs.Sizes.{TABLE}
-use Rattle.saved.specs.Saved.{FIRST, TextOf}
+use Rattle.saved.specs.Saved.{TextOf}
 use Rattle.recounting.specs.Recounting.{counted}
-use Rattle.loading.specs.declared.Found.{Found}
 
 abbrev pub BADTEXT : ℕ
 BADTEXT = 9
-
--- "and opens with the line D001"
-abbrev pub opening : List ℕ
-opening = line FIRST
-
-pub record Yes (t : List ℕ) (f : Found) (tb′ : List ℕ) : Type 0 where
-  pub held : Held (f .board) tb′
-  pub text : TextOf 4 (stateIn (f .board) tb′) t
-
-pub record Accepts (t : List ℕ) (f : Found) (tb′ : List ℕ) : Type 0 where
-  pub yes : f .ok ≡ true → Yes t f tb′
-  pub no : f .ok ≡ false → (s : State) → TextOf 4 s t → ⊥
 
 pub record Fits (st tb dp : List ℕ) : Type 0 where
   pub state : length st ≡ STATE
