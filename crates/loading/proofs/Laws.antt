@@ -51,7 +51,7 @@ module _ {w : ℕ} {t st tb dp : List ℕ} where
         loaded = λ _ _ s h. absurd (n s h);
       }
 
-  pub was-saved : {f : Found} {read st′ tb′ dp′ : List ℕ} → Fits st tb dp → w ≡ 4 → Yes t f read → Saved (f .board) st′ → tb′ ≡ read → dp′ ≡ counted (stateIn (f .board) read)
+  pub was-saved : {found : Found} {read st′ tb′ dp′ : List ℕ} → Fits st tb dp → w ≡ 4 → Yes t found read → Saved (found .board) st′ → tb′ ≡ read → dp′ ≡ counted (stateIn (found .board) read)
       → Loads w t st tb dp 0 st′ tb′ dp′
   was-saved {found} {read} {st′} {tb′} {dp′} f e y a b d =
       let u = stateIn (found .board) read in

@@ -1,3 +1,10 @@
+-- `load` meets its contract: the tests say which case of the promise is asked; what was read is the one state of its text. Assumes nothing.
+use mathlib.Core.Path.{_≡_, sym, _∙_}
+use native.Mathlib.Omega.{arith}
+use borrow.Author.Tests.{not-true, not-false}
+use Rattle.board.proofs.Laws.{held-length}
+use Rattle.loading.specs.Loading.{Fits}
+use Rattle.loading.proofs.Laws.{does-not-fit, not-four, not-saved, was-saved, copied-all}
 use borrow.Author.Needs.{needs}
 use Rattle.loading.proofs.load.Statement.{statement}
 use Rattle.loading.proofs.load.Tie as tie
@@ -8,69 +15,67 @@ use Rattle.encoding.proofs.save.Reads as save-reads
 use Rattle.memory.proofs.copy.Reads as copy-reads
 use Rattle.recounting.proofs.recount.Reads as recount-reads
 
--- src/lib.rt:13:9
 returns : tie.Need-returns
-returns c = ?
+returns c = does-not-fit (λ f. let l = f .state in absurd (omega arith))
 
--- src/lib.rt:16:9
 returns-2 : tie.Need-returns-2
-returns-2 c = ?
+returns-2 c = does-not-fit (λ f. let l = f .table in absurd (omega arith))
 
--- src/lib.rt:19:9
 returns-3 : tie.Need-returns-3
-returns-3 c = ?
+returns-3 c = does-not-fit (λ f. let l = f .display in absurd (omega arith))
 
--- src/lib.rt:22:9
 returns-4 : tie.Need-returns-4
-returns-4 c = ?
+returns-4 c = not-four (record { state = omega arith; table = omega arith; display = omega arith }) (λ e. omega arith)
 
--- src/lib.rt:25:37
 slice-aggregate-accept : tie.Need-slice-aggregate-accept
 slice-aggregate-accept c = search needs
 
--- src/lib.rt:25:9
 accept-requires : tie.Need-accept-requires
 accept-requires c κs = search needs
 
--- src/lib.rt:27:9
 returns-5 : tie.Need-returns-5
-returns-5 c = ?
+returns-5 c = not-saved (record { state = omega arith; table = omega arith; display = omega arith }) (omega arith) (c .before .before .before .accept .ensures .no (not-true _ (c .if5 .taken)))
 
--- src/lib.rt:30:5
 save-requires : tie.Need-save-requires
 save-requires c κs = search needs
 
--- src/lib.rt:31:28
 slice-aggregate-copy : tie.Need-slice-aggregate-copy
 slice-aggregate-copy c = search needs
 
--- src/lib.rt:31:5
 copy-requires : tie.Need-copy-requires
 copy-requires c κs = search needs
 
--- src/lib.rt:32:28
 slice-aggregate-recount : tie.Need-slice-aggregate-recount
 slice-aggregate-recount c = search needs
 
--- src/lib.rt:32:5
 recount-requires : tie.Need-recount-requires
-recount-requires c κs = ?
+recount-requires c κs =
+    let y = c .before .before .before .before .before .before .before .before .before .before .before .before .before .before .before .accept .ensures .yes (not-false _ (c .before .before .before .before .before .before .before .before .before .before .before .before .if5 .left)) in
+    (y .held, search needs)
 
--- src/lib.rt:8:1
 same-length : tie.Need-same-length
 same-length c = search needs
 
--- src/lib.rt:8:1
 same-length-2 : tie.Need-same-length-2
 same-length-2 c = search needs
 
--- src/lib.rt:8:1
 same-length-3 : tie.Need-same-length-3
 same-length-3 c = search needs
 
--- src/lib.rt:8:1
+-- the four tests passed
+fits-so : (c : tie.Else4) → Fits (c .before .before .before .before .before .before .before .before .args .state .now) (c .before .before .before .before .before .before .before .before .args .table .now) (c .before .before .before .before .before .before .before .before .args .display .now)
+fits-so c = record { state = omega arith; table = omega arith; display = omega arith }
+
+four-so : (c : tie.Else4) → c .before .before .before .before .before .before .before .before .args .channels ≡ 4
+four-so c = omega arith
+
 returns-6 : tie.Need-returns-6
-returns-6 c = ?
+returns-6 c =
+    let start = c .before .before .before .before .before .before .before .before .before .before .before .before .before .before .before .before .before .before .before .before .before .before .before .before .before .before .before .before in
+    let e = c .before .before .before .before .before .before .before .before .before .before .before .before .before .before .before .before .before .before .before .before in
+    let y = c .before .before .before .before .before .before .before .before .before .before .before .before .before .before .before .before .before .before .accept .ensures .yes (not-false _ (c .before .before .before .before .before .before .before .before .before .before .before .before .before .before .before .if5 .left)) in
+    was-saved (fits-so e) (four-so e) y (c .before .before .before .before .before .before .before .before .before .before .before .before .save .ensures)
+    (c .before .before .before .before .before .before .before .copy .ensures ∙ copied-all (start .args .table .now) _ (held-length (y .held) ∙ sym (fits-so e .table))) (c .before .before .recount .ensures)
 
 pub load-spec : {M : Type 1} → statement M
 load-spec =
