@@ -1008,7 +1008,7 @@ static void count_saved_waiting(const struct Arbiter *a)
 
 static void count_saved_holders(const struct Arbiter *a)
 {
-    unsigned age = 0, wide = 0, over = 0, met = 0, several = 0, channel_age = 0, stopped = 0;
+    unsigned age = 0, wide = 0, over = 0, met = 0, several = 0, channel_age = 0, stopped = 0, alone = 0, highest = 0, unheld = 0;
 
     for (unsigned at = 0; at < a->locks.count; at++) {
         unsigned map = a->request[a->locks.id[at]].map;
@@ -1024,10 +1024,13 @@ static void count_saved_holders(const struct Arbiter *a)
     saved_rows[LOCK_WIDE].count += wide > 0;
     saved_rows[LOCKS_OVER_ONE].count += over > 0;
     for (unsigned c = 0; c < a->channels; c++) {
-        saved_rows[LOCKED_ALONE].count += a->channel[c].locked && (met >> c & 1) == 0;
-        saved_rows[HIGHEST].count += a->channel[c].precedence == 127;
-        saved_rows[FREE_CHANNEL].count += a->channel[c].key == 0;
+        alone += a->channel[c].locked && (met >> c & 1) == 0;
+        highest += a->channel[c].precedence == 127;
+        unheld += a->channel[c].key == 0;
     }
+    saved_rows[LOCKED_ALONE].count += alone > 0;
+    saved_rows[HIGHEST].count += highest > 0;
+    saved_rows[FREE_CHANNEL].count += unheld > 0;
     met = age = 0;
     for (unsigned at = 0; at < a->cycles.count; at++) {
         unsigned bit = a->request[a->cycles.id[at]].map;
