@@ -13,10 +13,10 @@ static const char digits[] = "0123456789ABCDEF";
 
 /* ---- Places of the text ---- */
 
-/* The bytes from here on, so many of them, become these. */
+/* The bytes from here on, so many of them, become these. A text that was spoilt before may end sooner. */
 static void splice(struct Spoilt *t, size_t at, size_t gone, const char *made, size_t count)
 {
-    if (t->length - gone + count > SPOILT_ROOM)
+    if (at > t->length || gone > t->length - at || t->length - gone + count > SPOILT_ROOM)
         return;
     memmove(&t->text[at + count], &t->text[at + gone], t->length - at - gone);
     memcpy(&t->text[at], made, count);
