@@ -1103,12 +1103,15 @@ static void count_saved_whole(const struct Arbiter *a, size_t length)
     saved_rows[BYTES_3000].count += length > 3000;
 }
 
-/* One kind of spoiling after the other. A kind that may not give a good text, or gives nothing else, must keep its word. */
+/* One kind of spoiling after the other. A kind that may not give a good text, or gives nothing else, must keep its word; and what is
+   accepted must be what is saved of it: "every sound state has one spelling". */
 static void count_spoilt(const char *text, size_t length)
 {
     static struct Spoilt t;
+    static char again[SAVED_LONGEST];
     struct Arbiter read;
     struct Display display;
+    size_t written;
     unsigned kind = (unsigned)(texts % spoilt_kinds());
     int refused;
 
@@ -1120,6 +1123,8 @@ static void count_spoilt(const char *text, size_t length)
     spoilt_refused[kind] += (unsigned)refused;
     spoilt_accepted[kind] += (unsigned)!refused;
     unexpected += refused ? spoilt_gives(kind) == SPOILS_GOOD : spoilt_gives(kind) == SPOILS_REFUSED;
+    if (!refused)
+        unexpected += saved_save(&read, again, sizeof again, &written) != DONE || written != t.length || memcmp(again, t.text, written) != 0;
 }
 
 /* The state is saved and comes back, with the numbers of the display that stands beside it. */
