@@ -988,10 +988,12 @@ static void put_saved(const char *name)
         fputs("vectors: the state has no saved text\n", stderr);
         exit(1);
     }
-    printf("\nabbrev pub %s-text : Talk\n%s-text =\n    (\"saved\",\n    ", name, name);
+    printf("\nabbrev pub %s-text : List String\n%s-text =\n    ", name, name);
     for (const char *line = text; line < text + length; line = strchr(line, '\n') + 1)
         printf("\"%.*s\"\n    ∷ ", (int)strcspn(line, "\n"), line);
-    printf("[])\n    ∷ []\n\npub %s : Keeps %s-lines %s-text\nunfolding machine bytes page\n%s = refl\n", name, name, name, name);
+    printf("[]\n\npub %s : Keeps %s-lines %s-text\n"
+           "unfolding machine bytes page text kept channelFrame requestFrame spanFrame writeFrame writeFrames keyFrame frames spelt\n"
+           "%s = refl\n", name, name, name, name);
 }
 
 int main(int count, char **argument)

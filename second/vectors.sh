@@ -1,7 +1,7 @@
 #!/bin/sh
 # Writes crates/vectors/specs/Vectors.antt to standard output: generated logs and generated
 # calls, each with what this program makes of it. The machine must compute the same.
-# vectors.sh saved writes crates/vectors/specs/SavedVectors.antt: generated logs, each with the
+# vectors.sh saved writes crates/saved_vectors/specs/SavedVectors.antt: generated logs, each with the
 # saved text of the state after it.
 cd "$(dirname "$0")" || exit 1
 LC_ALL=C
@@ -25,15 +25,18 @@ saved_vectors() {
 --
 -- The texts have every kind of line: waiting requests with and without NOWAIT, locks and WAITCYCLEs of any age, writes of several
 -- channels, FINISH and PERVOL remembered, open keys. The first is a fresh board's.
+use Prim.Native.String.{String}
 use mathlib.Core.Path.{_≡_, refl}
 use mathlib.Core.List.{List, [], _∷_}
 use Rattle.machine.specs.Text.{bytes, page}
-use Rattle.machine.specs.Drawn.{Talk, given, written}
+use Rattle.machine.specs.State.{fresh}
+use Rattle.machine.specs.Log.{lines, run}
+use Rattle.machine.specs.Drawn.{Talk, given}
 use Rattle.machine.specs.Machine.{machine}
-use Rattle.saved.specs.Saved.{text}
+use Rattle.saved.specs.Saved.{text, kept, channelFrame, requestFrame, spanFrame, writeFrame, writeFrames, keyFrame, frames, spelt}
 
-abbrev pub Keeps : Talk → Talk → Type 0
-Keeps t s = text (after (page (given t))) ≡ page (written s)
+abbrev pub Keeps : Talk → List String → Type 0
+Keeps t s = text (run fresh (lines (page (given t))) .next) ≡ page s
 HEAD
     ./vectors saved fresh-board </dev/null || exit 1
     saved of-everything 39 saved
