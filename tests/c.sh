@@ -68,6 +68,7 @@ elif linker_ready; then
     tried "the example desk that counts cycles" examples/cycles.out examples/cycles.c /dev/null
     tried "the example of two desks" examples/two_desks.out examples/two_desks.c /dev/null
     tried "the example of the wall display" examples/wall.out examples/wall.c /dev/null
+    tried "the example of a state carried to the bench" examples/carry.out examples/carry.c /dev/null
     tried "the example desk that wants stereo" examples/stereo.out examples/stereo.c /dev/null
     tried "a log byte by byte through the service port" second/sample.out examples/port.c second/sample.log
     # Names are bound at the start: to bind one on the way takes a stack of its own, which differs from machine to machine.
