@@ -48,9 +48,9 @@ page() {
     tried "$1" "$work/page$2.out" "$work/page$2.c" /dev/null
 }
 
-# The stack that the page says, of a call and of a fragment; and no more than that is taken on a generated log.
+# The stack that the page says, of a call, of a fragment and of a load; and no more than that is taken on a generated log.
 stack_said() {
-    sed -n 's/.*`qamhudeer_call` took less than \([0-9]*\),\([0-9]*\) bytes of stack and `qamhudeer_feed` less than \([0-9]*\),\([0-9]*\),.*/\1\2 \3\4/p' docs/desk.md
+    sed -n 's/.*`qamhudeer_call` took less than \([0-9]*\),\([0-9]*\) bytes of stack, `qamhudeer_feed` less than \([0-9]*\),\([0-9]*\) and `qamhudeer_load` less than \([0-9]*\),\([0-9]*\),.*/\1\2 \3\4 \5\6/p' docs/desk.md
 }
 
 stack_taken() {
