@@ -1,0 +1,4 @@
+pub mod Needed
+pub mod Settles
+pub mod NothingLeft
+pub mod Witness
