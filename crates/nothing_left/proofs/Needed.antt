@@ -15,7 +15,7 @@ use Rattle.machine.specs.Machine.{machine}
 use Rattle.machine.specs.Sound.{sound}
 use Rattle.machine.specs.Walks.{chan, lock, wait, stands, asks, asksFrom, unrested}
 use Rattle.display.proofs.Runs.{afterCalls}
-use Rattle.nothing_left.specs.Settles.{opens, settles, settlesOne}
+use Rattle.nothing_left.specs.Settles.{opens, settles}
 use Rattle.nothing_left.specs.NothingLeft.{noneGoes, noneFails, noneInTheWay, left}
 
 abbrev pub tells : State → List Bool

@@ -5,9 +5,8 @@
 --   unsettled          the numbers after which nothing settles
 --   opens o            the operation is OPEN
 --   settles s c        the call c in the state s settles
---   settlesOne s cs    one of the calls cs does, made in turn from the state s
 use Prim.Native.Nat.{ℕ}
-use mathlib.Core.Bool.{Bool, true, false, not, _&&_, _||_}
+use mathlib.Core.Bool.{Bool, true, false, not, _&&_}
 use mathlib.Core.List.{List, [], _∷_}
 use lib.Dec.{eqb}
 use Rattle.machine.specs.Numbers.{neg, ALLOCFAILED}
@@ -29,7 +28,3 @@ unfoldable pub settles : State → Call → Bool
 settles s c =
     let e = call s c .answer .error in
     not (among e unsettled) && not (opens (c .op) && eqb e ALLOCFAILED)
-
-unfoldable pub settlesOne : State → List Call → Bool
-settlesOne s [] = false
-settlesOne s (c ∷ cs) = settles s c || settlesOne (call s c .next) cs

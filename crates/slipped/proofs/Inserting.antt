@@ -1,5 +1,6 @@
 -- Why a call that leaves the state is not seen by the others: the calls behind it begin in the state in which they would begin without it.
 -- The display's numbers are corrected by nothing, and a call that settles sets the looks whatever they were.
+-- The tables of Needed.antt are named here so that they are computed first: a wrong definition is told by an example.
 -- Assumes nothing.
 use Prim.Native.Nat.{ℕ, zero, suc, _+_, _*_, _%_, _≤_, _<_}
 use mathlib.Core.Path.{_≡_, refl, ap, ap₂, subst, sym, _∙_}
@@ -22,9 +23,10 @@ use Rattle.display.specs.Looks.{looked}
 use Rattle.display.specs.Display.{NUMBERS, DISPLAY, blank, number, corrected, looksOf, looksBytes, displayed}
 use Rattle.display.proofs.Display.{Bytes, displayed-length, displayed-numbers, displayed-bytes, displayed-refused}
 use Rattle.display.proofs.Runs.{afterCalls, shownAfter}
-use Rattle.nothing_left.specs.Settles.{settles, settlesOne}
+use Rattle.nothing_left.specs.Settles.{settles}
 use Rattle.nothing_left.proofs.Settles.{settles-looks}
-use Rattle.slipped.specs.Slipped.{outcomes, leavingOut, Inserted}
+use Rattle.slipped.specs.Slipped.{outcomes, leavingOut, settlesOne, Inserted}
+use Rattle.slipped.proofs.Needed.{settling-behind}
 
 -- ---- runs made of two
 

@@ -21,8 +21,9 @@ use Rattle.machine.specs.Call.{call}
 use Rattle.machine.specs.Machine.{machine}
 use Rattle.machine.specs.Walks.{asks, asksFrom, unrested}
 use Rattle.display.proofs.Runs.{afterCalls}
+use Rattle.nothing_left.specs.Settles.{opens, settles}
 use Rattle.nothing_left.specs.NothingLeft.{noneGoes, noneFails, noneInTheWay, left}
-use Rattle.slipped.specs.Slipped.{otherCommand, onNoChannel, slips, outcomes, slip}
+use Rattle.slipped.specs.Slipped.{otherCommand, onNoChannel, slips, outcomes, leavingOut, settlesOne, slip}
 
 abbrev pub busy : State
 busy =
@@ -136,3 +137,19 @@ pub rows-slip : (map (λ r. slips (r .state) (r .slipped)) needed ≡ false ∷ 
     × (map (λ r. slips (r .state) (r .slipped)) harmless ≡ false ∷ false ∷ false ∷ true ∷ true ∷ [])
 unfolding machine afterCalls frees slip
 rows-slip = (refl, refl)
+
+-- ---- a run, what is left out of it, and when the looks are a later call's
+
+-- each call begins in the state that the one before it left: FREE grants 60 channel 0, and READ finds it another's
+pub run-goes-on : tells busy (sends 9 7 1 1 [] ∷ sends 2 8 1 1 [] ∷ []) ≡ (0 ∷ 1 ∷ 1 ∷ 255 ∷ 6 ∷ 60 ∷ []) ∷ (246 ∷ 0 ∷ 1 ∷ 255 ∷ []) ∷ []
+unfolding machine afterCalls frees outcomes
+run-goes-on = refl
+
+pub one-left-out : map (λ k. leavingOut {A = ℕ} k (5 ∷ 6 ∷ 7 ∷ [])) (0 ∷ 1 ∷ 2 ∷ 3 ∷ []) ≡ (6 ∷ 7 ∷ []) ∷ (5 ∷ 7 ∷ []) ∷ (5 ∷ 6 ∷ []) ∷ (5 ∷ 6 ∷ 7 ∷ []) ∷ []
+unfolding leavingOut
+one-left-out = refl
+
+-- nothing behind it; a call that is refused; then one that settles
+pub settling-behind : map (settlesOne busy) ([] ∷ (sends 2 64 1 1 [] ∷ []) ∷ (sends 2 64 1 1 [] ∷ sends 2 8 1 1 [] ∷ []) ∷ []) ≡ false ∷ false ∷ true ∷ []
+unfolding machine afterCalls frees opens settles slip
+settling-behind = refl

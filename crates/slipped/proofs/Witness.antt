@@ -18,9 +18,9 @@ use Rattle.machine.specs.Walks.{asks, reply, says}
 use Rattle.display.specs.Looks.{beyond, reached, lookOn, looksIn, looks, acting, looksAfter, lookedBy, looked}
 use Rattle.display.specs.Display.{blank, names, writesOn, naming, number, corrected, displayed, looksOf}
 use Rattle.display.proofs.Runs.{afterCalls, shownAfter}
-use Rattle.nothing_left.specs.Settles.{opens, settles, settlesOne}
+use Rattle.nothing_left.specs.Settles.{opens, settles}
 use Rattle.nothing_left.proofs.Witness.{run}
-use Rattle.slipped.specs.Slipped.{slips, Inserted, slip}
+use Rattle.slipped.specs.Slipped.{slips, settlesOne, Inserted, slip}
 use Rattle.slipped.proofs.Slipped.{nothing-slipped-in}
 
 abbrev pub frees9 : Call

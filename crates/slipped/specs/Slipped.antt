@@ -10,12 +10,13 @@
 --   slips s c              all that the assurance asks of the command that is inserted
 --   outcomes s cs          what calls, made in turn, come to: answer, replies and the state after each
 --   leavingOut k xs        the list without what stands at place k
+--   settlesOne s cs        one of the calls cs, made in turn from s, settles
 --   Inserted s before c behind   how the calls `before`, then c, then `behind` compare with the same calls without c
 --   NothingSlipped         the assurance; a board of n channels, and any other calls
 --   slip                   one name that unfolds these definitions
 use Prim.Native.Nat.{ℕ, suc, _≤_}
 use mathlib.Core.Path.{_≡_}
-use mathlib.Core.Bool.{Bool, false, not, _&&_}
+use mathlib.Core.Bool.{Bool, false, not, _&&_, _||_}
 use mathlib.Core.List.{List, [], _∷_, _++_}
 use lib.Dec.{T, eqb, ltb}
 use lib.ListN.{length, take, drop}
@@ -28,7 +29,7 @@ use Rattle.machine.specs.Sound.{ids}
 use Rattle.machine.specs.Call.{call}
 use Rattle.display.specs.Display.{NUMBERS, blank}
 use Rattle.display.proofs.Runs.{afterCalls, shownAfter}
-use Rattle.nothing_left.specs.Settles.{settlesOne}
+use Rattle.nothing_left.specs.Settles.{settles}
 
 -- ---- what is inserted
 
@@ -60,6 +61,11 @@ outcomes s (c ∷ cs) = call s c ∷ outcomes (call s c .next) cs
 unfoldable pub leavingOut {ℓ} : {A : Type ℓ} → ℕ → List A → List A
 leavingOut k xs = take k xs ++ drop (suc k) xs
 
+-- a call behind which the looks are its own
+unfoldable pub settlesOne : State → List Call → Bool
+settlesOne s [] = false
+settlesOne s (c ∷ cs) = settles s c || settlesOne (call s c .next) cs
+
 -- the display begins blank, as on a fresh device
 pub record Inserted (s : State) (before : List Call) (c : Call) (behind : List Call) : Type 0 where
   -- "every other call's answer and replies, and the state after them, are as without it"
@@ -81,5 +87,5 @@ NothingSlipped =
     → Inserted (freshOn n) before c behind
 
 unfoldable pub slip : Unit {0}
-unfolding otherCommand onNoChannel mild slips outcomes leavingOut
+unfolding otherCommand onNoChannel mild slips outcomes leavingOut settlesOne
 slip = tt
