@@ -53,11 +53,11 @@ pub mild-unseen : (s : State) (before : List Call) (c : Call) (behind : List Cal
     → Inserted s before c behind
 mild-unseen s before c behind l t = unmoved-inserted s before c behind (mild-stays (afterCalls s before) c (nothing-left-behind s before l) t)
 
-slips-mild : (s : State) (c : Call) → T (slips s c) → T (mild s c)
+pub slips-mild : (s : State) (c : Call) → T (slips s c) → T (mild s c)
 unfolding slips
 slips-mild s c t = and-right (ltb (c .id) REQUESTS && not (among (c .id) (ids s)) && not (foreign c)) (mild s c) t
 
-fresh-left : (n : ℕ) → NothingLeft (freshOn n)
+pub fresh-left : (n : ℕ) → NothingLeft (freshOn n)
 fresh-left n = rest-left (freshOn n) (fresh-rests n)
 
 pub nothing-slipped-in : NothingSlipped
