@@ -25,12 +25,12 @@ use Rattle.inspected_code.proofs.Runs.{Follows, follows, fresh-held, fr
 
 -- ---- from a fresh board
 
-record FollowsFresh (w : ℕ) (xs : List Step) : Type 0 where
-  held : Held (boardAfter (freshBoard w) xs) (tableAfter (tableOf (freshOn w)) xs)
-  same : stateAfter w xs ≡ afterCalls (freshOn w) (calls xs)
-  shown : displayAfter blank xs ≡ shownAfter (freshOn w) (calls xs) blank
+pub record FollowsFresh (w : ℕ) (xs : List Step) : Type 0 where
+  pub held : Held (boardAfter (freshBoard w) xs) (tableAfter (tableOf (freshOn w)) xs)
+  pub same : stateAfter w xs ≡ afterCalls (freshOn w) (calls xs)
+  pub shown : displayAfter blank xs ≡ shownAfter (freshOn w) (calls xs) blank
 
-follows-fresh : (w : ℕ) → T (sized w) → (xs : List Step) → Fresh w xs → FollowsFresh w xs
+pub follows-fresh : (w : ℕ) → T (sized w) → (xs : List Step) → Fresh w xs → FollowsFresh w xs
 unfolding stateAfter
 follows-fresh w t xs r =
     let h = fresh-held w t in
