@@ -50,7 +50,7 @@ unfolding outcomes
 outcomes-length s [] = refl
 outcomes-length s (x ∷ xs) = ap suc (outcomes-length (call s x .next) xs)
 
-leaving-middle {ℓ} : {A : Type ℓ} (k : ℕ) (xs : List A) (y : A) (ys : List A) → length xs ≡ k → leavingOut k (xs ++ y ∷ ys) ≡ xs ++ ys
+pub leaving-middle {ℓ} : {A : Type ℓ} (k : ℕ) (xs : List A) (y : A) (ys : List A) → length xs ≡ k → leavingOut k (xs ++ y ∷ ys) ≡ xs ++ ys
 unfolding leavingOut
 leaving-middle zero [] y ys e = refl
 leaving-middle zero (x ∷ xs) y ys e = absurd (omega arith)
