@@ -1,5 +1,6 @@
 -- Both assurances of the machine, read off a log: the state after lines is the state after their calls, and the display too, since a
 -- malformed line leaves both. A line that leaves the state is not seen by those behind it. That holds of a malformed one as well.
+-- Witness.antt is named here so that its tables are computed first: a wrong definition is told by an example.
 -- Assumes nothing.
 use Prim.Native.Nat.{ℕ, zero, suc}
 use mathlib.Core.Path.{_≡_, refl, ap, ap₂, sym, subst, _∙_}
@@ -20,6 +21,7 @@ use Rattle.slipped.specs.Slipped.{slips, leavingOut, settlesOne, Inserted as In
 use Rattle.slipped.proofs.Inserting.{leaving-middle}
 use Rattle.slipped.proofs.Slipped.{slips-mild, mild-stays, nothing-slipped-in}
 use Rattle.inspected_lines.specs.Lines.{callIn, together, callsIn, slipsBy, outputs, shownBy, Left·log, Inserted, Slipped·log}
+use Rattle.inspected_lines.proofs.Witness.{written-with}
 
 -- ---- the calls of a log
 
