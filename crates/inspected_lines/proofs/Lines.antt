@@ -139,6 +139,18 @@ module _ (n : ℕ) (before : List (List ℕ)) (l : List ℕ) (behind : List (Lis
       inserted-by s₀ before l behind stays (ap (take NUMBERS) a ∙ m .numbers ∙ ap (take NUMBERS) (sym b))
       (λ y. a ∙ m .looks (subst (λ (x : State). T (settlesOne x (callsIn behind))) r y) ∙ sym b)
 
+-- it leaves the state
+pub line-stays : (n : ℕ) (before : List (List ℕ)) (l : List ℕ) → T (slipsBy (run (freshOn n) before .next) (callIn l)) → feed (run (freshOn n) before .next) l .next ≡ run (freshOn n) before .next
+unfolding slipsBy outcomeOf
+line-stays n before l t = go (callIn l) refl t
+  where
+    s : State
+    s = run (freshOn n) before .next
+
+    go : (o : Option Call) → callIn l ≡ o → T (slipsBy s o) → feed s l .next ≡ s
+    go none e u = absurd u
+    go (some c) e u = feed-by s l (some c) e ∙ mild-stays s c (nothing-left-by-a-log n before) (slips-mild s c u)
+
 pub nothing-slipped-into-a-log : Slipped·log
 unfolding slipsBy
 nothing-slipped-into-a-log n before l behind t = go (callIn l) refl t
