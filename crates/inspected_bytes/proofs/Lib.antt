@@ -1,2 +1,4 @@
 pub mod Runs
 pub mod Inspected
+pub mod Made
+pub mod Witness
