@@ -1,5 +1,6 @@
 -- A run of the code from a board and a table that hold a sound state is the machine's run from that state, with the machine's display; and
--- the calls of a run are determined by what is handed in.
+-- the calls of a run are determined by what is handed in. Examples.antt is named here so that it is computed first: a wrong definition is
+-- told by an example.
 -- Assumes nothing.
 --
 --   Chain st tb ts    the calls of a run, without the displays
@@ -21,6 +22,7 @@ use Rattle.board.proofs.Laws.{fresh-of, fresh-sane, held-next}
 use Rattle.code_runs.specs.CodeRuns.{Turn, asked, Took}
 use Rattle.code_runs.proofs.CodeRuns.{took-held, took-next, one-turn}
 use Rattle.inspected_code.specs.Inspected.{Step, Stepped, Ran, turns, calls, boardAfter, tableAfter, displayAfter, Handed, handed}
+use Rattle.inspected_code.proofs.Examples.{hands}
 
 -- ---- the machine's run
 

@@ -15,7 +15,7 @@ use Rattle.machine.specs.Machine.{machine}
 use Rattle.machine_laws.proofs.Lists.{all-append}
 use Rattle.display.specs.Display.{blank, displayed}
 use Rattle.display.proofs.Runs.{afterCalls, shownAfter}
-use Rattle.board.specs.Board.{sized, freshBoard}
+use Rattle.board.specs.Board.{sized}
 use Rattle.code_runs.specs.CodeRuns.{asked}
 use Rattle.code_runs.proofs.Made.{made as turnOf}
 use Rattle.two_runs.specs.TwoRuns.{counted, inBytes}
@@ -23,7 +23,7 @@ use Rattle.nothing_left.specs.NothingLeft.{NothingLeft}
 use Rattle.nothing_left.proofs.Witness.{run}
 use Rattle.slipped.specs.Slipped.{slips}
 use Rattle.slipped.proofs.Witness.{early, late, frees9, frees9-slips}
-use Rattle.inspected_code.specs.Inspected.{Step, turns, calls, boardAfter, stateAfter, Fresh, Inserted}
+use Rattle.inspected_code.specs.Inspected.{Step, turns, calls, stateAfter, Fresh, Inserted}
 use Rattle.inspected_code.proofs.Made.{asked-of, made, made-append, calls-made, handed-parts, machine-runs-are-runs-of-the-code}
 use Rattle.inspected_code.proofs.Inspected.{follows-fresh, nothing-left-by-the-code, nothing-slipped-into-the-code}
 
@@ -68,10 +68,3 @@ left-after = (
   nothing-left-by-the-code 4 tt (made (freshOn 4) blank run) (machine-runs-are-runs-of-the-code 4 tt run (unfold machine counted inBytes in tt)),
   nothing-left-by-the-code 8 tt (made (freshOn 8) blank run) (machine-runs-are-runs-of-the-code 8 tt run (unfold machine counted inBytes in tt)),
 )
-
--- what happens in it: each answer's error, and how many replies; the last key issued in the end
-pub happens : (map (λ x. x .outcome .answer .error) (turns (made (freshOn 4) blank run)) ≡ 0 ∷ 0 ∷ 0 ∷ 0 ∷ 0 ∷ 0 ∷ 4 ∷ 0 ∷ [])
-    × (map (λ x. x .outcome .n) (turns (made (freshOn 4) blank run)) ≡ 0 ∷ 0 ∷ 0 ∷ 0 ∷ 1 ∷ 0 ∷ 0 ∷ 3 ∷ [])
-    × (boardAfter (freshBoard 4) (made (freshOn 4) blank run) .state .last ≡ 3)
-unfolding machine frees boardAfter
-happens = (refl, refl, refl)
