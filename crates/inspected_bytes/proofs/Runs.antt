@@ -1,5 +1,6 @@
 -- A run at the boundary from bytes that hold a sound state is the machine's run from that state, with the machine's display; and what comes
--- back is determined by what is handed in, whatever the display shows.
+-- back is determined by what is handed in, whatever the display shows. Examples.antt is named here so that it is computed first: a wrong
+-- definition is told by an example.
 -- Assumes nothing.
 --
 --   Chain st tb ts    the calls of a run, whatever display was lent
@@ -26,6 +27,7 @@ use Rattle.code_runs.proofs.CodeRuns.{count-of}
 use Rattle.c_runs.specs.CRuns.{Turn, request, asked, Took}
 use Rattle.c_runs.proofs.CRuns.{over, tells}
 use Rattle.inspected_bytes.specs.Inspected.{Ran, calls, stateAfter, tableAfter, displayAfter, holds, Handed, handed, Back, back}
+use Rattle.inspected_bytes.proofs.Examples.{hands}
 
 -- ---- one call
 

@@ -1,6 +1,6 @@
 -- The program writes what the machine's log gives, whatever the lumps; what is written for lines falls into what is written for the first of
 -- them and for the rest. An inserted line leaves the state, so the rest is as without it; what is shown of the display alone may differ,
--- and no more once a line settles.
+-- and no more once a line settles. Examples.antt is named here so that it is computed first: a wrong definition is told by an example.
 -- Assumes nothing.
 use Prim.Native.Nat.{ℕ}
 use mathlib.Core.Path.{_≡_, refl, ap, ap₂, sym, subst, _∙_}
@@ -21,6 +21,7 @@ use Rattle.slipped.specs.Slipped.{settlesOne}
 use Rattle.inspected_lines.specs.Lines.{callIn, callsIn, slipsBy, shownBy, Inserted as InsertedL}
 use Rattle.inspected_lines.proofs.Lines.{nothing-slipped-into-a-log, line-stays}
 use Rattle.inspected_log.specs.Program.{Read, text, own, more, Inserted, Slipped·program}
+use Rattle.inspected_log.proofs.Examples.{written-behind}
 
 -- ---- what is written for lines
 

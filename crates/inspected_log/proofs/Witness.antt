@@ -6,17 +6,16 @@ use mathlib.Core.Path.{_≡_, refl, ap, sym, _∙_}
 use mathlib.Core.List.{List, [], _∷_, _++_}
 use native.Mathlib.Omega.{arith}
 use lib.ListN.{length, replicate, take, drop, length-replicate}
-use Rattle.machine.specs.State.{freshOn, frees}
+use Rattle.machine.specs.State.{freshOn}
 use Rattle.machine.specs.Log.{lines}
 use Rattle.machine.specs.Machine.{machine}
 use Rattle.machine.specs.Text.{bytes, page}
 use Rattle.display.specs.Display.{blank}
 use Rattle.store.specs.Store.{tableOf}
 use Rattle.board.specs.Board.{structOf}
-use Rattle.taking.specs.Desk.{hidden, shownOf, fed, runShown}
+use Rattle.taking.specs.Desk.{hidden}
 use Rattle.whole_log.specs.Whole.{joined}
 use Rattle.whole_log.proofs.Runs.{Runs, run-exists}
-use Rattle.inspected_lines.specs.Lines.{logging}
 use Rattle.inspected_lines.proofs.Witness.{before, slipped, behind, slips-there}
 use Rattle.inspected_log.specs.Program.{Inserted, text, own, more}
 use Rattle.inspected_log.proofs.Program.{nothing-slipped-into-the-program}
@@ -54,19 +53,7 @@ unseen =
     nothing-slipped-into-the-program hidden 4 tt [] [] lent lent before slipped behind with-lumps without-lumps (ran with-lumps .out) (ran without-lumps .out)
     (record { ran = ran with-lumps .ran; spelt = with-spelt }) (record { ran = ran without-lumps .ran; spelt = without-spelt }) slips-there
 
--- the three parts of what is written
-pub written-before : text hidden 4 before ≡ page ("A000000001FF" ∷ "A000030001FF" ∷ "A100000001FF" ∷ "C0060DF4010001" ∷ "A100000000FF" ∷ [])
-unfolding machine frees bytes page runShown fed shownOf logging
-written-before = refl
-
-pub written-own : own hidden 4 before slipped ≡ page ("C00903F6000009" ∷ "A0F6000009FF" ∷ [])
-unfolding machine frees bytes page runShown fed shownOf logging
-written-own = refl
-
-pub written-behind : more hidden 4 before behind ≡ page ("C0072000030002" ∷ "A000030001FF" ∷ [])
-unfolding machine frees bytes page runShown fed shownOf logging
-written-behind = refl
-
+-- crates/inspected_log/proofs/Examples.antt has the three parts
 pub written : (ran with-lumps .out ≡ text hidden 4 before ++ (own hidden 4 before slipped ++ more hidden 4 before behind))
     × (ran without-lumps .out ≡ text hidden 4 before ++ more hidden 4 before behind)
 written = (unseen .within tt, unseen .without)
