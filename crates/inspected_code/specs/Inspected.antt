@@ -16,11 +16,12 @@
 --   Inserted ..          how a run with the call x compares with one, ys, without it
 --   Slipped·code         the second assurance
 --   inspecting           one name that unfolds these definitions
-use Prim.Native.Nat.{ℕ}
+use Prim.Native.Nat.{ℕ, _≤_}
 use mathlib.Core.Path.{_≡_}
 use mathlib.Core.List.{List, [], _∷_, _++_, map}
-use lib.Dec.{T}
-use lib.ListN.{take}
+use lib.Dec.{T, eqb}
+use lib.ListN.{getD, take}
+use Rattle.machine.specs.Lists.{all}
 use Rattle.machine.specs.State.{Call, State as StateM, freshOn}
 use Rattle.display.specs.Display.{NUMBERS, blank}
 use Rattle.store.specs.Store.{tableOf}
@@ -29,7 +30,7 @@ use Rattle.board.specs.Board.{sized, freshBoard, stateIn}
 use Rattle.answers.specs.declared.Request.{Request}
 use Rattle.refusals.specs.declared.Op.{Op}
 use Rattle.arbiter.specs.Arbiter.{Shows}
-use Rattle.code_runs.specs.CodeRuns.{Turn, asked, Took}
+use Rattle.code_runs.specs.CodeRuns.{Turn, asked, Took, records}
 use Rattle.nothing_left.specs.NothingLeft.{NothingLeft}
 use Rattle.slipped.specs.Slipped.{slips, settlesOne}
 
@@ -97,6 +98,9 @@ pub record Inserted (w : ℕ) (before : List Step) (x : Step) (behind ys : List 
   -- the board and the table that it left are those that it took
   pub board : x .turn .outcome .state ≡ boardAfter (freshBoard w) before
   pub table : x .turn .table ≡ tableAfter (tableOf (freshOn w)) before
+  -- it reports a reply to its own id at most: a record's first byte is its id
+  pub own : T (all (λ b. eqb (getD b 0 0) (x .turn .request .id)) (records (x .turn .outcome .n) (x .turn .list)))
+  pub once : x .turn .outcome .n ≤ 1
   -- the numbers of the display
   pub numbers : take NUMBERS (displayAfter blank (before ++ x ∷ behind)) ≡ take NUMBERS (displayAfter blank ys)
   -- "The count of looks from #110 is the exception"
