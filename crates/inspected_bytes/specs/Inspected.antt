@@ -11,20 +11,24 @@
 --   holds st tb          the state that bytes hold
 --   Handed, handed t     what is handed in with a call: its numbers, combinations, reply list and room for the answer
 --   Back, back t         what came back: the result, and the bytes of state, table, reply list and answer
+--   reported t           the records that a call reports
 --   Left·bytes           the first assurance
 --   Inserted ..          how a run with the call t compares with one, us, without it
 --   Slipped·bytes        the second assurance
 --   inspecting           one name that unfolds these definitions
-use Prim.Native.Nat.{ℕ}
+use Prim.Native.Nat.{ℕ, _≤_}
 use mathlib.Core.Path.{_≡_}
 use mathlib.Core.List.{List, [], _∷_, _++_, map}
-use lib.Dec.{T}
-use lib.ListN.{take}
+use lib.Dec.{T, eqb}
+use lib.ListN.{length, getD, take, drop}
+use Rattle.machine.specs.Lists.{all}
 use Rattle.machine.specs.State.{Call, State as StateM}
 use Rattle.display.specs.Display.{NUMBERS}
 use Rattle.board.specs.Board.{stateIn}
 use Rattle.image.specs.Image.{stateOf}
+use Rattle.sizes.specs.Sizes.{REPLIES}
 use Rattle.starting.specs.Starting.{Fits, Started}
+use Rattle.code_runs.specs.CodeRuns.{records}
 use Rattle.c_runs.specs.CRuns.{Turn, asked, Took}
 use Rattle.nothing_left.specs.NothingLeft.{NothingLeft}
 use Rattle.slipped.specs.Slipped.{slips, settlesOne}
@@ -110,13 +114,20 @@ pub record Back : Type 0 where
 unfoldable pub back : Turn → Back
 back t = record { n = t .n; state = t .state; table = t .table; list = t .list; answer = t .answer }
 
+-- the records that a call reports: as many of the first half as its answer's first number says, then of the second
+unfoldable pub reported : Turn → List (List ℕ)
+reported t = records (getD (t .answer) 6 0) (t .list) ++ records (getD (t .answer) 7 0) (drop 192 (t .list))
+
 pub record Inserted (st tb dp : List ℕ) (before : List Turn) (t : Turn) (behind us : List Turn) : Type 0 where
   -- "every other call's answer and replies, and the state after them": byte for byte
   pub others : map back (before ++ behind) ≡ map back us
   -- not a byte of the state or the table moved
   pub state : t .state ≡ stateAfter st before
   pub table : t .table ≡ tableAfter tb before
-  -- nor any of the display's numbers
+  -- it reports a reply to its own id at most: a record's first byte is its id (a list of fewer than 64 records is refused with 5)
+  pub own : REPLIES ≤ length (t .lent) → T (all (λ b. eqb (getD b 0 0) (t .id)) (reported t))
+  pub once : t .n ≤ 1
+  -- nor did any of the display's numbers
   pub numbers : take NUMBERS (displayAfter dp (before ++ t ∷ behind)) ≡ take NUMBERS (displayAfter dp us)
   -- "The count of looks from #110 is the exception"
   pub looks : T (settlesOne (holds (stateAfter st before) (tableAfter tb before)) (calls behind))
@@ -130,5 +141,5 @@ Slipped·bytes =
     → T (slips (holds (stateAfter st before) (tableAfter tb before)) (asked t)) → Inserted st tb dp before t behind us
 
 unfoldable pub inspecting : Unit {0}
-unfolding stateAfter tableAfter displayAfter handed back
+unfolding stateAfter tableAfter displayAfter handed back reported
 inspecting = tt
