@@ -29,7 +29,7 @@ use Rattle.nothing_left.specs.NothingLeft.{NothingLeft}
 use Rattle.nothing_left.proofs.NothingLeft.{nothing-left-standing}
 use Rattle.slipped.specs.Slipped.{mild, settlesOne}
 use Rattle.slipped.proofs.Slipped.{slips-mild, mild-stays, mild-unseen, fresh-left}
-use Rattle.inspected_bytes.specs.Inspected.{Ran, Fresh, calls, stateAfter, tableAfter, displayAfter, holds, handed, back, reported, Left·bytes, Inserted, Slipped·bytes}
+use Rattle.inspected_bytes.specs.Inspected.{Ran, Fresh, calls, stateAfter, tableAfter, displayAfter, holds, handed, reported, Left·bytes, Inserted, Slipped·bytes}
 use Rattle.inspected_bytes.proofs.Runs.{follows, front, rest, left-alone, chain, chain-without, one-chain, calls-same}
 
 -- ---- from the bytes of a fresh device

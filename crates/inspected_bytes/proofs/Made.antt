@@ -5,10 +5,9 @@
 --   bytesOf s         the bytes of a state
 --   turnOf s d a      the call a in the state s, with the display d, as it may become
 --   made s d qs       a run of such calls
-use Prim.Native.Nat.{ℕ, _+_, _≤_}
+use Prim.Native.Nat.{ℕ, _+_}
 use mathlib.Core.Path.{_≡_, refl, ap, ap₂, sym, subst, _∙_}
 use mathlib.Core.List.{List, [], _∷_, _++_, map, map-append}
-use native.Mathlib.Omega.{arith}
 use lib.Dec.{T, leb, leb→le}
 use lib.ListN.{length, replicate, length-replicate}
 use Rattle.machine.specs.Lists.{all}
@@ -36,9 +35,9 @@ use Rattle.sizes.specs.Sizes.{TABLE}
 use Rattle.starting.specs.Starting.{Fits, Started}
 use Rattle.handed.specs.Handed.{opFor, answerBytes}
 use Rattle.boundary.proofs.Crossing.{fresh-after}
-use Rattle.two_runs.specs.TwoRuns.{counted, inBytes}
+use Rattle.two_runs.specs.TwoRuns.{inBytes}
 use Rattle.code_runs.proofs.Made.{OnBoard, board-held, board-next, board-state, bytes-count, bytes-range, sound-next}
-use Rattle.c_runs.specs.CRuns.{Turn, asked, request, Took}
+use Rattle.c_runs.specs.CRuns.{Turn, request, Took}
 use Rattle.c_runs.proofs.Witness.{Ask, spelt, bytesOf, bytes-whole, bytes-state}
 use Rattle.inspected_bytes.specs.Inspected.{Ran, Fresh, calls, Handed, handed}
 

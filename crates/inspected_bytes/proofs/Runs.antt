@@ -11,12 +11,10 @@ use native.Mathlib.Omega.{arith}
 use native.Mathlib.Nat.{mod-lt}
 use Rattle.machine.specs.State.{Call, State as StateM}
 use Rattle.machine.specs.Call.{call}
-use Rattle.machine.specs.Log.{opOf}
 use Rattle.display.specs.Display.{displayed}
 use Rattle.display.proofs.Runs.{afterCalls, shownAfter}
 use Rattle.store.specs.Store.{tableOf}
-use Rattle.board.specs.declared.Board.{Board}
-use Rattle.board.specs.Board.{structOf, stateIn, Held}
+use Rattle.board.specs.Board.{structOf, Held}
 use Rattle.image.specs.Image.{imageOf, stateOf, Whole}
 use Rattle.image.proofs.Round.{imageOf-stateOf}
 use Rattle.desk_call.specs.declared.Outcome.{Outcome}
@@ -24,7 +22,7 @@ use Rattle.desk_call.proofs.Promise.{one-call}
 use Rattle.handed.specs.Handed.{answerBytes}
 use Rattle.boundary.proofs.Crossing.{sound-after}
 use Rattle.code_runs.proofs.CodeRuns.{count-of}
-use Rattle.c_runs.specs.CRuns.{Turn, request, asked, Took}
+use Rattle.c_runs.specs.CRuns.{Turn, asked, Took}
 use Rattle.c_runs.proofs.CRuns.{over, tells}
 use Rattle.inspected_bytes.specs.Inspected.{Ran, calls, stateAfter, tableAfter, displayAfter, holds, Handed, handed, Back, back}
 use Rattle.inspected_bytes.proofs.Examples.{hands}

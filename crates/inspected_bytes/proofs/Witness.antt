@@ -2,19 +2,18 @@
 -- channels.
 -- Assumes nothing.
 use Prim.Native.Nat.{ℕ}
-use mathlib.Core.Path.{_≡_, refl, ap, sym, subst, _∙_}
-use mathlib.Core.List.{List, [], _∷_, _++_, map}
+use mathlib.Core.Path.{_≡_, ap, subst, _∙_}
+use mathlib.Core.List.{List, _∷_, _++_}
 use lib.Dec.{T}
-use Rattle.machine.specs.State.{Call, State as StateM, freshOn, frees}
-use Rattle.machine.specs.Lists.{all}
+use Rattle.machine.specs.State.{State as StateM, freshOn, frees}
 use Rattle.machine.specs.Call.{call}
 use Rattle.machine.specs.Machine.{machine}
 use Rattle.display.specs.Display.{blank, displayed}
 use Rattle.display.proofs.Runs.{afterCalls, shownAfter}
 use Rattle.store.specs.Store.{tableOf}
 use Rattle.two_runs.specs.TwoRuns.{counted, inBytes}
-use Rattle.c_runs.specs.CRuns.{Turn, asked}
-use Rattle.c_runs.proofs.Witness.{Ask, spelt, bytesOf}
+use Rattle.c_runs.specs.CRuns.{Turn}
+use Rattle.c_runs.proofs.Witness.{spelt, bytesOf}
 use Rattle.nothing_left.specs.NothingLeft.{NothingLeft}
 use Rattle.slipped.specs.Slipped.{slips, slip}
 use Rattle.inspected_bytes.specs.Inspected.{Ran, stateAfter, tableAfter, holds, Inserted}

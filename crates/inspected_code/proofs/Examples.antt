@@ -1,6 +1,5 @@
 -- What a run of the code is, what it leaves and what is handed in, by computation, of the run of crates/nothing_left.
 -- Assumes nothing.
-use Prim.Native.Nat.{ℕ}
 use mathlib.Core.Path.{_≡_, refl}
 use mathlib.Core.List.{List, [], _∷_, _++_, map}
 use lib.ListN.{length, getD, replicate, take}

@@ -2,7 +2,7 @@
 -- board and the table byte for byte, since a state has one board and one table; so the calls behind it took what they would have
 -- taken without it, and no second outcome fits them.
 -- Assumes nothing.
-use Prim.Native.Nat.{ℕ, _+_, _≤_}
+use Prim.Native.Nat.{ℕ, _+_}
 use mathlib.Core.Path.{_≡_, refl, ap, ap₂, sym, subst, _∙_}
 use mathlib.Core.Bool.{Bool, _&&_}
 use mathlib.Core.List.{List, [], _∷_, _++_, map, map-append}
@@ -26,8 +26,8 @@ use Rattle.nothing_left.specs.NothingLeft.{NothingLeft}
 use Rattle.nothing_left.proofs.NothingLeft.{nothing-left-standing}
 use Rattle.slipped.specs.Slipped.{mild, settlesOne}
 use Rattle.slipped.proofs.Slipped.{slips-mild, mild-stays, mild-unseen, fresh-left}
-use Rattle.inspected_code.specs.Inspected.{Step, Ran, Fresh, turns, calls, boardAfter, tableAfter, displayAfter, stateAfter, handed, Left·code, Inserted, Slipped·code}
-use Rattle.inspected_code.proofs.Runs.{Follows, follows, fresh-held, front, back, chain, chain-without, one-chain}
+use Rattle.inspected_code.specs.Inspected.{Step, Fresh, turns, calls, boardAfter, tableAfter, displayAfter, stateAfter, handed, Left·code, Inserted, Slipped·code}
+use Rattle.inspected_code.proofs.Runs.{follows, fresh-held, front, back, chain, chain-without, one-chain}
 
 -- ---- from a fresh board
 

@@ -9,19 +9,18 @@ use mathlib.Core.Path.{_≡_, refl, ap, ap₂, sym, subst, _∙_}
 use mathlib.Core.List.{List, [], _∷_, _++_, map}
 use native.Mathlib.Omega.{arith}
 use lib.Dec.{T}
-use lib.ListN.{length}
-use Rattle.machine.specs.State.{Call, State as StateM, freshOn}
+use Rattle.machine.specs.State.{State as StateM, freshOn}
 use Rattle.machine_laws.proofs.Sound.{parts}
 use Rattle.widening.proofs.Maps.{length-frees}
 use Rattle.display.proofs.Runs.{afterCalls, shownAfter}
 use Rattle.store.specs.Store.{tableOf}
 use Rattle.board.specs.declared.Board.{Board}
 use Rattle.board.specs.declared.Outcome.{Outcome}
-use Rattle.board.specs.Board.{sized, freshBoard, structOf, stateIn, Held}
+use Rattle.board.specs.Board.{sized, freshBoard, stateIn, Held}
 use Rattle.board.proofs.Laws.{fresh-of, fresh-sane, held-next}
-use Rattle.code_runs.specs.CodeRuns.{Turn, asked, Took}
+use Rattle.code_runs.specs.CodeRuns.{Turn, Took}
 use Rattle.code_runs.proofs.CodeRuns.{took-held, took-next, one-turn}
-use Rattle.inspected_code.specs.Inspected.{Step, Stepped, Ran, turns, calls, boardAfter, tableAfter, displayAfter, Handed, handed}
+use Rattle.inspected_code.specs.Inspected.{Step, Ran, turns, calls, boardAfter, tableAfter, displayAfter, Handed, handed}
 use Rattle.inspected_code.proofs.Examples.{hands}
 
 -- ---- the machine's run

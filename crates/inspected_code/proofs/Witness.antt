@@ -4,26 +4,23 @@
 --
 --   inserted s d c       the call as a step of the code
 use Prim.Native.Nat.{ℕ}
-use mathlib.Core.Path.{_≡_, refl, ap, sym, subst, _∙_}
-use mathlib.Core.Bool.{true, false}
-use mathlib.Core.List.{List, [], _∷_, _++_, map}
+use mathlib.Core.Path.{_≡_, ap, subst, _∙_}
+use mathlib.Core.List.{List, _∷_, _++_}
 use lib.Dec.{T}
-use Rattle.machine.specs.State.{Call, State as StateM, freshOn, frees}
+use Rattle.machine.specs.State.{Call, State as StateM, freshOn}
 use Rattle.machine.specs.Lists.{all}
 use Rattle.machine.specs.Call.{call}
 use Rattle.machine.specs.Machine.{machine}
-use Rattle.machine_laws.proofs.Lists.{all-append}
 use Rattle.display.specs.Display.{blank, displayed}
 use Rattle.display.proofs.Runs.{afterCalls, shownAfter}
 use Rattle.board.specs.Board.{sized}
-use Rattle.code_runs.specs.CodeRuns.{asked}
 use Rattle.code_runs.proofs.Made.{made as turnOf}
 use Rattle.two_runs.specs.TwoRuns.{counted, inBytes}
 use Rattle.nothing_left.specs.NothingLeft.{NothingLeft}
 use Rattle.nothing_left.proofs.Witness.{run}
 use Rattle.slipped.specs.Slipped.{slips}
 use Rattle.slipped.proofs.Witness.{early, late, frees9, frees9-slips}
-use Rattle.inspected_code.specs.Inspected.{Step, turns, calls, stateAfter, Fresh, Inserted}
+use Rattle.inspected_code.specs.Inspected.{Step, stateAfter, Fresh, Inserted}
 use Rattle.inspected_code.proofs.Made.{asked-of, made, made-append, calls-made, handed-parts, machine-runs-are-runs-of-the-code}
 use Rattle.inspected_code.proofs.Inspected.{follows-fresh, nothing-left-by-the-code, nothing-slipped-into-the-code}
 

@@ -2,24 +2,22 @@
 -- malformed line leaves both. A line that leaves the state is not seen by those behind it. That holds of a malformed one as well.
 -- Witness.antt is named here so that its tables are computed first: a wrong definition is told by an example.
 -- Assumes nothing.
-use Prim.Native.Nat.{ℕ, zero, suc}
-use mathlib.Core.Path.{_≡_, refl, ap, ap₂, sym, subst, _∙_}
+use Prim.Native.Nat.{ℕ, suc}
+use mathlib.Core.Path.{_≡_, refl, ap, sym, subst, _∙_}
 use mathlib.Core.List.{List, [], _∷_, _++_, append-assoc}
 use mathlib.Core.Option.{Option, none, some}
-use native.Mathlib.Omega.{arith}
 use lib.Dec.{T}
-use lib.ListN.{length, take, drop}
+use lib.ListN.{length, take}
 use Rattle.machine.specs.State.{State, Call, freshOn}
 use Rattle.machine.specs.Commands.{silent}
-use Rattle.machine.specs.Call.{call}
-use Rattle.machine.specs.Log.{unhex, frame, outcomeOf, feed, run}
-use Rattle.display.specs.Display.{NUMBERS, blank, displayed, displayedBy}
+use Rattle.machine.specs.Log.{outcomeOf, feed, run}
+use Rattle.display.specs.Display.{NUMBERS, blank, displayedBy}
 use Rattle.display.proofs.Runs.{afterCalls, shownAfter}
 use Rattle.nothing_left.specs.NothingLeft.{NothingLeft}
 use Rattle.nothing_left.proofs.NothingLeft.{nothing-left-standing}
-use Rattle.slipped.specs.Slipped.{slips, leavingOut, settlesOne, Inserted as InsertedM}
+use Rattle.slipped.specs.Slipped.{mild, leavingOut, settlesOne}
 use Rattle.slipped.proofs.Inserting.{leaving-middle}
-use Rattle.slipped.proofs.Slipped.{slips-mild, mild-stays, nothing-slipped-in}
+use Rattle.slipped.proofs.Slipped.{slips-mild, mild-stays, mild-unseen, fresh-left}
 use Rattle.inspected_lines.specs.Lines.{callIn, together, callsIn, slipsBy, outputs, shownBy, Left·log, Inserted, Slipped·log}
 use Rattle.inspected_lines.proofs.Witness.{written-with}
 
@@ -29,10 +27,6 @@ outcome-after : (s : State) (o : Option Call) (cs : List Call) → afterCalls (o
 unfolding outcomeOf together afterCalls silent
 outcome-after s none cs = refl
 outcome-after s (some c) cs = refl
-
-run-next : (s : State) (l : List ℕ) (ls : List (List ℕ)) → run s (l ∷ ls) .next ≡ run (feed s l .next) ls .next
-unfolding run
-run-next s l ls = refl
 
 pub run-after : (s : State) (ls : List (List ℕ)) → run s ls .next ≡ afterCalls s (callsIn ls)
 unfolding run feed callsIn afterCalls
@@ -128,12 +122,13 @@ module _ (n : ℕ) (before : List (List ℕ)) (l : List ℕ) (behind : List (Lis
   abbrev s₀ : State
   s₀ = freshOn n
 
-  call-unseen : (c : Call) → callIn l ≡ some c → T (slips (run s₀ before .next) c) → Inserted s₀ before l behind
+  -- what is asked of the id is not needed
+  pub mild-line-unseen : (c : Call) → callIn l ≡ some c → T (mild (run s₀ before .next) c) → Inserted s₀ before l behind
   unfolding outcomeOf together
-  call-unseen c e t =
+  mild-line-unseen c e t =
       let r = run-after s₀ before in
-      let stays = feed-by (run s₀ before .next) l (some c) e ∙ mild-stays (run s₀ before .next) c (nothing-left-by-a-log n before) (slips-mild (run s₀ before .next) c t) in
-      let m = nothing-slipped-in n (callsIn before) c (callsIn behind) (subst (λ (x : State). T (slips x c)) r t) in
+      let stays = feed-by (run s₀ before .next) l (some c) e ∙ mild-stays (run s₀ before .next) c (nothing-left-by-a-log n before) t in
+      let m = mild-unseen s₀ (callsIn before) c (callsIn behind) (fresh-left n) (subst (λ (x : State). T (mild x c)) r t) in
       let a = shown-after s₀ (before ++ l ∷ behind) blank ∙ ap (λ (cs : List Call). shownAfter s₀ cs blank) (calls-by before l behind (some c) e) in
       let b = shown-after s₀ (before ++ behind) blank ∙ ap (λ (cs : List Call). shownAfter s₀ cs blank) (calls-append before behind) in
       inserted-by s₀ before l behind stays (ap (take NUMBERS) a ∙ m .numbers ∙ ap (take NUMBERS) (sym b))
@@ -157,7 +152,7 @@ nothing-slipped-into-a-log n before l behind t = go (callIn l) refl t
   where
     go : (o : Option Call) → callIn l ≡ o → T (slipsBy (run (freshOn n) before .next) o) → Inserted (freshOn n) before l behind
     go none e u = absurd u
-    go (some c) e u = call-unseen n before l behind c e u
+    go (some c) e u = mild-line-unseen n before l behind c e (slips-mild (run (freshOn n) before .next) c u)
 
 -- ---- nor a malformed line, from any state; not even the looks show it
 

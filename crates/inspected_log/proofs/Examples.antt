@@ -5,7 +5,7 @@ use Prim.Native.Nat.{ℕ}
 use mathlib.Core.Path.{_≡_, refl}
 use mathlib.Core.Bool.{true, false}
 use mathlib.Core.List.{List, [], _∷_, _++_}
-use Rattle.machine.specs.State.{freshOn, frees}
+use Rattle.machine.specs.State.{frees}
 use Rattle.machine.specs.Machine.{machine}
 use Rattle.machine.specs.Text.{bytes, page}
 use Rattle.display.specs.Looks.{beyond, reached, lookOn, looksIn, looks, acting, looksAfter, lookedBy, looked}

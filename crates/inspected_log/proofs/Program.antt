@@ -3,24 +3,23 @@
 -- and no more once a line settles. Examples.antt is named here so that it is computed first: a wrong definition is told by an example.
 -- Assumes nothing.
 use Prim.Native.Nat.{ℕ}
-use mathlib.Core.Path.{_≡_, refl, ap, ap₂, sym, subst, _∙_}
+use mathlib.Core.Path.{_≡_, refl, ap, ap₂, sym, _∙_}
 use mathlib.Core.Bool.{Bool, true, false, not}
 use mathlib.Core.List.{List, [], _∷_, _++_, append-assoc}
 use lib.Dec.{T}
 use Rattle.machine.specs.State.{State, freshOn}
 use Rattle.machine.specs.Lists.{if_then_else_}
-use Rattle.machine.specs.Log.{feed, lines, run}
+use Rattle.machine.specs.Log.{feed, run}
 use Rattle.display.specs.Display.{blank, displayedBy, displayLines}
 use Rattle.board.specs.Board.{sized, structOf}
 use Rattle.channel_lines.specs.ChannelLines.{boardLines}
 use Rattle.taking.specs.declared.Show.{Show}
 use Rattle.taking.specs.Desk.{shownOf, fed, runShown, logShown}
-use Rattle.whole_log.specs.Whole.{joined}
 use Rattle.whole_log.proofs.Whole.{whole-log-shown}
 use Rattle.slipped.specs.Slipped.{settlesOne}
-use Rattle.inspected_lines.specs.Lines.{callIn, callsIn, slipsBy, shownBy, Inserted as InsertedL}
+use Rattle.inspected_lines.specs.Lines.{callIn, callsIn, slipsBy, shownBy}
 use Rattle.inspected_lines.proofs.Lines.{nothing-slipped-into-a-log, line-stays}
-use Rattle.inspected_log.specs.Program.{Read, text, own, more, Inserted, Slipped·program}
+use Rattle.inspected_log.specs.Program.{Read, text, own, more, Slipped·program}
 use Rattle.inspected_log.proofs.Examples.{written-behind}
 
 -- ---- what is written for lines

@@ -2,10 +2,10 @@
 -- three, one of them without bytes. For each there is a run of the program; what it writes for the others is the same.
 -- Assumes nothing.
 use Prim.Native.Nat.{ℕ}
-use mathlib.Core.Path.{_≡_, refl, ap, sym, _∙_}
+use mathlib.Core.Path.{_≡_, refl}
 use mathlib.Core.List.{List, [], _∷_, _++_}
 use native.Mathlib.Omega.{arith}
-use lib.ListN.{length, replicate, take, drop, length-replicate}
+use lib.ListN.{replicate, length-replicate}
 use Rattle.machine.specs.State.{freshOn}
 use Rattle.machine.specs.Log.{lines}
 use Rattle.machine.specs.Machine.{machine}

@@ -4,21 +4,19 @@
 use Prim.Native.Nat.{ℕ}
 use mathlib.Core.Path.{_≡_, refl, ap, sym, subst, _∙_}
 use mathlib.Core.List.{List, [], _∷_, _++_}
-use lib.Dec.{T}
 use lib.ListN.{take}
 use Rattle.machine.specs.State.{State, freshOn}
-use Rattle.machine.specs.Log.{feed, lines, run}
+use Rattle.machine.specs.Log.{feed}
 use Rattle.display.specs.Display.{NUMBERS, blank, displayedBy}
 use Rattle.store.specs.Store.{tableOf}
 use Rattle.board.specs.Board.{structOf}
 use Rattle.image.specs.Image.{imageOf}
-use Rattle.whole_log.specs.Whole.{joined}
 use Rattle.slow_line.specs.Slow.{Came, shownAfter}
 use Rattle.slow_line.proofs.Log.{slow-line}
 use Rattle.nothing_left.specs.NothingLeft.{NothingLeft}
 use Rattle.inspected_lines.specs.Lines.{callIn, shownBy}
 use Rattle.inspected_lines.proofs.Lines.{nothing-left-by-a-log, nothing-slipped-into-a-log}
-use Rattle.inspected_port.specs.Port.{Fed, Left·port, Inserted, Slipped·port}
+use Rattle.inspected_port.specs.Port.{Fed, Left·port, Slipped·port}
 
 came : {w : ℕ} {ls : List (List ℕ)} {out st tb dp : List ℕ} → Fed w ls out st tb dp → Came (freshOn w) blank ls out st tb dp
 came {w} {ls} {out} {st} {tb} {dp} f =

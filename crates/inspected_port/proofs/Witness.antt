@@ -7,7 +7,7 @@ use Prim.Native.Nat.{ℕ}
 use mathlib.Core.Path.{_≡_, refl, ap, sym}
 use mathlib.Core.List.{List, [], _∷_, _++_}
 use lib.Dec.{T}
-use lib.ListN.{length, replicate, length-replicate}
+use lib.ListN.{replicate, length-replicate}
 use Rattle.machine.specs.Lists.{all}
 use Rattle.machine.specs.State.{freshOn}
 use Rattle.machine.specs.Log.{lines}

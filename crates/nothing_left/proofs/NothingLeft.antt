@@ -2,14 +2,12 @@
 -- state is at rest; the fresh device is, and every call keeps it: it settles or leaves the state.
 -- Assumes nothing.
 use Prim.Native.Nat.{ℕ}
-use mathlib.Core.Path.{_≡_, refl, subst, sym}
 use mathlib.Core.Bool.{Bool, true, false, not, _&&_}
 use mathlib.Core.List.{List, [], _∷_}
 use lib.Dec.{T}
 use lib.ListN.{length}
 use Rattle.machine.specs.Lists.{all}
-use Rattle.machine.specs.State.{Channel, Lock, Request, State, Call, freshOn}
-use Rattle.machine.specs.Maps.{meets}
+use Rattle.machine.specs.State.{Lock, Request, State, Call, freshOn}
 use Rattle.machine.specs.Choosing.{Look, fails, held, grants, look}
 use Rattle.machine.specs.Call.{call}
 use Rattle.machine.proofs.Tests.{and-left, and-right, and-both}

@@ -2,14 +2,13 @@
 -- Assumes nothing.
 use Prim.Native.Nat.{ℕ}
 use mathlib.Core.Path.{_≡_, refl, ap, subst, sym, _∙_}
-use mathlib.Core.Bool.{Bool, true, false, not, _&&_, _||_}
-use mathlib.Core.List.{List, [], _∷_}
-use native.Mathlib.Omega.{arith}
-use lib.Dec.{T, T-not, not-T, eqb, eqb→eq}
+use mathlib.Core.Bool.{not, _&&_}
+use mathlib.Core.List.{[], _∷_}
+use lib.Dec.{T, T-not, eqb, eqb→eq}
 use Rattle.machine.specs.Numbers.{neg, ALLOCFAILED}
 use Rattle.machine.specs.Lists.{all, among, any}
 use Rattle.machine.specs.State.{State, Answer, Outcome, Call, Op, OPEN, CLOSE, ABORT, EVENT, COMMAND}
-use Rattle.machine.specs.Refusals.{Refusal, accepted, refused, refusal, refuse}
+use Rattle.machine.specs.Refusals.{Refusal, accepted, refused, refusal}
 use Rattle.machine.specs.Commands.{done, doClose, doAbort, doEvent}
 use Rattle.machine.specs.Allocating.{doOpen}
 use Rattle.machine.specs.Kinds.{kind}

@@ -7,16 +7,16 @@
 use Prim.Native.Nat.{ℕ}
 use mathlib.Core.Path.{_≡_, refl}
 use mathlib.Core.Bool.{true, false}
-use mathlib.Core.List.{List, [], _∷_, _++_, map}
+use mathlib.Core.List.{List, [], _∷_, map}
 use lib.ListN.{take}
-use Rattle.machine.specs.State.{State, Call, Reply, OPEN, COMMAND, free, freshOn, frees}
+use Rattle.machine.specs.State.{State, Call, OPEN, COMMAND, free, freshOn, frees}
 use Rattle.machine.specs.Machine.{machine}
 use Rattle.machine.specs.Call.{call}
 use Rattle.machine.specs.Walks.{chan, lock, wait, stands, asks, reply}
 use Rattle.display.proofs.Runs.{afterCalls}
 use Rattle.nothing_left.specs.NothingLeft.{finds, NothingLeft, left}
 use Rattle.nothing_left.proofs.NothingLeft.{nothing-left-standing}
-use Rattle.machine.specs.Choosing.{Look, fails, held}
+use Rattle.machine.specs.Choosing.{fails, held}
 
 abbrev pub run : List Call
 run =

@@ -2,25 +2,24 @@
 -- The display's numbers are corrected by nothing, and a call that settles sets the looks whatever they were.
 -- The tables of Needed.antt are named here so that they are computed first: a wrong definition is told by an example.
 -- Assumes nothing.
-use Prim.Native.Nat.{ℕ, zero, suc, _+_, _*_, _%_, _≤_, _<_}
+use Prim.Native.Nat.{ℕ, zero, suc, _+_, _≤_, _<_}
 use mathlib.Core.Path.{_≡_, refl, ap, ap₂, subst, sym, _∙_}
-use mathlib.Core.Bool.{Bool, true, false, not, _&&_, _||_}
-use mathlib.Core.List.{List, [], _∷_, _++_, map}
+use mathlib.Core.Bool.{Bool, true, false, not, _||_}
+use mathlib.Core.List.{List, [], _∷_, _++_}
 use native.Mathlib.Omega.{arith}
 use lib.Dec.{T, T-not, eqb, eqb→eq, eqb-refl}
-use lib.ListN.{length, getD, replicate, take, drop}
-use Rattle.machine.specs.Lists.{if_then_else_, all}
+use lib.ListN.{length, replicate, take}
+use Rattle.machine.specs.Lists.{all}
 use Rattle.machine.specs.State.{State, Outcome, Reply, Call, Op, OPEN, CLOSE, ABORT, EVENT, COMMAND}
 use Rattle.machine.specs.Sound.{sound, ids}
 use Rattle.machine.specs.Numbers.{UNSOUND}
 use Rattle.machine.specs.Refusals.{Refusal, refused, first, refusal}
 use Rattle.machine.specs.Call.{answering, call}
 use Rattle.machine.proofs.Tests.{and-both, and-left, and-right, by-test, test-true, test-false}
-use Rattle.machine_laws.proofs.Counting.{count, count-one, count-other, count-cons, count-nil}
+use Rattle.machine_laws.proofs.Counting.{count, count-other, count-cons, count-nil}
 use Rattle.machine_laws.proofs.Refusals.{refuse-mute}
 use Rattle.machine_laws.proofs.Replies.{heard, own, call-counts}
-use Rattle.display.specs.Looks.{looked}
-use Rattle.display.specs.Display.{NUMBERS, DISPLAY, blank, number, corrected, looksOf, looksBytes, displayed}
+use Rattle.display.specs.Display.{NUMBERS, DISPLAY, blank, corrected, looksOf, looksBytes, displayed}
 use Rattle.display.proofs.Display.{Bytes, displayed-length, displayed-numbers, displayed-bytes, displayed-refused}
 use Rattle.display.proofs.Runs.{afterCalls, shownAfter}
 use Rattle.nothing_left.specs.Settles.{settles}

@@ -10,11 +10,11 @@
 use Prim.Native.Nat.{ℕ}
 use mathlib.Core.Path.{_≡_, refl}
 use mathlib.Core.Bool.{Bool, true, false, not, _&&_}
-use mathlib.Core.List.{List, [], _∷_, _++_, map}
+use mathlib.Core.List.{List, [], _∷_, map}
 use lib.Dec.{ltb}
 use Rattle.machine.specs.Numbers.{REQUESTS}
 use Rattle.machine.specs.Lists.{among}
-use Rattle.machine.specs.State.{State, Outcome, Call, OPEN, CLOSE, ABORT, EVENT, CYCLE·ENDED, GAVE·UP, COMMAND, freshOn, frees}
+use Rattle.machine.specs.State.{State, Call, OPEN, ABORT, EVENT, CYCLE·ENDED, COMMAND, freshOn, frees}
 use Rattle.machine.specs.Desks.{foreign}
 use Rattle.machine.specs.Sound.{sound, ids}
 use Rattle.machine.specs.Call.{call}

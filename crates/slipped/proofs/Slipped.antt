@@ -4,18 +4,17 @@
 -- state too.
 -- Assumes nothing.
 use Prim.Native.Nat.{ℕ}
-use mathlib.Core.Path.{_≡_, refl, ap, subst, sym, _∙_}
-use mathlib.Core.Bool.{Bool, not, _&&_}
-use mathlib.Core.List.{List, [], _∷_, _++_}
-use lib.Dec.{T, eqb, ltb}
-use Rattle.machine.specs.Numbers.{REQUESTS, UNSOUND, ADCMD·ALLOCATE}
+use mathlib.Core.Path.{_≡_}
+use mathlib.Core.Bool.{not, _&&_}
+use mathlib.Core.List.{List, _∷_, _++_}
+use lib.Dec.{T, ltb}
+use Rattle.machine.specs.Numbers.{REQUESTS, UNSOUND}
 use Rattle.machine.specs.Lists.{all, among}
 use Rattle.machine.specs.State.{State, Call, Op, OPEN, CLOSE, ABORT, EVENT, COMMAND, freshOn}
 use Rattle.machine.specs.Desks.{foreign}
 use Rattle.machine.specs.Commands.{matches}
 use Rattle.machine.specs.Sound.{sound, ids}
-use Rattle.machine.specs.Kinds.{kind, allocates}
-use Rattle.machine.specs.Refusals.{Refusal, refused, refusal}
+use Rattle.machine.specs.Refusals.{refused, refusal}
 use Rattle.machine.specs.Call.{call}
 use Rattle.machine.proofs.Tests.{and-left, and-right, by-test}
 use Rattle.machine.proofs.Known.{allocates-alone}

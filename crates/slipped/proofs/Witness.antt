@@ -7,8 +7,8 @@
 --   early, late       the calls before the FREE, and behind it
 use Prim.Native.Nat.{ℕ}
 use mathlib.Core.Path.{_≡_, refl}
-use mathlib.Core.Bool.{true, false}
-use mathlib.Core.List.{List, [], _∷_, _++_, map}
+use mathlib.Core.Bool.{false}
+use mathlib.Core.List.{List, [], _∷_, _++_}
 use lib.Dec.{T}
 use lib.ListN.{take, drop, replicate}
 use Rattle.machine.specs.State.{Call, COMMAND, freshOn, frees}
@@ -16,7 +16,7 @@ use Rattle.machine.specs.Call.{call}
 use Rattle.machine.specs.Machine.{machine}
 use Rattle.machine.specs.Walks.{asks, reply, says}
 use Rattle.display.specs.Looks.{beyond, reached, lookOn, looksIn, looks, acting, looksAfter, lookedBy, looked}
-use Rattle.display.specs.Display.{blank, names, writesOn, naming, number, corrected, displayed, looksOf}
+use Rattle.display.specs.Display.{blank, names, writesOn, naming, number, corrected, displayed}
 use Rattle.display.proofs.Runs.{afterCalls, shownAfter}
 use Rattle.nothing_left.specs.Settles.{opens, settles}
 use Rattle.nothing_left.proofs.Witness.{run}
