@@ -1,5 +1,5 @@
--- The run of crates/nothing_left, and the FREE of crates/slipped, as a program in C makes them; and what a run at the boundary leaves and what is
--- handed in, by computation, of three calls.
+-- The run of crates/nothing_left, and the FREE of crates/slipped, as a program in C makes them; and what a run at the boundary leaves
+-- and what is handed in, by computation, of three calls.
 -- Assumes nothing.
 --
 --   early, frees9, late   the calls: before the FREE, the FREE, behind it

@@ -1,6 +1,6 @@
--- Both assurances of the machine, carried over to the bytes of C: a run at the boundary is the machine's run. A call that leaves the state
--- leaves every byte of the state and the table, since a state has one image; so the calls behind it took the bytes that they would
--- have taken without it, and nothing else can come back.
+-- Both assurances of the machine, carried over to the bytes of C: a run at the boundary is the machine's run. A call that leaves the
+-- state leaves every byte of the state and the table, since a state has one image; so the calls behind it took the bytes that they
+-- would have taken without it, and nothing else can come back.
 -- Assumes nothing.
 use Prim.Native.Nat.{ℕ, _+_, _≤_}
 use mathlib.Core.Path.{_≡_, refl, ap, ap₂, sym, subst, _∙_}

@@ -1,5 +1,5 @@
--- Every run of the machine from a fresh device of four or eight channels, whose calls are numbers of a program in C, is a run of its calls, each lent
--- the display that the one before it left; and there are bytes that `qamhudeer_fresh` leaves.
+-- Every run of the machine from a fresh device of four or eight channels, whose calls are numbers of a program in C, is a run of its
+-- calls, each lent the display that the one before it left; and there are bytes that `qamhudeer_fresh` leaves.
 -- Assumes nothing.
 --
 --   bytesOf s         the bytes of a state

@@ -1,6 +1,6 @@
--- A run at the boundary from bytes that hold a sound state is the machine's run from that state, with the machine's display; and what comes
--- back is determined by what is handed in, whatever the display shows. Examples.antt is named here so that it is computed first: a wrong
--- definition is told by an example.
+-- A run at the boundary from bytes that hold a sound state is the machine's run from that state, with the machine's display; and what
+-- comes back is determined by what is handed in, whatever the display shows. Examples.antt is named here so that it is computed
+-- first: a wrong definition is told by an example.
 -- Assumes nothing.
 --
 --   Chain st tb ts    the calls of a run, whatever display was lent

@@ -1,5 +1,5 @@
--- The assurances of the bytes are about something: the run of crates/nothing_left and the FREE of crates/slipped, as a program in C makes them, on four
--- channels.
+-- The assurances of the bytes are about something: the run of crates/nothing_left and the FREE of crates/slipped, as a program in C
+-- makes them, on four channels.
 -- Assumes nothing.
 use Prim.Native.Nat.{ℕ}
 use mathlib.Core.Path.{_≡_, ap, subst, _∙_}

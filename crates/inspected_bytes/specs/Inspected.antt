@@ -1,5 +1,5 @@
--- Document 02, #113, both assurances on the bytes that a program in C lends: runs of `qamhudeer_call`, by its promise `Crossed`, from the
--- bytes that `qamhudeer_fresh` left, by its promise `Started`. Of the code nothing else is used. Each call is lent the state, the
+-- Document 02, #113, both assurances on the bytes that a program in C lends: runs of `qamhudeer_call`, by its promise `Crossed`, from
+-- the bytes that `qamhudeer_fresh` left, by its promise `Started`. Of the code nothing else is used. Each call is lent the state, the
 -- table and the display that the one before it left. proofs/Inspected.antt proves them as `nothing-left-in-the-bytes` and
 -- `nothing-slipped-into-the-bytes`.
 -- Assumes nothing.
@@ -127,7 +127,7 @@ pub record Inserted (st tb dp : List ℕ) (before : List Turn) (t : Turn) (behin
   -- it reports a reply to its own id at most: a record's first byte is its id (a list of fewer than 64 records is refused with 5)
   pub own : REPLIES ≤ length (t .lent) → T (all (λ b. eqb (getD b 0 0) (t .id)) (reported t))
   pub once : t .n ≤ 1
-  -- nor did any of the display's numbers
+  -- the display's numbers
   pub numbers : take NUMBERS (displayAfter dp (before ++ t ∷ behind)) ≡ take NUMBERS (displayAfter dp us)
   -- "The count of looks from #110 is the exception"
   pub looks : T (settlesOne (holds (stateAfter st before) (tableAfter tb before)) (calls behind))

@@ -1,6 +1,6 @@
--- Both assurances of the machine, carried over to the code: a run of the code is the machine's run. A call that leaves the state leaves the
--- board and the table byte for byte, since a state has one board and one table; so the calls behind it took what they would have
--- taken without it, and no second outcome fits them.
+-- Both assurances of the machine, carried over to the code: a run of the code is the machine's run. A call that leaves the state
+-- leaves the board and the table byte for byte, since a state has one board and one table; so the calls behind it took what they
+-- would have taken without it, and no second outcome fits them.
 -- Assumes nothing.
 use Prim.Native.Nat.{ℕ, _+_}
 use mathlib.Core.Path.{_≡_, refl, ap, ap₂, sym, subst, _∙_}

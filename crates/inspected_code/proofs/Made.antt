@@ -1,5 +1,5 @@
--- Every run of the machine from a fresh device of four or eight channels, whose calls fit their bytes, is a run of the code: the calls are
--- those that crates/code_runs makes of the machine's, each with the machine's display.
+-- Every run of the machine from a fresh device of four or eight channels, whose calls fit their bytes, is a run of the code: the
+-- calls are those that crates/code_runs makes of the machine's, each with the machine's display.
 -- Assumes nothing.
 --
 --   made s d cs    the machine's run from the state s and the display d, as a run of the code

@@ -1,6 +1,6 @@
--- A run of the code from a board and a table that hold a sound state is the machine's run from that state, with the machine's display; and
--- the calls of a run are determined by what is handed in. Examples.antt is named here so that it is computed first: a wrong definition is
--- told by an example.
+-- A run of the code from a board and a table that hold a sound state is the machine's run from that state, with the machine's
+-- display; and the calls of a run are determined by what is handed in. Examples.antt is named here so that it is computed first: a
+-- wrong definition is told by an example.
 -- Assumes nothing.
 --
 --   Chain st tb ts    the calls of a run, without the displays

@@ -1,5 +1,5 @@
--- The assurances of the code are about something: wherever the premises can be met by calls of the machine that fit their bytes, they can be met
--- by runs of the code. So by the run of crates/nothing_left with the FREE of crates/slipped, on four channels.
+-- The assurances of the code are about something: wherever the premises can be met by calls of the machine that fit their bytes, they
+-- can be met by runs of the code. So by the run of crates/nothing_left with the FREE of crates/slipped, on four channels.
 -- Assumes nothing.
 --
 --   inserted s d c       the call as a step of the code

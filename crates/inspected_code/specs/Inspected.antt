@@ -1,7 +1,7 @@
--- Document 02, #113, both assurances on the code. A run is a sequence of calls from a fresh board of 4 or 8 channels, each of which took a
--- board, a table and a display to an outcome, a table and a display as `Called` and `Shows`, the promises of `arbiter::call`, say.
--- Nothing else is asked of the code, so they hold of every implementation of these promises. proofs/Inspected.antt proves them as
--- `nothing-left-by-the-code` and `nothing-slipped-into-the-code`.
+-- Document 02, #113, both assurances on the code. A run is a sequence of calls from a fresh board of 4 or 8 channels, each of which
+-- took a board, a table and a display to an outcome, a table and a display as `Called` and `Shows`, the promises of `arbiter::call`,
+-- say. Nothing else is asked of the code, so they hold of every implementation of these promises. proofs/Inspected.antt proves them
+-- as `nothing-left-by-the-code` and `nothing-slipped-into-the-code`.
 -- Assumes nothing.
 --
 --   Step                 one call, as in crates/code_runs, and the display that it left

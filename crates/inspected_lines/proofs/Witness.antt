@@ -1,5 +1,5 @@
--- The log of document 01, and a WRITE under key 9, which is on no channel, inserted before its last line, where a request is held: what each
--- line writes, with it and without it, by computation. And which lines may be inserted there.
+-- The log of document 01, and a WRITE under key 9, which is on no channel, inserted before its last line, where a request is held:
+-- what each line writes, with it and without it, by computation. And which lines may be inserted there.
 -- Assumes nothing.
 --
 --   before, slipped, behind    the first four lines; the line inserted; the last line

@@ -1,5 +1,5 @@
--- Document 02, #113, both assurances for a log: after every line nothing is left standing, and a line whose call may be inserted adds its own
--- output and nothing else. proofs/Lines.antt proves them as `nothing-left-by-a-log` and `nothing-slipped-into-a-log`.
+-- Document 02, #113, both assurances for a log: after every line nothing is left standing, and a line whose call may be inserted adds
+-- its own output and nothing else. proofs/Lines.antt proves them as `nothing-left-by-a-log` and `nothing-slipped-into-a-log`.
 -- Assumes nothing.
 --
 --   callIn l             the call of a line; none where it is malformed

@@ -1,5 +1,5 @@
--- The three parts of what is written for the log of document 01 with the line of crates/inspected_lines, by computation: with nothing shown, and
--- with the display, whose looks that line sets.
+-- The three parts of what is written for the log of document 01 with the line of crates/inspected_lines, by computation: with nothing
+-- shown, and with the display, whose looks that line sets.
 -- Assumes nothing.
 use Prim.Native.Nat.{ℕ}
 use mathlib.Core.Path.{_≡_, refl}
@@ -38,7 +38,8 @@ wall = record { channels = false; display = true }
 abbrev refusedLine : List ℕ
 refusedLine = bytes "0240010100000100"
 
--- behind the whole log the last settling had looked at one; the inserted line settles and looks at nobody, and a line that is refused shows that
+-- behind the whole log the last settling had looked at one; the inserted line settles and looks at nobody, and a line that is refused
+-- shows that
 pub looks-show : (more wall 4 (before ++ behind) (refusedLine ∷ []) ≡ page ("A004000001FF" ∷ "E000000000000000000001" ∷ []))
     × (more wall 4 (before ++ (behind ++ slipped ∷ [])) (refusedLine ∷ []) ≡ page ("A004000001FF" ∷ "E000000000000000000000" ∷ []))
 unfolding machine frees bytes page runShown fed shownOf logging beyond reached lookOn looksIn looks acting looksAfter lookedBy looked names writesOn naming number corrected displayed displayedBy loadLine requestLines displayLines

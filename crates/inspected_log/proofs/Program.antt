@@ -1,6 +1,7 @@
--- The program writes what the machine's log gives, whatever the lumps; what is written for lines falls into what is written for the first of
--- them and for the rest. An inserted line leaves the state, so the rest is as without it; what is shown of the display alone may differ,
--- and no more once a line settles. Examples.antt is named here so that it is computed first: a wrong definition is told by an example.
+-- The program writes what the machine's log gives, whatever the lumps; what is written for lines falls into what is written for the
+-- first of them and for the rest. An inserted line leaves the state, so the rest is as without it; what is shown of the display alone
+-- may differ, and no more once a line settles. Examples.antt is named here so that it is computed first: a wrong definition is told
+-- by an example.
 -- Assumes nothing.
 use Prim.Native.Nat.{ℕ}
 use mathlib.Core.Path.{_≡_, refl, ap, ap₂, sym, _∙_}

@@ -1,5 +1,6 @@
--- The claim about the program is about something: the log of document 01 in one lump, and the same with the line of crates/inspected_lines in
--- three, one of them without bytes. For each there is a run of the program; what it writes for the others is the same.
+-- The claim about the program is about something: the log of document 01 in one lump, and the same with the line of
+-- crates/inspected_lines in three, one of them without bytes. For each there is a run of the program; what it writes for the others
+-- is the same.
 -- Assumes nothing.
 use Prim.Native.Nat.{ℕ}
 use mathlib.Core.Path.{_≡_, refl}

@@ -1,6 +1,7 @@
--- Document 02, #113, the second assurance for what the log program writes: two logs, one with a line more, each read in lumps of any size, on a
--- board of 4 or 8 channels. Of the program only the promises of `fill` and `finish` are used, by `Ran` of crates/whole_log. Where the
--- display is shown its looks are the exception. proofs/Program.antt proves it as `nothing-slipped-into-the-program`.
+-- Document 02, #113, the second assurance for what the log program writes: two logs, one with a line more, each read in lumps of any
+-- size, on a board of 4 or 8 channels. Of the program only the promises of `fill` and `finish` are used, by `Ran` of
+-- crates/whole_log. Where the display is shown its looks are the exception. proofs/Program.antt proves it as
+-- `nothing-slipped-into-the-program`.
 -- Assumes nothing.
 --
 --   Read show w l page ls bss out   a run of the program from a fresh board: its lumps spell the lines ls, and it wrote out

@@ -1,5 +1,5 @@
--- A log fed through a port comes to the machine's output, state and display, and leaves the bytes of that state; so both assurances for a log
--- carry over to the bytes.
+-- A log fed through a port comes to the machine's output, state and display, and leaves the bytes of that state; so both assurances
+-- for a log carry over to the bytes.
 -- Assumes nothing.
 use Prim.Native.Nat.{ℕ}
 use mathlib.Core.Path.{_≡_, refl, ap, sym, subst, _∙_}

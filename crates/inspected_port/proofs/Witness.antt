@@ -1,5 +1,5 @@
--- The claims about the port are about something: any bytes, fed in any fragments to a fresh device, come to something; so the log of document 01,
--- and the same with the line of crates/inspected_lines, cut within that line.
+-- The claims about the port are about something: any bytes, fed in any fragments to a fresh device, come to something; so the log of
+-- document 01, and the same with the line of crates/inspected_lines, cut within that line.
 -- Assumes nothing.
 --
 --   Comes w bss    a run whose fragments are bss: its output, and the bytes that it left

@@ -1,5 +1,5 @@
--- Document 02, #113, both assurances for a log fed through a port in fragments of any length, from the bytes that `qamhudeer_fresh` left: runs of
--- `qamhudeer_feed` and `qamhudeer_feed_end`, by their promises and nothing else. proofs/Port.antt proves them as
+-- Document 02, #113, both assurances for a log fed through a port in fragments of any length, from the bytes that `qamhudeer_fresh`
+-- left: runs of `qamhudeer_feed` and `qamhudeer_feed_end`, by their promises and nothing else. proofs/Port.antt proves them as
 -- `nothing-left-behind-the-port` and `nothing-slipped-through-the-port`.
 -- Assumes nothing.
 --

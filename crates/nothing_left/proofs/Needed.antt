@@ -1,5 +1,5 @@
--- What nothing left standing is, by computation, on sound states as a load may bring them: for each of its three parts a state that fails
--- that part alone, and states where all hold though requests wait, one is held and locks are outstanding. So "without loads" is
+-- What nothing left standing is, by computation, on sound states as a load may bring them: for each of its three parts a state that
+-- fails that part alone, and states where all hold though requests wait, one is held and locks are outstanding. So "without loads" is
 -- needed: after a load, and after every call that does not settle, a request may stand that could be granted.
 -- Assumes nothing.
 --

@@ -1,5 +1,5 @@
--- The assurance is about something: from the fresh device of four channels a run in which locks are told, requests are held and fail, one
--- call is refused, and settling grants two; and the same calls on eight channels.
+-- The assurance is about something: from the fresh device of four channels a run in which locks are told, requests are held and fail,
+-- one call is refused, and settling grants two; and the same calls on eight channels.
 -- Assumes nothing.
 --
 --   run          the calls

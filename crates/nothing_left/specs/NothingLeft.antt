@@ -1,6 +1,7 @@
--- Document 02, #113, the first assurance: "over any calls from a fresh device without loads .. after every call no waiting request could
--- be granted, none with NOWAIT is failing, and no lock is outstanding over a channel that a held request has chosen". It is said of
--- what a look at each waiting request would find now; nothing here settles. proofs/NothingLeft.antt proves it as `nothing-left-standing`.
+-- Document 02, #113, the first assurance: "over any calls from a fresh device without loads .. after every call no waiting request
+-- could be granted, none with NOWAIT is failing, and no lock is outstanding over a channel that a held request has chosen". It is
+-- said of what a look at each waiting request would find now; nothing here settles. proofs/NothingLeft.antt proves it as
+-- `nothing-left-standing`.
 -- Assumes nothing.
 --
 --   finds s r           what a waiting request would come to, looked at now, in the state s

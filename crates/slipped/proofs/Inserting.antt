@@ -1,6 +1,6 @@
--- Why a call that leaves the state is not seen by the others: the calls behind it begin in the state in which they would begin without it.
--- The display's numbers are corrected by nothing, and a call that settles sets the looks whatever they were.
--- The tables of Needed.antt are named here so that they are computed first: a wrong definition is told by an example.
+-- Why a call that leaves the state is not seen by the others: the calls behind it begin in the state in which they would begin
+-- without it. The display's numbers are corrected by nothing, and a call that settles sets the looks whatever they were. The tables
+-- of Needed.antt are named here so that they are computed first: a wrong definition is told by an example.
 -- Assumes nothing.
 use Prim.Native.Nat.{ℕ, zero, suc, _+_, _≤_, _<_}
 use mathlib.Core.Path.{_≡_, refl, ap, ap₂, subst, sym, _∙_}

@@ -1,5 +1,5 @@
--- Which premises are needed, by computation: for each of them a state and a command that fails that one alone, and a later call that is
--- answered otherwise with the command than without it. What is asked of the id is not needed: those rows are answered the same.
+-- Which premises are needed, by computation: for each of them a state and a command that fails that one alone, and a later call that
+-- is answered otherwise with the command than without it. What is asked of the id is not needed: those rows are answered the same.
 -- Assumes nothing.
 --
 --   busy            key 1 has channels 0 and 1, with a write on 0; 60 waits for channel 0

@@ -1,7 +1,7 @@
--- Why nothing is slipped in: a command other than ALLOCATE whose key is on no channel does nothing before it settles, and where nothing is
--- left standing settling does nothing. So the state stays, whatever the command is answered, and the others do not see it. What is
--- asked of its id is not needed: with an id that is outstanding, above 63 or the other desk's it is refused, and that leaves the
--- state too.
+-- Why nothing is slipped in: a command other than ALLOCATE whose key is on no channel does nothing before it settles, and where
+-- nothing is left standing settling does nothing. So the state stays, whatever the command is answered, and the others do not see it.
+-- What is asked of its id is not needed: with an id that is outstanding, above 63 or the other desk's it is refused, and that leaves
+-- the state too.
 -- Assumes nothing.
 use Prim.Native.Nat.{ℕ}
 use mathlib.Core.Path.{_≡_}

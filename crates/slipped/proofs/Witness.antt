@@ -1,6 +1,6 @@
--- The assurance is about something: into the run of crates/nothing_left, where locks are told and requests are held and granted, a FREE under
--- key 9 and a WRITE under key 0 are inserted. Each meets the premises, settles and is replied to; the others get the same. Behind
--- the second the looks show what it looked at, until a call settles.
+-- The assurance is about something: into the run of crates/nothing_left, where locks are told and requests are held and granted, a
+-- FREE under key 9 and a WRITE under key 0 are inserted. Each meets the premises, settles and is replied to; the others get the same.
+-- Behind the second the looks show what it looked at, until a call settles.
 -- Assumes nothing.
 --
 --   frees9, writes0   the two commands

@@ -1,6 +1,6 @@
--- Document 02, #113, the second assurance: "take any command other than ALLOCATE whose id is valid and idle, whose desk may use it, and
--- whose key is on no channel. Insert it anywhere; every other call's answer and replies, and the state after them, are as without it. The
--- count of looks from #110 is the exception and is shown only for the last call." proofs/Slipped.antt proves it as
+-- Document 02, #113, the second assurance: "take any command other than ALLOCATE whose id is valid and idle, whose desk may use it,
+-- and whose key is on no channel. Insert it anywhere; every other call's answer and replies, and the state after them, are as without
+-- it. The count of looks from #110 is the exception and is shown only for the last call." proofs/Slipped.antt proves it as
 -- `nothing-slipped-in`.
 -- Assumes nothing.
 --
