@@ -35,27 +35,6 @@ log() {
     second/$made >"$work/log" || die "second/$made fails"
 }
 
-# play PROGRAM
-play() {
-    run_c "$1" $chance $tries $board <"$work/log" >"$work/said" 2>&1
-}
-
-# tell_counts: what was tried. Its status is 1 where something was never met.
-tell_counts() {
-    echo "seed $seed, $count logs, $failed of them with a difference:"
-    awk '
-        { name = $0; sub(/^count [0-9]* /, "", name) }
-        !(name in sum) { order[++names] = name }
-        { sum[name] += $2 }
-        END {
-            for (i = 1; i <= names; i++) {
-                printf "%9d %s\n", sum[order[i]], order[i]
-                missing += !sum[order[i]]
-            }
-            exit missing > 0 || names == 0
-        }' "$work/counts"
-}
-
 # ---- The wrong programs
 
 # spoilt save|load NAME STATEMENT: a library that does this after each such call.
