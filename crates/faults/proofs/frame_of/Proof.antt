@@ -1,3 +1,7 @@
+-- `frame_of` meets its contract: its tests are those of the definition, in order. Assumes nothing.
+use mathlib.Core.Path.{_≡_}
+use native.Mathlib.Omega.{arith}
+use Rattle.faults.proofs.Laws.{first-long, first-other, first-form, later-none, later-some}
 use borrow.Author.Needs.{needs}
 use Rattle.faults.proofs.frame_of.Statement.{statement}
 use Rattle.faults.proofs.frame_of.Tie as tie
@@ -5,37 +9,29 @@ use Rattle.faults.proofs.frame_of.Reads as reads
 use Rattle.faults.proofs.frame_of.Lts as lts
 use Rattle.faults.proofs.length_of.Reads as length-of-reads
 
--- src/lib.rt:43:13
 returns : tie.Need-returns
-returns c = ?
+returns c = first-long _ _ (c .before .if1 .taken) (c .if2 .taken)
 
--- src/lib.rt:45:12
 shared-slice-read-if3 : tie.Need-shared-slice-read-if3
 shared-slice-read-if3 c = search needs
 
--- src/lib.rt:46:13
 returns-2 : tie.Need-returns-2
-returns-2 c = ?
+returns-2 c = let e = c .before .before in first-other _ _ (e .before .if1 .taken) (e .if2 .left) (c .if3 .taken)
 
--- src/lib.rt:48:16
 shared-slice-read-result : tie.Need-shared-slice-read-result
 shared-slice-read-result c = search needs
 
--- src/lib.rt:48:9
 returns-3 : tie.Need-returns-3
-returns-3 c = ?
+returns-3 c = let e = c .before in let l = e .before .before in first-form _ _ (l .before .if1 .taken) (l .if2 .left) (e .if3 .left)
 
--- src/lib.rt:51:9
 returns-4 : tie.Need-returns-4
-returns-4 c = ?
+returns-4 c = later-none _ _ (c .before .if1 .left) (c .if4 .taken)
 
--- src/lib.rt:53:16
 length-of-requires : tie.Need-length-of-requires
 length-of-requires c κs = search needs
 
--- src/lib.rt:38:1
 returns-5 : tie.Need-returns-5
-returns-5 c = ?
+returns-5 c = let e = c .before in later-some _ _ (e .before .if1 .left) (search needs) (c .length-of .ensures)
 
 pub frame-of-spec : {M : Type 1} → statement M
 frame-of-spec =

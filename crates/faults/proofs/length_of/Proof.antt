@@ -1,3 +1,8 @@
+-- `length_of` meets its contract: its arms are the tests of the definition. Assumes nothing.
+use mathlib.Core.Path.{_≡_, ap, sym, _∙_}
+use Prim.Native.Nat.{ℕ, _+_}
+use native.Mathlib.Omega.{arith}
+use Rattle.faults.proofs.Laws.{kind-1, kind-2, kind-2-short, kind-3, kind-4, kind-5, kind-6, kind-7, no-kind}
 use borrow.Author.Needs.{needs}
 use Rattle.faults.proofs.length_of.Statement.{statement}
 use Rattle.faults.proofs.length_of.Tie as tie
@@ -5,57 +10,44 @@ use Rattle.faults.proofs.length_of.Reads as reads
 use Rattle.faults.proofs.length_of.Lts as lts
 use Rattle.faults.proofs.wide.Reads as wide-reads
 
--- src/lib.rt:20:11
 shared-slice-read-match : tie.Need-shared-slice-read-match
 shared-slice-read-match c = search needs
 
--- src/lib.rt:24:17
 returns : tie.Need-returns
-returns c = ?
+returns c = kind-2-short _ (c .before .match .keys2) (c .if1 .taken)
 
--- src/lib.rt:26:22
 shared-slice-read-wide : tie.Need-shared-slice-read-wide
 shared-slice-read-wide c = search needs
 
--- src/lib.rt:26:17
 wide-requires : tie.Need-wide-requires
 wide-requires c κs = search needs
 
--- src/lib.rt:26:13
 add-result : tie.Need-add-result
 add-result c = search needs
 
--- src/lib.rt:16:1
 returns-2 : tie.Need-returns-2
-returns-2 c = ?
+returns-2 c = kind-1 _ (c .match .keys1)
 
--- src/lib.rt:16:1
 returns-3 : tie.Need-returns-3
-returns-3 c = ?
+returns-3 c = ap (λ (n : ℕ). 7 + n) (c .wide .ensures .0) ∙ kind-2 _ (c .before .before .before .match .keys2)
 
--- src/lib.rt:16:1
 returns-4 : tie.Need-returns-4
-returns-4 c = ?
+returns-4 c = kind-3 _ (c .match .keys3)
 
--- src/lib.rt:16:1
 returns-5 : tie.Need-returns-5
-returns-5 c = ?
+returns-5 c = kind-4 _ (c .match .keys4)
 
--- src/lib.rt:16:1
 returns-6 : tie.Need-returns-6
-returns-6 c = ?
+returns-6 c = kind-5 _ (c .match .keys5)
 
--- src/lib.rt:16:1
 returns-7 : tie.Need-returns-7
-returns-7 c = ?
+returns-7 c = kind-6 _ (c .match .keys6)
 
--- src/lib.rt:16:1
 returns-8 : tie.Need-returns-8
-returns-8 c = ?
+returns-8 c = kind-7 _ (c .match .keys7)
 
--- src/lib.rt:16:1
 returns-9 : tie.Need-returns-9
-returns-9 c = ?
+returns-9 c = let r = c .match .rest in no-kind _ (r .0 .0 .0 .0 .0 .0 .1) (r .0 .0 .0 .0 .0 .1) (r .0 .0 .0 .0 .1) (r .0 .0 .0 .1) (r .0 .0 .1) (r .0 .1) (r .1)
 
 pub length-of-spec : {M : Type 1} → statement M
 length-of-spec =
