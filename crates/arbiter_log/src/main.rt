@@ -219,7 +219,8 @@ fn has(word: &[u8; 4], letter: u8) -> bool {
     word[0] == letter || word[1] == letter || word[2] == letter || word[3] == letter
 }
 
-fn asked() -> Asked {
+// What the second word asks for.
+fn words() -> Asked {
     let mut word = [0u8; 4];
     os::arg(2, &mut word);
     let c = has(&word, b'c');
@@ -255,7 +256,7 @@ fn begin(load: bool, w: u8, table: &mut [u8], display: &mut [u8]) -> Found
 }
 
 fn main() {
-    let a = asked();
+    let a = words();
     let w = width();
     let mut table = [0u8; 1472];
     let mut display = [0u8; 18];
