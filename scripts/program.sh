@@ -207,10 +207,10 @@ begin_save() {
         complain "$log_save is no file"
     elif [ -e "$part" ] && [ ! -f "$part" ]; then
         complain "$part is no file"
-    elif ! : >"$part"; then
-        complain "$log_save cannot be written"
-    else
+    elif (: >"$part") 2>/dev/null; then
         return
+    else
+        complain "$part cannot be written"
     fi
     part=
     return 2
