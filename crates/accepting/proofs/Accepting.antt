@@ -6,7 +6,7 @@ use mathlib.Core.Bool.{Bool, true, false}
 use mathlib.Core.List.{List, [], _∷_}
 use native.Mathlib.Omega.{arith}
 use native.Mathlib.Numerals.{add-one}
-use lib.Dec.{T, leb, leb→le, nleb→lt}
+use lib.Dec.{T, T-not, eqb, eqb→eq, eqb-refl, leb, leb→le, nleb→lt}
 use lib.ListN.{length, getD, take, drop, replicate}
 use lib.Seq.{take-suc, take-all}
 use Rattle.machine.specs.State.{State}
@@ -20,9 +20,10 @@ use Rattle.board.specs.declared.Board.{Board}
 use Rattle.memory.specs.Splice.{splice}
 use Rattle.board.specs.Board.{sized, structOf, stateIn, Held}
 use Rattle.board.proofs.Laws.{held-of, held-width, one-state, stateIn-of}
-use Rattle.sound.specs.Sound.{Decides}
+use Rattle.sound.specs.Sound.{Decides, boardTest}
+use Rattle.sound.proofs.Own.{decides}
 use Rattle.saved.specs.Saved.{FIRST, frames, spelt, text, TextOf}
-use Rattle.saved_frames.specs.SavedFrames.{Took}
+use Rattle.saved_frames.specs.SavedFrames.{Sheet, Took}
 use Rattle.reading.specs.Reading.{readFrom}
 use Rattle.read_back.proofs.WholeText.{text-read}
 use Rattle.hex_lines.specs.HexLines.{Put}
@@ -113,3 +114,37 @@ compared {t} {st} {tb} {ok} {z} {page} {n} r h p d =
       yes = λ o. record { held = h; text = record { sane = h .sane; width = sym (held-width h); saved = d .only o ∙ e } };
       no = λ o s q. false-true (sym o ∙ d .always (q .saved ∙ (ap text (sym (read-state q r)) ∙ sym e)));
     }
+
+-- ---- whether there is one
+
+same-or-not {ℓ} : {R : Type ℓ} (a b : List ℕ) → (a ≡ b → R) → ((a ≡ b → ⊥) → R) → R
+same-or-not [] [] y z = y refl
+same-or-not [] (x ∷ b) y z = z (λ e. let n = ap length e in omega arith)
+same-or-not (x ∷ a) [] y z = z (λ e. let n = ap length e in omega arith)
+same-or-not (x ∷ a) (w ∷ b) y z =
+    by-test (eqb x w)
+    (λ t. same-or-not a b (λ e. y (ap₂ _∷_ (eqb→eq x w t) e)) (λ n. z (λ e. n (ap (drop 1) e))))
+    (λ t. z (λ e. T-not (eqb x w) t (subst (λ k. T (eqb x k)) (ap (λ l. getD l 0 x) e) (eqb-refl x))))
+
+-- a text was saved of a state, or of none
+pub text-or-not {ℓ} : {R : Type ℓ} (t : List ℕ) → ((s : State) → TextOf 4 s t → R) → (((s : State) → TextOf 4 s t → ⊥) → R) → R
+text-or-not {R = R} t y z = go (boardTest b tb) (decides b tb)
+  where
+    x : Sheet
+    x = readFrom (drop 5 t) (replicate 1472 0)
+
+    b : Board
+    b = boardOf (x .state)
+
+    tb : List ℕ
+    tb = x .table
+
+    r : Took x (x .state) tb
+    r = record { state = refl; table = refl }
+
+    go : (k : Bool) → Decides k (Held b tb) → R
+    go true d =
+        let h = d .only refl in
+        same-or-not t (text (stateIn b tb)) (λ e. y (stateIn b tb) (record { sane = h .sane; width = sym (held-width h); saved = e }))
+        (λ n. z (λ s q. n (q .saved ∙ ap text (sym (read-state q r)))))
+    go false d = z (λ s q. false-true (d .always (read-held q r)))

@@ -1,7 +1,8 @@
 -- Saved texts by example, computed: a fresh board's, and one with every kind of line. docs/saved.md tells both in words. Assumes nothing.
+use Prim.Native.String.{String}
 use mathlib.Core.Path.{_≡_, refl}
 use mathlib.Core.Bool.{true, false}
-use mathlib.Core.List.{[], _∷_}
+use mathlib.Core.List.{List, [], _∷_}
 use mathlib.Core.Option.{none, some}
 use lib.Dec.{T}
 use lib.ListN.{length}
@@ -11,20 +12,21 @@ use Rattle.machine.specs.Sound.{sound}
 use Rattle.machine.specs.Machine.{machine}
 use Rattle.saved.specs.Saved.{text, kept, channelFrame, requestFrame, spanFrame, writeFrame, writeFrames, keyFrame, frames, spelt}
 
-fresh-saved :
-    text fresh
-    ≡ page
-    ("D001"
+abbrev freshText : List String
+freshText =
+    "D001"
     ∷ "D10000000000000000000000"
     ∷ "D10000000000000000000000"
     ∷ "D10000000000000000000000"
     ∷ "D10000000000000000000000"
     ∷ "D70000"
-    ∷ [])
+    ∷ []
+
+pub fresh-saved : text fresh ≡ page freshText
 unfolding machine bytes page text kept channelFrame requestFrame spanFrame writeFrame writeFrames keyFrame frames spelt
 fresh-saved = refl
 
-fresh-length : length (text fresh) ≡ 112
+pub fresh-length : length (text fresh) ≡ 112
 unfolding machine text kept channelFrame requestFrame spanFrame writeFrame writeFrames keyFrame frames spelt
 fresh-length = refl
 
@@ -62,10 +64,9 @@ pub busy-sound : T (sound busy)
 unfolding machine busy
 busy-sound = tt
 
-busy-saved :
-    text busy
-    ≡ page
-    ("D001"
+abbrev busyText : List String
+busyText =
+    "D001"
     ∷ "D100010A010001010000C820"
     ∷ "D10000000000000000000000"
     ∷ "D10002FD0001000000000000"
@@ -81,6 +82,8 @@ busy-saved :
     ∷ "D60002"
     ∷ "D60001"
     ∷ "D70002"
-    ∷ [])
+    ∷ []
+
+pub busy-saved : text busy ≡ page busyText
 unfolding machine bytes page busy text kept channelFrame requestFrame spanFrame writeFrame writeFrames keyFrame frames spelt
 busy-saved = refl

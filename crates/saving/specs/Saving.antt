@@ -1,6 +1,7 @@
 -- Document 02, #106: what is promised of a state that is saved, for whatever bytes are lent.
 -- Assumes nothing.
 --
+--   TEXT                     3,344: no text of four channels is longer (`saved.Lengths.text-most`)
 --   EIGHT, TOOSMALL          10: eight channels, which have no text of the first form; 12: "A text that doesn't fit the lent room"
 --   heldBy st tb             the state that the bytes hold
 --   Unwritten c l e n l′     the refusal c: no length, "and nothing is written"
@@ -17,6 +18,9 @@ use Rattle.image.specs.Image.{stateOf}
 use Rattle.waiting_list.specs.WaitingList.{Sound}
 use Rattle.hex_lines.specs.HexLines.{Put}
 use Rattle.saved.specs.Saved.{text}
+
+abbrev pub TEXT : ℕ
+TEXT = 3344
 
 abbrev pub EIGHT : ℕ
 EIGHT = 10

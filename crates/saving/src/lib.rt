@@ -6,7 +6,7 @@ ghost use lib.ListN.{length};
 ghost use Rattle.hex_lines.specs.HexLines.{Put};
 ghost use Rattle.board.specs.Board.{stateIn, Held};
 ghost use Rattle.saved.specs.Saved.{text as textOf};
-ghost use Rattle.saving.specs.Saving.{Saves};
+ghost use Rattle.saving.specs.Saving.{TEXT, Saves};
 
 // The refusal, or 0; how long the text is.
 pub struct Written {
@@ -16,6 +16,13 @@ pub struct Written {
 
 // No text of four channels is longer.
 pub const LONGEST: usize = 3344;
+
+// Room for every text.
+pub fn text_size() -> usize
+    ensures { λ r. ⌜ r ≡ TEXT ⌝ }
+{
+    LONGEST
+}
 
 // The text of a board of four channels, in front of the page; how long it is.
 pub fn spell(b: Board, table: &[u8], page: &mut [u8]) -> usize
