@@ -17,15 +17,14 @@ use Rattle.board.specs.Board.{sized, structOf, stateIn, Held}
 use Rattle.board.proofs.Laws.{held-of, held-width, held-sized, stateIn-of}
 use Rattle.sound.specs.Sound.{Decides, boardTest}
 use Rattle.sound.proofs.Own.{decides}
-use Rattle.saved.specs.Saved.{text, TextOf}
 use Rattle.saved_frames.specs.SavedFrames.{Sheet, Took}
 use Rattle.reading.specs.Reading.{readFrom}
 use Rattle.hex_lines.specs.HexLines.{Put}
 use Rattle.accepting.specs.declared.Found.{Found}
-use Rattle.accepting.proofs.Accepting.{false-true, read-held as first-held, read-state as first-state}
+use Rattle.accepting.proofs.Accepting.{false-true, same-or-not}
 use Rattle.saved2.specs.Saved2.{text2, TextOf2}
 use Rattle.saved2.proofs.Lengths2.{text2-length}
-use Rattle.saving2.proofs.Laws2.{taken-front, same-or-not}
+use Rattle.saving2.proofs.Laws2.{taken-front}
 use Rattle.read_back2.proofs.ReadBack2.{zeros, text2-read}
 use Rattle.accepting2.specs.Accepting2.{Yes2, Accepts2}
 
@@ -101,25 +100,3 @@ saved2-or-not {R = R} w t z y n = go (boardTest b tb) (decides b tb)
         same-or-not t (text2 (stateIn b tb)) (λ e. y (stateIn b tb) (record { sane = h .sane; width = sym (held-width h); saved = e }))
         (λ m. n (λ s q. m (q .saved ∙ ap text2 (sym (read-state q took)))))
     go false d = n (λ s q. false-true (d .always (read-held q took z)))
-
-pub saved-or-not {ℓ} : {R : Type ℓ} (t : List ℕ) → ((s : State) → TextOf 4 s t → R) → (((s : State) → TextOf 4 s t → ⊥) → R) → R
-saved-or-not {R = R} t y n = go (boardTest b tb) (decides b tb)
-  where
-    x : Sheet
-    x = readFrom (drop 5 t) zeros
-
-    b : Board
-    b = boardOf 4 (x .state)
-
-    tb : List ℕ
-    tb = x .table
-
-    took : Took x (x .state) tb
-    took = record { state = refl; table = refl }
-
-    go : (r : Bool) → Decides r (Held b tb) → R
-    go true d =
-        let h = d .only refl in
-        same-or-not t (text (stateIn b tb)) (λ e. y (stateIn b tb) (record { sane = h .sane; width = sym (held-width h); saved = e }))
-        (λ m. n (λ s q. m (q .saved ∙ ap text (sym (first-state q took)))))
-    go false d = n (λ s q. false-true (d .always (first-held q took)))

@@ -5,7 +5,13 @@ ghost use Rattle.loading2.specs.Loading2.{Loads2};
 
 // The state of a saved text, its table, and its display counted once: 0. Memory of another size: 1. A text that was not saved of a sound
 // state of that board, or no board of four or eight channels: 9. After a refusal nothing has moved.
-pub fn load2(channels: u8, text: &[u8], state: &mut [u8], table: &mut [u8], display: &mut [u8]) -> u8
+pub fn load2(
+    channels: u8,
+    text: &[u8],
+    state: &mut [u8],
+    table: &mut [u8],
+    display: &mut [u8],
+) -> u8
     ensures { λ r. ⌜ Loads2 channels (now (text .entry)) (now (state .entry)) (now (table .entry)) (now (display .entry))
         r (now (state .exit)) (now (table .exit)) (now (display .exit)) ⌝ }
 {

@@ -29,6 +29,7 @@ use Rattle.saved2.proofs.Lengths2.{text2-most}
 use Rattle.recounting.specs.Recounting.{counted}
 use Rattle.number_lines.specs.NumberLines.{numberLines}
 use Rattle.number_lines.proofs.NumberLines.{counted-lines}
+use Rattle.accepting.proofs.Accepting.{same-or-not}
 use Rattle.saving.specs.Saving.{heldBy, Unwritten}
 use Rattle.saving.proofs.Laws.{front}
 use Rattle.saving2.specs.Saving2.{Filled, Fills, Agrees, Saves2}
@@ -126,16 +127,6 @@ module _ {st tb dp l : List ℕ} where
       handed s (subst (λ u. Agrees dp u) y a) (subst (λ u. Fills (text2 u) l e n l′) y (subst (λ vs. Fills vs l e n l′) (taken-front p) f))
 
 -- ---- no second text fits
-
--- two lists of numbers are equal, or they are not
-pub same-or-not {ℓ} : {R : Type ℓ} (xs ys : List ℕ) → (xs ≡ ys → R) → ((xs ≡ ys → ⊥) → R) → R
-same-or-not [] [] y z = y refl
-same-or-not [] (b ∷ ys) y z = z (λ e. let n = ap length e in omega arith)
-same-or-not (a ∷ xs) [] y z = z (λ e. let n = ap length e in omega arith)
-same-or-not (a ∷ xs) (b ∷ ys) y z =
-    by-test (eqb a b)
-    (λ t. same-or-not xs ys (λ e. y (ap₂ (λ (x : ℕ) (l : List ℕ). x ∷ l) (eqb→eq a b t) e)) (λ n. z (λ e. n (ap (drop 1) e))))
-    (λ t. z (λ e. T-not (eqb a b) t (subst (λ x. T (eqb a x)) (ap (λ x. getD x 0 0) e) (eqb-refl a))))
 
 pub agrees-or-not {ℓ} : {R : Type ℓ} (dp : List ℕ) (s : State) → (Agrees dp s → R) → ((Agrees dp s → ⊥) → R) → R
 agrees-or-not dp s y z =
