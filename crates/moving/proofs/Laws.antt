@@ -3,14 +3,18 @@ use Prim.Native.Nat.{ℕ, _≤_, _<_}
 use mathlib.Core.Path.{_≡_, refl, ap, sym, subst, _∙_}
 use mathlib.Core.List.{List}
 use native.Mathlib.Omega.{arith}
+use lib.Dec.{leb, leb→le, nleb→lt}
 use lib.ListN.{length, take}
 use Rattle.machine.specs.State.{State}
+use Rattle.machine.proofs.Tests.{by-test}
 use Rattle.board.specs.Board.{stateIn}
 use Rattle.hex_lines.specs.HexLines.{Put}
 use Rattle.saved.specs.Saved.{text, TextOf}
 use Rattle.accepting.specs.declared.Found.{Found}
 use Rattle.accepting.specs.Accepting.{Yes}
 use Rattle.accepting.proofs.Accepting.{one-spelling, text-or-not}
+use Rattle.saving.specs.Saving.{Unwritten}
+use Rattle.saving.proofs.Laws.{page-within}
 use Rattle.saved2.specs.Saved2.{text2, TextOf2}
 use Rattle.saving2.specs.Saving2.{Fills}
 use Rattle.saving2.proofs.Laws2.{taken-front, unwritten-same, fills-same}
@@ -71,3 +75,23 @@ module _ {t l : List ℕ} {e e₂ n n₂ : ℕ} {l₁ l₂ : List ℕ} where
   one-moving-old a b =
       saved2-or-not 4 t tt (λ s h. fills-same (a .moved s h) (b .moved s h))
       (λ m. saved2-or-not 8 t tt (λ s h. unwritten-same (a .eight s h) (b .eight s h)) (λ k. unwritten-same (a .refused m k) (b .refused m k)))
+
+-- ---- no more is written than there is room
+
+unwritten-within : {c e n : ℕ} {l l′ : List ℕ} → Unwritten c l e n l′ → n ≤ length l′
+unwritten-within u = let k = u .count in omega arith
+
+fills-within : {vs l l′ : List ℕ} {e n : ℕ} → Fills vs l e n l′ → n ≤ length l′
+fills-within {vs} {l} f =
+    by-test (leb (length vs) (length l))
+    (λ t. let h = leb→le (length vs) (length l) t in page-within (f .full h .put) h)
+    (λ t. unwritten-within (f .short (nleb→lt (length vs) (length l) t)))
+
+module _ {t l l′ : List ℕ} {e n : ℕ} where
+  pub new-within : MovesNew t l e n l′ → n ≤ length l′
+  new-within a = text-or-not t (λ s h. fills-within (a .moved s h)) (λ m. unwritten-within (a .refused m))
+
+  pub old-within : MovesOld t l e n l′ → n ≤ length l′
+  old-within a =
+      saved2-or-not 4 t tt (λ s h. fills-within (a .moved s h))
+      (λ m. saved2-or-not 8 t tt (λ s h. unwritten-within (a .eight s h)) (λ k. unwritten-within (a .refused m k)))
