@@ -462,8 +462,10 @@ static int read_shown(struct Reader *r, unsigned c, struct Display *d)
 /* "The new form opens with D002, then the channel number", which is that of the board that loads. */
 static int read_text2(struct Reader *r, unsigned channels, struct Arbiter *a, struct Display *d)
 {
+    static const struct Display none;
+
     arbiter_fresh(a, channels);
-    memset(d, 0, sizeof *d);
+    *d = none;
     if (!opens_with(r, second_line))
         return 0;
     next_line(r);

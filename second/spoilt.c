@@ -784,16 +784,31 @@ static int other_last(struct Spoilt *t)
 
 /* ---- The second form ---- */
 
+/* A board of five channels, whole: the number says so, and there is one more channel with its numbers. */
+static void five_channels(struct Spoilt *t, size_t board)
+{
+    char shown[] = "D9040000\n";
+    size_t found[LINES];
+
+    set_byte(t, board, 1, 5);
+    if (lines_of(t, 0xD9, 4, found) == 4)
+        splice(t, t->length, 0, shown, sizeof shown - 1);
+    if (lines_of(t, 0xD1, 12, found) == 4)
+        splice(t, found[0], 0, "D10000000000000000000000\n", 25);
+}
+
 /* The number of channels: the other board's, none's, or no such line, or two. */
 static int bad_board(struct Spoilt *t)
 {
     static const uint8_t numbers[6] = {0, 1, 3, 5, 7, 255};
-    unsigned odds = below(6), number = numbers[below(6)];
+    unsigned odds = below(7), number = numbers[below(6)];
     size_t line = line_of(t, 0xD8, 2);
 
     if (line == NONE)
         return 0;
-    if (odds == 0)
+    if (odds == 6)
+        five_channels(t, line);
+    else if (odds == 0)
         splice(t, line, line_length(t, line), "", 0);
     else if (odds == 1)
         copy_line(t, line, line, 1);
