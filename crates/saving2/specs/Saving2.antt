@@ -1,6 +1,7 @@
 -- Document 02, #112: what is promised of a state that is saved in the second form, for whatever bytes are lent.
 -- Assumes nothing.
 --
+--   TEXT2                     3,521: no text of the second form is longer (`saved2.Lengths.text2-most` and the like)
 --   Filled vs l e n l′        0, and the bytes vs, with every byte behind them as before
 --   Fills vs l e n l′         so it is where they fit, and else "short room 12 last, and nothing is written"
 --   Agrees dp s               the bytes of a display are its size, and its numbers agree with a count over the state
@@ -16,6 +17,9 @@ use Rattle.waiting_list.specs.WaitingList.{Sound}
 use Rattle.hex_lines.specs.HexLines.{Put}
 use Rattle.saving.specs.Saving.{TOOSMALL, heldBy, Unwritten}
 use Rattle.saved2.specs.Saved2.{text2}
+
+abbrev pub TEXT2 : ℕ
+TEXT2 = 3521
 
 pub record Filled (vs l : List ℕ) (e n : ℕ) (l′ : List ℕ) : Type 0 where
   pub error : e ≡ 0

@@ -9,10 +9,17 @@ ghost use Rattle.hex_lines.specs.HexLines.{Put};
 ghost use Rattle.sound.specs.Sound.{Decides};
 ghost use Rattle.board.specs.Board.{stateIn, Held};
 ghost use Rattle.saved2.specs.Saved2.{text2};
-ghost use Rattle.saving2.specs.Saving2.{Fills, Agrees, Saves2};
+ghost use Rattle.saving2.specs.Saving2.{TEXT2, Fills, Agrees, Saves2};
 
 // No text of eight channels is longer.
 pub const LONGEST: usize = 3521;
+
+// Room for every text of the second form.
+pub fn text2_size() -> usize
+    ensures { λ r. ⌜ r ≡ TEXT2 ⌝ }
+{
+    LONGEST
+}
 
 // The text of a board, in front of the page; how long it is.
 pub fn spell2(b: Board, table: &[u8], page: &mut [u8]) -> usize
