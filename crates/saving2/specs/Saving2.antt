@@ -1,7 +1,7 @@
 -- Document 02, #112: what is promised of a state that is saved in the second form, for whatever bytes are lent.
 -- Assumes nothing.
 --
---   TEXT2                     3,521: no text of the second form is longer (`saved2.Lengths.text2-most` and the like)
+--   TEXT2                     3,521: no text of the second form is longer (`saved2.Lengths2.text2-most`)
 --   Filled vs l e n l′        0, and the bytes vs, with every byte behind them as before
 --   Fills vs l e n l′         so it is where they fit, and else "short room 12 last, and nothing is written"
 --   Agrees dp s               the bytes of a display are its size, and its numbers agree with a count over the state
