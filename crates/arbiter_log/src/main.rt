@@ -17,6 +17,7 @@ ghost use Rattle.arbiter_log.specs.Desk.{Ready, Begins};
 
 // The descriptors that ./arbiter-log opens, where it has the files.
 const LOADED: i32 = 3;
+
 const SAVED: i32 = 4;
 
 // A byte more than the longest text has, which is enough to see that a text is none.
@@ -245,10 +246,7 @@ fn begin(load: bool, w: u8, table: &mut [u8], display: &mut [u8]) -> Found
 {
     if !load {
         let s = Board::fresh(w);
-        return Found {
-            ok: true,
-            board: s,
-        };
+        return Found { ok: true, board: s };
     }
     let mut text = [0u8; MOST];
     let n = io::read_full(LOADED, &mut text);
