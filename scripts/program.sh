@@ -207,7 +207,7 @@ begin_save() {
         complain "$log_save is no file"
     elif [ -e "$part" ] && [ ! -f "$part" ]; then
         complain "$part is no file"
-    elif (: >"$part") 2>/dev/null; then
+    elif (rm -f -- "$part" && : >"$part") 2>/dev/null; then
         return
     else
         complain "$part cannot be written"
