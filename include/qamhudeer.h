@@ -26,7 +26,7 @@ extern "C" {
 /* ---- the version: the first number moves where a desk's source may have to change (CHANGELOG.md says what). It stands here
  * alone; the package and the programs take it from this line. */
 
-#define QAMHUDEER_VERSION "7.0.0"
+#define QAMHUDEER_VERSION "7.1.0"
 
 /* ---- sizes in bytes */
 
@@ -41,6 +41,7 @@ extern "C" {
 #define QAMHUDEER_CHANNEL_SIZE 70
 #define QAMHUDEER_PORT_SIZE 529
 #define QAMHUDEER_ROOM_SIZE 973 /* what one line of a log may bring: 64 replies and an answer */
+#define QAMHUDEER_TEXT_SIZE 3344 /* no saved text is longer */
 
 /* ---- what a caller may read of a state. Numbers of two bytes have the high one first. */
 
@@ -196,9 +197,11 @@ extern "C" {
 #define QAMHUDEER_NOROOM 5    /* the reply list has room for fewer than 64 replies, the list of records for fewer than 64 */
 #define QAMHUDEER_OTHERDESK 8 /* an id of the other desk's half; from a caller that is no desk, any id */
 
-/* Refusals of the maker of stereo lists, and of a port. */
+/* Refusals of saved states, of the maker of stereo lists, and of a port. */
+#define QAMHUDEER_BADTEXT 9   /* no text that was saved of a sound state of this board */
+#define QAMHUDEER_EIGHT 10    /* eight channels, which have no text of the first form */
 #define QAMHUDEER_BADWISH 11  /* a number above 2 */
-#define QAMHUDEER_TOOSMALL 12 /* room for fewer maps than QAMHUDEER_STEREO_ROOM, or less room than QAMHUDEER_ROOM_SIZE */
+#define QAMHUDEER_TOOSMALL 12 /* room for fewer maps than QAMHUDEER_STEREO_ROOM, less room than QAMHUDEER_ROOM_SIZE, or than a text has */
 #define QAMHUDEER_STEREO_ROOM 4
 
 /* The result of a call whose answer or display has another size. */
@@ -276,6 +279,27 @@ uint8_t qamhudeer_feed_end(uint8_t *port, size_t port_len,
                            uint8_t *out, size_t out_len,
                            size_t *written);
 
+/* A state carried from one board to another, as a text of hexadecimal lines (docs/saved.md has them), for the four-channel board.
+ *
+ * qamhudeer_save writes the text of the state at the front of `text`: returns 0, and *written is its length, 112 for a fresh device
+ * and at most QAMHUDEER_TEXT_SIZE. Where state and table are not sound: returns QAMHUDEER_UNSOUND. Then a board of eight channels:
+ * QAMHUDEER_EIGHT. Then a text_len below the text's length: QAMHUDEER_TOOSMALL. After a refusal *written is 0. No byte of `text`
+ * changes but those of the text.
+ *
+ * qamhudeer_load takes exactly such texts, for channels 4: returns 0, and state and table are byte for byte those that were saved;
+ * the display's numbers are counted once, and its looks are 0. Where state_len, table_len or display_len is another than its size:
+ * returns QAMHUDEER_UNSOUND. Then any other text, or any other number of channels: QAMHUDEER_BADTEXT. After a refusal no byte has
+ * changed. The state lent may hold anything before. A load replaces history: what a desk was promised of its calls begins anew. */
+uint8_t qamhudeer_save(const uint8_t *state, size_t state_len,
+                       const uint8_t *table, size_t table_len,
+                       uint8_t *text, size_t text_len,
+                       size_t *written);
+uint8_t qamhudeer_load(uint8_t channels,
+                       const uint8_t *text, size_t text_len,
+                       uint8_t *state, size_t state_len,
+                       uint8_t *table, size_t table_len,
+                       uint8_t *display, size_t display_len);
+
 /* Lists for stereo, on the four-channel board alone: channels 0 and 3 sound left, 1 and 2 right.
  *
  * All maps with `left` left and `right` right channels, 0 to 2 each, in ascending order at the front of `maps`: returns 0, and
@@ -296,6 +320,7 @@ size_t qamhudeer_answer_size(void);
 size_t qamhudeer_channel_size(void);
 size_t qamhudeer_port_size(void);
 size_t qamhudeer_room_size(void);
+size_t qamhudeer_text_size(void);
 size_t qamhudeer_offset_of_locks(void);
 size_t qamhudeer_offset_of_waiters(void);
 size_t qamhudeer_offset_of_waiting(void);

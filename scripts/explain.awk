@@ -1,9 +1,12 @@
 # Reads a log of two desks, and beside it the file 'output', what the program wrote for it with '--show', on a board of so many
-# channels; writes the same in words. ./explain runs it, behind words.awk and queues.awk. POSIX awk.
+# channels; from the state of the text 'saved' on, if there is one. Writes the same in words. ./explain runs it, behind words.awk and
+# queues.awk. POSIX awk.
 
 BEGIN {
     width = 98          # columns of a line, where words can be broken so
     margin = 23         # where the words of a call and of what follows it begin
+    if (saved != "")
+        begin_saved(saved)
 }
 
 # ---- Words

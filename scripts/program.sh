@@ -3,7 +3,8 @@
 #   proved_program NAME  the program of this crate, proved and built where it is missing or older than what it is made from
 #   ready       the same of the log program. Where nothing has changed both are quick
 #   watched FILE WORDS  runs rt with these words; all that it says goes to FILE, and how far it is to standard error
-#   log_options WORDS  the log program's options, checked; in log_words as the program takes them
+#   log_options WORDS  the log program's options, checked; in log_words as the program takes them, with log_load and log_save
+#   carry       plays the log with what log_options has read, from a saved text or to one, and ends with the status
 #   help        what a script's own head says of its use
 #   version     the version, as the header has it
 #   play WORDS  runs the program with these arguments, through the kit's emulator where the machine is not x86-64
@@ -25,9 +26,10 @@ version() {
     sed -n 's/^#define QAMHUDEER_VERSION "\([0-9.]*\)"$/\1/p' "$root/include/qamhudeer.h"
 }
 
-# The program's first word is the number of channels; in a second one c shows them, and d the wall display.
+# The program's first word is the number of channels; in a second one c shows them, d the wall display, l goes on from the text on
+# descriptor 3, and s saves to descriptor 4.
 log_options() {
-    log_words=4 log_channels= log_display=
+    log_words=4 log_channels= log_display= log_load= log_save=
     while [ $# -gt 0 ]; do
         case $1 in
         --channels)
@@ -39,13 +41,22 @@ log_options() {
             ;;
         --show) log_channels=c ;;
         --display) log_display=d ;;
+        --load | --save)
+            [ -n "${2:-}" ] || { complain "$1 takes a file; --help tells more"; return 2; }
+            if [ "$1" = --load ]; then log_load=$2; else log_save=$2; fi
+            shift
+            ;;
         --help) help; exit 0 ;;
         --version) echo "${0##*/} $(version)"; exit 0 ;;
         *) complain "there is no option '$1'; --help tells more"; return 2 ;;
         esac
         shift
     done
-    log_words="$log_words $log_channels$log_display"
+    if [ $log_words -ne 4 ] && [ -n "$log_load$log_save" ]; then
+        complain "the first form of saved texts is the four-channel board's alone: --load and --save go with --channels 4"
+        return 2
+    fi
+    log_words="$log_words $log_channels$log_display${log_load:+l}${log_save:+s}"
 }
 
 has_kit() {
@@ -160,4 +171,73 @@ play() {
     else
         $how "$program" "$@"
     fi
+}
+
+# ---- Saved texts
+
+# judged TEXT: what the proved program says of a text: 'accepted', 'line N' or 'no sound state'.
+judged() {
+    (proved_program text_program && how= && play <"$1")
+}
+
+# The text is copied, so that the one that is tested is the one that is loaded. No saved text is nearly as long as what is read of it.
+load_text() {
+    if [ -d "$log_load" ]; then
+        complain "$log_load is a folder"
+        return 2
+    fi
+    if [ ! -r "$log_load" ] || ! head -c 65536 <"$log_load" >"$carried/text"; then
+        complain "$log_load cannot be read"
+        return 2
+    fi
+    verdict=$(judged "$carried/text") || return 2
+    case $verdict in
+    accepted) return ;;
+    'line '*) complain "$log_load: $verdict is no frame of its kind" ;;
+    'no sound state') complain "$log_load: every line is a frame, and the whole is no sound state" ;;
+    *) complain "the program that tests texts said '$verdict'" ;;
+    esac
+    return 2
+}
+
+# The new file is made before the log is read, beside the one that it is to replace.
+begin_save() {
+    part=$log_save.part
+    if [ -e "$log_save" ] && [ ! -f "$log_save" ]; then
+        complain "$log_save is no file"
+    elif [ -e "$part" ] && [ ! -f "$part" ]; then
+        complain "$part is no file"
+    elif (rm -f -- "$part" && : >"$part") 2>/dev/null; then
+        return
+    else
+        complain "$part cannot be written"
+    fi
+    part=
+    return 2
+}
+
+# The program saves only where all was read and written. A text that is not whole is not accepted.
+end_save() {
+    if [ "$(judged "$part")" = accepted ] && { sync "$part" 2>/dev/null || sync; } && mv -f -- "$part" "$log_save"; then
+        part=
+        return
+    fi
+    complain "$log_save is not saved, and is as it was"
+    return 1
+}
+
+# On the way out nothing is left but what was saved.
+carry() {
+    part=
+    carried=$(mktemp -d) || exit 2
+    trap 'rm -rf "$carried"; [ -z "$part" ] || rm -f -- "$part"' EXIT
+    trap 'exit 2' HUP INT TERM
+    [ -z "$log_load" ] || load_text || exit 2
+    : >>"$carried/text"
+    [ -z "$log_save" ] || judged "$carried/text" >/dev/null || exit 2
+    ready || exit 2
+    [ -z "$log_save" ] || begin_save || exit 2
+    play $log_words 3<"$carried/text" 4>"${part:-/dev/null}" || exit
+    [ -z "$log_save" ] || end_save || exit
+    exit 0
 }

@@ -1,5 +1,6 @@
 # What the program does not show: which write stands in which queue, how many cycles it has left, who waits for a cycle, and what is
-# remembered. It is followed from the calls and the replies. ./explain and ./wall run it, behind words.awk. POSIX awk.
+# remembered. It is followed from the calls and the replies, from a fresh device on or from a saved text. ./explain and ./wall run it,
+# behind words.awk. POSIX awk.
 
 # Requests stand in one text, oldest first, with a space around each.
 function joins(list, id) {
@@ -73,4 +74,26 @@ function follow_synced(map, call, c, marks) {
         finish[c] = "FINISH"
     if (byte(call, 0) == 12)
         pervol[c] = "PERVOL with period " period(call) " and volume " volume(call)
+}
+
+# Where a log goes on from a saved text, what this text has of it: docs/saved.md says what stands where.
+function begin_saved(file,    text, c, id) {
+    c = 0
+    while ((getline text < file) > 0)
+        if (text ~ /^D1/) {
+            if (byte(text, 6) == 1)
+                finish[c] = "FINISH"
+            if (byte(text, 7) == 1)
+                pervol[c] = "PERVOL with period " (65536 * byte(text, 8) + pair(text, 9)) " and volume " byte(text, 11)
+            c++
+        } else if (text ~ /^D4/) {
+            id = byte(text, 1)
+            waiters = joins(waiters, id)
+            awaited[id] = lowest(byte(text, 4))
+        } else if (text ~ /^D5/) {
+            id = byte(text, 2)
+            writes[byte(text, 1)] = joins(writes[byte(text, 1)], id)
+            left[id] = pair(text, 3)
+        }
+    close(file)
 }

@@ -1,21 +1,28 @@
 /* The second program: plays a log from standard input on a fresh device and writes
    each call's replies and answer to standard output.
 
-     arbiter2 [--channels 4|8] [--show] [--display]
+     arbiter2 [--channels 4|8] [--show] [--display] [--load FILE] [--save FILE]
      arbiter2 --version
 
    --show: then also a line B0 for each channel of the board. --display: then a line E0 with
-   the numbers of the wall display, and a line E1 for each waiting request. --help tells
-   this. A wrong option gets a message and status 2. The version is that of the header for
-   C, the only thing that is taken from there. */
+   the numbers of the wall display, and a line E1 for each waiting request. --load: it plays
+   on from the saved state in FILE. --save: after the log's end the state is saved in FILE.
+   --help tells this. A wrong option gets a message and status 2, and so does a FILE that
+   cannot be read, that holds no saved text or that cannot be written; all that is tested
+   before the log is read. The version is that of the header for C, the only thing that is
+   taken from there. */
 #include "log.h"
+#include "saved.h"
 
 #include "../include/qamhudeer.h"
 
+#include <errno.h>
 #include <stdio.h>
+#include <stdlib.h>
 #include <string.h>
 
-static const char usage[] = "usage: arbiter2 [--channels 4|8] [--show] [--display] <LOG | arbiter2 --version\n";
+static const char usage[] =
+    "usage: arbiter2 [--channels 4|8] [--show] [--display] [--load FILE] [--save FILE] <LOG | arbiter2 --version\n";
 static const char help[] =
     "Plays a log on a fresh device; writes each line's replies and its answer.\n"
     "  --channels 4|8  the board; left out: 4\n"
@@ -23,12 +30,18 @@ static const char help[] =
     "  --display       then a line E0: for each channel its writes and the waiting requests naming it,\n"
     "                  behind them the looks of the last settling; and a line E1 for each waiting\n"
     "                  request in order: id, precedence, held 00 or 01, desk 00 or 01\n"
+    "  --load FILE     plays on from the state that was saved in FILE, and not on a fresh device\n"
+    "  --save FILE     after the log's end saves the state in FILE; of the four-channel board alone\n"
     "  --help          writes this, and reads no log\n";
 
 struct Options {
     unsigned channels;
     int show, display, help;
+    const char *load, *save;                /* NULL where not asked for */
 };
+
+static struct Arbiter state;
+static struct Display display;
 
 /* 1 if the words are options that there are; 0 if not. */
 static int read_options(int count, char **argument, struct Options *o)
@@ -43,18 +56,114 @@ static int read_options(int count, char **argument, struct Options *o)
         else if (strcmp(argument[i], "--channels") == 0 && i + 1 < count
                  && (strcmp(argument[i + 1], "4") == 0 || strcmp(argument[i + 1], "8") == 0))
             o->channels = (unsigned)(argument[++i][0] - '0');
+        else if (strcmp(argument[i], "--load") == 0 && i + 1 < count && argument[i + 1][0] != '\0')
+            o->load = argument[++i];
+        else if (strcmp(argument[i], "--save") == 0 && i + 1 < count && argument[i + 1][0] != '\0')
+            o->save = argument[++i];
         else
             return 0;
     return 1;
 }
 
+/* ---- Saved states ---- */
+
+static int complain(const char *file, const char *what)
+{
+    fprintf(stderr, "arbiter2: %s: %s\n", file, what);
+    return 0;
+}
+
+/* Why the text is refused: a line of it, or the whole. */
+static int complain_of_text(const char *file, const char *text, size_t length)
+{
+    size_t line = saved_fault(text, length);
+
+    if (line == 0)
+        return complain(file, "the whole is no sound state");
+    fprintf(stderr, "arbiter2: %s: line %lu is no frame that may stand there\n", file, (unsigned long)line);
+    return 0;
+}
+
+/* 1 if the file holds a saved text, whose state then stands. A byte more than the longest text has is enough to see that it is none. */
+static int load(const char *name, unsigned channels)
+{
+    static char text[SAVED_LONGEST + 1];
+    FILE *file = fopen(name, "rb");
+    size_t length = 0;
+    int whole;
+
+    if (file == NULL)
+        return complain(name, strerror(errno));
+    length = fread(text, 1, sizeof text, file);
+    whole = !ferror(file);
+    fclose(file);
+    if (!whole)
+        return complain(name, "cannot be read");
+    if (saved_load(channels, text, length, &state, &display) != DONE)
+        return complain_of_text(name, text, length);
+    return 1;
+}
+
+/* The new file beside the one that is saved to, open from before the log is read. */
+static char *part_name;
+static FILE *part;
+
+static int open_part(const char *name)
+{
+    part_name = malloc(strlen(name) + sizeof ".part");
+    if (part_name == NULL)
+        return complain(name, "no memory");
+    strcpy(part_name, name);
+    strcat(part_name, ".part");
+    part = fopen(part_name, "wb");
+    return part != NULL || complain(part_name, strerror(errno));
+}
+
+/* Nothing is saved, and no part is left. */
+static void drop_part(void)
+{
+    if (part == NULL)
+        return;
+    fclose(part);
+    remove(part_name);
+}
+
+/* 1 if the state is saved: whole, or not at all. */
+static int save(const char *name)
+{
+    static char text[SAVED_LONGEST];
+    size_t length;
+    int kept;
+
+    if (saved_save(&state, text, sizeof text, &length) != DONE) {
+        drop_part();
+        return complain(name, "the state cannot be saved");
+    }
+    kept = fwrite(text, 1, length, part) == length;
+    kept = fclose(part) == 0 && kept && rename(part_name, name) == 0;
+    if (!kept)
+        remove(part_name);
+    return kept || complain(name, "cannot be written");
+}
+
+/* All that is tested before the log is read. */
+static int begin(const struct Options *o)
+{
+    if (o->channels != 4 && (o->load != NULL || o->save != NULL)) {
+        fputs("arbiter2: the first form of saved texts is the four-channel board's alone\n", stderr);
+        return 0;
+    }
+    arbiter_fresh(&state, o->channels);
+    if (o->load != NULL && !load(o->load, o->channels))
+        return 0;
+    return o->save == NULL || open_part(o->save);
+}
+
 int main(int count, char **argument)
 {
-    static struct Arbiter state;
-    static struct Display display;
     static struct Reply record[REQUESTS];
     static char buffer[1 << 16], text[LONGEST_OUTPUT];
-    struct Options options = {4, 0, 0, 0};
+    struct Options options = {4, 0, 0, 0, NULL, NULL};
     struct Frame frame;
     enum Line line;
 
@@ -71,8 +180,9 @@ int main(int count, char **argument)
         fputs(help, stdout);
         return fflush(stdout) != 0;
     }
+    if (!begin(&options))
+        return 2;
     setvbuf(stdout, buffer, _IOFBF, sizeof buffer);
-    arbiter_fresh(&state, options.channels);
     while ((line = log_read(stdin, &frame)) != LINE_NONE) {
         struct Replies replies = {.record = record, .capacity = REQUESTS};
         struct Answer answer = log_malformed();
@@ -87,7 +197,8 @@ int main(int count, char **argument)
     }
     if (ferror(stdin) || fflush(stdout) != 0 || ferror(stdout)) {
         fputs("arbiter2: input or output failed\n", stderr);
+        drop_part();
         return 1;
     }
-    return 0;
+    return options.save != NULL && !save(options.save);
 }

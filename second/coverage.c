@@ -2,8 +2,13 @@
    caused them: coverage-count SHORT|LONG|EIGHT LOG... Prints a row for each, and fails if a
    row that is due was never reached. Some rows are due in LONG logs only, some on four
    channels only. coverage-count DISPLAY|DISPLAY8 LOG... prints the rows of the wall display
-   alone, for logs on four channels or on eight; each of them is due. */
+   alone, for logs on four channels or on eight; each of them is due. coverage-count SAVED
+   LOG... saves the state after each line, loads it back, spoils the text and loads that, and
+   prints the rows of the saved texts alone; each of them is due. */
+#include "chance.h"
 #include "log.h"
+#include "saved.h"
+#include "spoilt.h"
 
 #include <stdio.h>
 #include <string.h>
@@ -307,6 +312,58 @@ enum {
     WRITES_STOPPED, WRITES_END, BOTH_NUMBERS, HELD_AND_NOT, HELD_BEHIND, HELD_NO_MORE, HELD_NOW, BOTH_DESKS, B_BEFORE_A,
     HALF_LIST, FULL_LIST, LIST_GONE
 };
+
+/* Request #106: what the saved texts hold. */
+static struct SavedRow {
+    const char *name;
+    unsigned long count;
+} saved_rows[] = {
+    {"waiting requests", 0},
+    {"a waiting request of sixteen combinations", 0},
+    {"a waiting request of key 0", 0},
+    {"a waiting request with NOWAIT", 0},
+    {"a waiting request of precedence below 0", 0},
+    {"locks", 0},
+    {"several locks", 0},
+    {"several locks, an older one of a higher id", 0},
+    {"a lock of several channels", 0},
+    {"two locks over one channel", 0},
+    {"WAITCYCLEs", 0},
+    {"several WAITCYCLEs of one channel", 0},
+    {"an older WAITCYCLE of a higher id", 0},
+    {"an older WAITCYCLE of a higher channel", 0},
+    {"a WAITCYCLE of a stopped channel", 0},
+    {"writes", 0},
+    {"writes of every channel", 0},
+    {"several writes of a channel", 0},
+    {"several writes, the front of a higher id", 0},
+    {"an endless write", 0},
+    {"a write of 256 cycles or more left", 0},
+    {"a write with period 65,536", 0},
+    {"FINISH remembered", 0},
+    {"PERVOL remembered", 0},
+    {"both remembered on one channel", 0},
+    {"remembered on a stopped channel", 0},
+    {"a locked channel that no lock names", 0},
+    {"a channel of precedence 127", 0},
+    {"a free channel", 0},
+    {"no open key", 0},
+    {"32 open keys", 0},
+    {"an open key twice", 0},
+    {"every kind of line in one text", 0},
+    {"all 64 ids outstanding", 0},
+    {"of more than 1,000 bytes", 0},
+    {"of more than 2,000 bytes", 0},
+    {"of more than 3,000 bytes", 0}
+};
+enum {
+    WAITING_LINES, WAITING_SIXTEEN, WAITING_NO_KEY, WAITING_NOWAIT, WAITING_BELOW, LOCK_LINES, LOCKS_SEVERAL, LOCKS_AGE, LOCK_WIDE,
+    LOCKS_OVER_ONE, CYCLE_LINES, CYCLES_SEVERAL, CYCLES_AGE, CYCLES_CHANNEL_AGE, CYCLES_STOPPED, WRITE_LINES, WRITES_ALL, WRITES_SEVERAL,
+    WRITES_AGE, WRITES_ENDLESS, WRITES_MANY_LEFT, WRITES_PERIOD, FINISH_KEPT, PERVOL_KEPT, BOTH_KEPT, KEPT_STOPPED, LOCKED_ALONE,
+    HIGHEST, FREE_CHANNEL, NO_OPEN, OPENS_32, OPEN_TWICE, EVERY_KIND, ALL_IDS, BYTES_1000, BYTES_2000, BYTES_3000
+};
+#define MOST_KINDS 128u
+static unsigned long spoilt_refused[MOST_KINDS], spoilt_accepted[MOST_KINDS], texts;
 
 #define COUNT_OF(array) (sizeof (array) / sizeof *(array))
 
@@ -928,7 +985,171 @@ static void count_display(const struct Arbiter *before, const struct Arbiter *af
     count_records(was, is);
 }
 
-static int is_long, is_eight, is_display;   /* what the logs are */
+/* ---- Saved texts ---- */
+
+static void count_saved_waiting(const struct Arbiter *a)
+{
+    unsigned sixteen = 0, no_key = 0, nowait = 0, negative = 0;
+
+    for (unsigned at = 0; at < a->waiting.count; at++) {
+        const struct Request *q = &a->request[a->waiting.id[at]];
+
+        sixteen += q->length == COMBINATIONS;
+        no_key += q->key == 0;
+        nowait += q->nowait;
+        negative += q->precedence < 0;
+    }
+    saved_rows[WAITING_LINES].count += a->waiting.count > 0;
+    saved_rows[WAITING_SIXTEEN].count += sixteen > 0;
+    saved_rows[WAITING_NO_KEY].count += no_key > 0;
+    saved_rows[WAITING_NOWAIT].count += nowait > 0;
+    saved_rows[WAITING_BELOW].count += negative > 0;
+}
+
+static void count_saved_holders(const struct Arbiter *a)
+{
+    unsigned age = 0, wide = 0, over = 0, met = 0, several = 0, channel_age = 0, stopped = 0, alone = 0, highest = 0, unheld = 0;
+
+    for (unsigned at = 0; at < a->locks.count; at++) {
+        unsigned map = a->request[a->locks.id[at]].map;
+
+        age += at > 0 && a->locks.id[at - 1] > a->locks.id[at];
+        wide += (map & (map - 1)) != 0;
+        over += (map & met) != 0;
+        met |= map;
+    }
+    saved_rows[LOCK_LINES].count += a->locks.count > 0;
+    saved_rows[LOCKS_SEVERAL].count += a->locks.count > 1;
+    saved_rows[LOCKS_AGE].count += age > 0;
+    saved_rows[LOCK_WIDE].count += wide > 0;
+    saved_rows[LOCKS_OVER_ONE].count += over > 0;
+    for (unsigned c = 0; c < a->channels; c++) {
+        alone += a->channel[c].locked && (met >> c & 1) == 0;
+        highest += a->channel[c].precedence == 127;
+        unheld += a->channel[c].key == 0;
+    }
+    saved_rows[LOCKED_ALONE].count += alone > 0;
+    saved_rows[HIGHEST].count += highest > 0;
+    saved_rows[FREE_CHANNEL].count += unheld > 0;
+    met = age = 0;
+    for (unsigned at = 0; at < a->cycles.count; at++) {
+        unsigned bit = a->request[a->cycles.id[at]].map;
+
+        age += at > 0 && a->cycles.id[at - 1] > a->cycles.id[at];
+        channel_age += at > 0 && a->request[a->cycles.id[at - 1]].map > bit;
+        several += (bit & met) != 0;
+        met |= bit;
+        for (unsigned c = 0; c < a->channels; c++)
+            stopped += (bit >> c & 1) && a->channel[c].stopped;
+    }
+    saved_rows[CYCLE_LINES].count += a->cycles.count > 0;
+    saved_rows[CYCLES_SEVERAL].count += several > 0;
+    saved_rows[CYCLES_AGE].count += age > 0;
+    saved_rows[CYCLES_CHANNEL_AGE].count += channel_age > 0;
+    saved_rows[CYCLES_STOPPED].count += stopped > 0;
+}
+
+static void count_saved_writes(const struct Arbiter *a)
+{
+    unsigned playing = 0, several = 0, age = 0, endless = 0, many = 0, period = 0, finish = 0, pervol = 0, both = 0, stopped = 0;
+
+    for (unsigned c = 0; c < a->channels; c++) {
+        const struct Channel *channel = &a->channel[c];
+
+        playing += channel->writes.count > 0;
+        several += channel->writes.count > 1;
+        age += channel->writes.count > 1 && channel->writes.id[0] > channel->writes.id[1];
+        finish += channel->finish;
+        pervol += channel->pervol;
+        both += channel->finish && channel->pervol;
+        stopped += channel->stopped && (channel->finish || channel->pervol);
+        for (unsigned at = 0; at < channel->writes.count; at++) {
+            const struct Request *q = &a->request[channel->writes.id[at]];
+
+            endless += q->cycles == 0;
+            many += q->cycles >= 256;
+            period += q->period == MOST_PERIOD;
+        }
+    }
+    saved_rows[WRITE_LINES].count += playing > 0;
+    saved_rows[WRITES_ALL].count += playing == a->channels;
+    saved_rows[WRITES_SEVERAL].count += several > 0;
+    saved_rows[WRITES_AGE].count += age > 0;
+    saved_rows[WRITES_ENDLESS].count += endless > 0;
+    saved_rows[WRITES_MANY_LEFT].count += many > 0;
+    saved_rows[WRITES_PERIOD].count += period > 0;
+    saved_rows[FINISH_KEPT].count += finish > 0;
+    saved_rows[PERVOL_KEPT].count += pervol > 0;
+    saved_rows[BOTH_KEPT].count += both > 0;
+    saved_rows[KEPT_STOPPED].count += stopped > 0;
+}
+
+static void count_saved_whole(const struct Arbiter *a, size_t length)
+{
+    unsigned twice = 0, writes = 0;
+
+    for (unsigned at = 1; at < a->open.count; at++)
+        for (unsigned before = 0; before < at; before++)
+            twice += a->open.key[before] == a->open.key[at];
+    for (unsigned c = 0; c < a->channels; c++)
+        writes += a->channel[c].writes.count;
+    saved_rows[NO_OPEN].count += a->open.count == 0;
+    saved_rows[OPENS_32].count += a->open.count == MOST_OPENS;
+    saved_rows[OPEN_TWICE].count += twice > 0;
+    saved_rows[EVERY_KIND].count += a->waiting.count > 0 && a->locks.count > 0 && a->cycles.count > 0 && a->open.count > 0;
+    saved_rows[ALL_IDS].count += writes + a->waiting.count + a->locks.count + a->cycles.count == REQUESTS;
+    saved_rows[BYTES_1000].count += length > 1000;
+    saved_rows[BYTES_2000].count += length > 2000;
+    saved_rows[BYTES_3000].count += length > 3000;
+}
+
+/* One kind of spoiling after the other. A kind that may not give a good text, or gives nothing else, must keep its word; and what is
+   accepted must be what is saved of it: "every sound state has one spelling". */
+static void count_spoilt(const char *text, size_t length)
+{
+    static struct Spoilt t;
+    static char again[SAVED_LONGEST];
+    struct Arbiter read;
+    struct Display display;
+    size_t written;
+    unsigned kind = (unsigned)(texts % spoilt_kinds());
+    int refused;
+
+    memcpy(t.text, text, length);
+    t.length = length;
+    if (!spoilt_by(kind, &t) || (t.length == length && memcmp(t.text, text, length) == 0))
+        return;
+    refused = saved_load(4, t.text, t.length, &read, &display) != DONE;
+    spoilt_refused[kind] += (unsigned)refused;
+    spoilt_accepted[kind] += (unsigned)!refused;
+    unexpected += refused ? spoilt_gives(kind) == SPOILS_GOOD : spoilt_gives(kind) == SPOILS_REFUSED;
+    if (!refused)
+        unexpected += saved_save(&read, again, sizeof again, &written) != DONE || written != t.length || memcmp(again, t.text, written) != 0;
+}
+
+/* The state is saved and comes back, with the numbers of the display that stands beside it. */
+static void count_saved(const struct Arbiter *a, const struct Display *d)
+{
+    static char text[SAVED_LONGEST];
+    static struct Arbiter read;
+    struct Display display;
+    size_t length;
+
+    if (saved_save(a, text, sizeof text, &length) != DONE || saved_load(4, text, length, &read, &display) != DONE
+        || memcmp(a, &read, sizeof read) != 0 || memcmp(d->writes, display.writes, sizeof d->writes) != 0
+        || memcmp(d->naming, display.naming, sizeof d->naming) != 0 || display.looks != 0) {
+        unexpected++;
+        return;
+    }
+    count_saved_waiting(a);
+    count_saved_holders(a);
+    count_saved_writes(a);
+    count_saved_whole(a, length);
+    count_spoilt(text, length);
+    texts++;
+}
+
+static int is_long, is_eight, is_display, is_saved;     /* what the logs are */
 
 /* One row, per thousand lines; 1 if it is due and was never reached. */
 static int print_row(const char *name, unsigned long count, int due)
@@ -971,7 +1192,28 @@ static void play(FILE *log, unsigned channels)
             display_rows[LEFT_MALFORMED].count += is.display.looks > 0;
         }
         count_answer(&answer);
+        if (is_saved)
+            count_saved(&state, &is.display);
     }
+}
+
+/* What came of each kind of spoiling: one row for those refused, one for those that gave a good text. */
+static int print_spoilt(void)
+{
+    int missing = 0;
+
+    for (unsigned kind = 0; kind < spoilt_kinds(); kind++) {
+        enum Spoils gives = spoilt_gives(kind);
+        char name[64];
+
+        sprintf(name, "spoilt by %s: refused", spoilt_name(kind));
+        if (gives != SPOILS_GOOD)
+            missing += print_row(name, spoilt_refused[kind], ALWAYS);
+        sprintf(name, "spoilt by %s: good", spoilt_name(kind));
+        if (gives == SPOILS_GOOD || gives == SPOILS_BOTH)
+            missing += print_row(name, spoilt_accepted[kind], ALWAYS);
+    }
+    return missing;
 }
 
 int main(int count, char **argument)
@@ -981,6 +1223,8 @@ int main(int count, char **argument)
     is_long = count > 1 && strcmp(argument[1], "LONG") == 0;
     is_eight = count > 1 && (strcmp(argument[1], "EIGHT") == 0 || strcmp(argument[1], "DISPLAY8") == 0);
     is_display = count > 1 && strncmp(argument[1], "DISPLAY", 7) == 0;
+    is_saved = count > 1 && strcmp(argument[1], "SAVED") == 0;
+    chance_seed(1);
     for (int i = 2; i < count; i++) {
         FILE *log = fopen(argument[i], "rb");
 
@@ -992,13 +1236,18 @@ int main(int count, char **argument)
         fclose(log);
     }
     if (lines == 0) {
-        fputs("usage: coverage-count SHORT|LONG|EIGHT|DISPLAY|DISPLAY8 LOG...\n", stderr);
+        fputs("usage: coverage-count SHORT|LONG|EIGHT|DISPLAY|DISPLAY8|SAVED LOG...\n", stderr);
         return 2;
     }
     printf("| %-42s | %8s | %8s |\n", "", "count", "per 1000");
     printf("|--------------------------------------------|----------|----------|\n");
     for (size_t i = 0; i < COUNT_OF(display_rows) && is_display; i++)
         missing += print_row(display_rows[i].name, display_rows[i].count, ALWAYS);
+    for (size_t i = 0; i < COUNT_OF(saved_rows) && is_saved; i++)
+        missing += print_row(saved_rows[i].name, saved_rows[i].count, ALWAYS);
+    if (is_saved)
+        missing += print_spoilt();
+    is_display |= is_saved;
     for (size_t i = 0; i < COUNT_OF(answer_rows) && !is_display; i++)
         missing += print_row(answer_rows[i].name, answer_rows[i].count, answer_rows[i].due);
     /* "Maps above 255 can't occur, so -5 isn't given there." */

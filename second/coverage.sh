@@ -1,5 +1,6 @@
 #!/bin/sh
-# Counts what the generated logs reach: seeds 1 to 20 at 1000 lines on each board, the wall display on each, then the long styles.
+# Counts what the generated logs reach: seeds 1 to 20 at 1000 lines on each board, the wall display on each, saved
+# texts, then the long styles.
 cd "$(dirname "$0")" || exit 1
 work=$(mktemp -d) || exit 1
 trap 'rm -rf "$work"' EXIT
@@ -27,6 +28,13 @@ for board in 4 8; do
     echo "The wall display: style display, seeds 1 to 10, 1000 lines each, on $board channels"
     ./coverage-count $rows "$work"/display.* || exit 1
 done
+
+for seed in 1 2 3 4 5 6 7 8 9 10; do
+    ./generate $seed 1000 saved >"$work/saved.$seed"
+done
+echo
+echo "Saved texts: style saved, seeds 1 to 10, 1000 lines each"
+./coverage-count SAVED "$work"/saved.* || exit 1
 
 for seed in 1 2 3 4 5 6; do
     ./generate $seed 70000 keys >"$work/long.keys.$seed"

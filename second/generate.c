@@ -36,7 +36,7 @@ struct Style {
 enum {
     MIX, LOCKS, NOWAIT, QUEUES, FULL, ABORTS, PRECEDENCES, REFUSALS, MALFORMED, LISTS,
     BYTES, TIES, CUTS, CYCLES, TWO_DESKS, OPENS, KEYS, MANY_LOCKS, MANY_STEALS, MANY_ENTRIES, MANY_WAITING,
-    DISPLAY, STYLES
+    DISPLAY, SAVED, STYLES
 };
 #define SHORT_STYLES KEYS       /* 1 to 15 take part in the mix */
 #define LONG_STRETCH 67500ul    /* lines in which the keys reach their end */
@@ -68,7 +68,8 @@ static const struct Style styles[STYLES] = {
     {"many-entries",{6, 4, 3, 1, 1, 1, 4, 1, 1, 1, 1, 1, 9, 9, 2,55, 0, 0, 0, 0, 0}, 60, 0,100,  0, 40},
     {"many-waiting",{1, 0, 4, 4, 1, 8, 8, 4, 4, 4, 4, 2, 0, 1, 0,55, 0, 0, 0, 0, 0},  0, 0,  5,  0, 56},
     /* Behind those, so that the numbers of the styles and the logs of the mix stay what they were. */
-    {"display",     {3, 2, 7, 3, 1, 2,26, 0, 0, 2, 2, 2, 5,20,14,36, 2, 1, 0, 2, 1}, 50, 3,  8,  2, 20}
+    {"display",     {3, 2, 7, 3, 1, 2,26, 0, 0, 2, 2, 2, 5,20,14,36, 2, 1, 0, 2, 1}, 50, 3,  8,  2, 20},
+    {"saved",       {14,2, 2, 3, 0, 1,26, 0, 0, 3, 2, 0, 1, 1,14,22, 0, 7, 8,16, 1}, 10, 1, 60,  1, 62}
 };
 
 static int measures(const struct Style *s)
@@ -422,6 +423,45 @@ static void make_by_tide(struct Frame *f)
         make_falling(f);
 }
 
+/* ---- Long texts ---- */
+
+/* Style saved has everything outstanding at once; in long lists, for some time, nearly all that is outstanding waits. */
+static int long_lists;
+
+static enum Kind pick_for_text(enum Kind kind)
+{
+    if (below(120) == 0)
+        long_lists = !long_lists;
+    if (!long_lists || percent(10))
+        return kind;
+    return pick_not_waiting() < REQUESTS && percent(40) ? ABORT : ALLOCATE;
+}
+
+/* The first holders stay above all who come after them, so that these wait and the locks stay. Synced, so that it is remembered. */
+static void make_for_text(struct Frame *f)
+{
+    if (f->operation == ADCMD_ALLOCATE) {
+        f->precedence = (int8_t)(state.waiting.count < 2 ? 127 : (int)below(200) - 128);
+        while (long_lists && f->length < COMBINATIONS && percent(97))
+            f->combination[f->length++] = (uint8_t)pick_combination();
+    }
+    if (f->operation == ADCMD_SETPREC)
+        f->precedence = (int8_t)(percent(90) ? 127 : 0);
+    if (f->operation == CALL_OPEN && percent(80))
+        f->length = 0;
+    if (f->operation == CALL_ABORT && long_lists) {
+        unsigned id = pick_not_waiting();
+
+        f->id = (uint8_t)(id < REQUESTS ? id : f->id);
+    }
+    if (f->operation == ADCMD_FINISH || f->operation == ADCMD_PERVOL)
+        f->flags |= ADIOF_SYNCCYCLE;
+    if (f->operation == ADCMD_LOCK && percent(70)) {
+        f->key = state.channel[pick_channel()].key;
+        f->map = (uint8_t)channels_of(f->key);
+    }
+}
+
 /* ---- Frames ---- */
 
 /* One thing is wrong: the id, the map or the list. */
@@ -557,6 +597,8 @@ static void make_frame(struct Frame *f, enum Kind kind, const struct Style *s)
     }
     if (s == &styles[DISPLAY])
         make_by_tide(f);
+    if (s == &styles[SAVED])
+        make_for_text(f);
     if (percent(s->wrong))
         spoil(f);
 }
@@ -594,7 +636,7 @@ static enum Kind pick_kind(unsigned style)
     if (count_outstanding() > s->drain && percent(50) && (style != DISPLAY || tide != RISING)) {
         static const enum Kind drains[7] = {ABORT, CYCLE, FLUSH, FREE, CLOSE, RESET, GIVE_UP};
 
-        return style == MANY_WAITING ? ABORT : drains[below(measures(s) ? 6 : 7)];
+        return style == MANY_WAITING || style == SAVED ? ABORT : drains[below(measures(s) ? 6 : 7)];
     }
     for (unsigned i = 0; i < KINDS; i++)
         sum += s->weight[i];
@@ -603,6 +645,8 @@ static enum Kind pick_kind(unsigned style)
         at -= s->weight[kind++];
     if (kind == CLOSE && state.open.count == 1 && style != REFUSALS && percent(60))
         return OPEN;
+    if (style == SAVED)
+        return pick_for_text((enum Kind)kind);
     return style == DISPLAY ? pick_by_tide((enum Kind)kind) : (enum Kind)kind;
 }
 

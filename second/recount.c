@@ -5,9 +5,11 @@
    put out of rest between the calls, as no log puts it, so that more is granted and dropped in one settling.
 
    The looks must be those that the replies tell of, and never above w(w+1)/2. The call without numbers must answer and
-   move the same. Silent where all holds; else it tells the line, and ends with status 1. */
+   move the same. The state must come back from its saved text, with the numbers of the count and without looks. Silent where
+   all holds; else it tells the line, and ends with status 1. */
 #include "chance.h"
 #include "log.h"
+#include "saved.h"
 
 #include <stdio.h>
 #include <stdlib.h>
@@ -186,6 +188,27 @@ static void upset(void)
     }
 }
 
+/* ---- Saved ---- */
+
+/* In just as much room as its text has, and in no less. Eight channels have no text. */
+static int comes_back(void)
+{
+    static char text[SAVED_LONGEST], again[SAVED_LONGEST];
+    static struct Arbiter read;
+    struct Display d = {{9}, {9}, 9}, count;
+    size_t length, written;
+
+    if (state.channels == 8)
+        return saved_save(&state, text, sizeof text, &length) == REFUSED_EIGHT && length == 0;
+    if (saved_save(&state, text, sizeof text, &length) != DONE || saved_save(&state, again, length, &written) != DONE
+        || written != length || memcmp(text, again, length) != 0 || saved_save(&state, again, length - 1, &written) != REFUSED_ROOM)
+        return 0;
+    count_all(&state, &count);
+    return saved_load(4, text, length, &read, &d) == DONE && memcmp(&read, &state, sizeof state) == 0
+        && memcmp(d.writes, count.writes, sizeof d.writes) == 0 && memcmp(d.naming, count.naming, sizeof d.naming) == 0
+        && d.looks == 0;
+}
+
 /* ---- A line ---- */
 
 static int same_call(const struct Frame *f, const struct Answer *answer)
@@ -211,7 +234,9 @@ static const char *play(struct Display *d, const struct Display *off, const stru
         return "the looks are not those that the replies tell of, or too many";
     if (!records_hold(at_rest))
         return "the records are not those of the waiting requests";
-    return same_call(f, &answer) ? NULL : "without the numbers the call is another";
+    if (!same_call(f, &answer))
+        return "without the numbers the call is another";
+    return comes_back() ? NULL : "saved and loaded, the state is another";
 }
 
 int main(int count, char **argument)

@@ -9,10 +9,11 @@ work=$(mktemp -d) || exit 1
 trap 'rm -rf "$work"' EXIT
 checks="-std=c99 -Wall -Wextra -pedantic -O1 -g"
 checks="$checks -fsanitize=address,undefined -fno-sanitize-recover=all"
-parts="arbiter.c log.c chance.c"
+parts="arbiter.c log.c chance.c saved.c"
 $CC $checks -o "$work/arbiter2" arbiter2.c $parts &&
     $CC $checks -o "$work/generate" generate.c $parts &&
     $CC $checks -o "$work/recount" recount.c $parts &&
+    $CC $checks -o "$work/spoil" spoil.c spoilt.c $parts &&
     $CC $checks -o "$work/test" test.c stereo.c $parts || exit 1
 played=0
 
@@ -23,13 +24,26 @@ play() {
     played=$((played + 1))
 }
 
+# Spoilt texts, with what lies behind them.
+spoil_all() {
+    "$work/generate" 3 400 saved | ./arbiter2 --save "$work/good" >"$work/plain" || return
+    for kind in $(./spoil 2>&1 | sed -n 's/^kinds: //p'); do
+        for seed in 1 2 3; do
+            "$work/spoil" $seed $kind <"$work/good" >"$work/spoilt" && ./spoil $seed $kind <"$work/good" | cmp - "$work/spoilt" || return
+            "$work/arbiter2" --load "$work/spoilt" --save "$work/again" </dev/null 2>"$work/said"
+            [ $? -le 2 ] && ! grep -q ERROR "$work/said" || { cat "$work/said"; return 1; }
+        done
+    done
+}
+
 "$work/test" || exit 1
+spoil_all || exit 1
 "$work/generate" 1 2000 display 8 >"$work/log" && "$work/recount" 8 1 <"$work/log" || exit 1
 seed=0
 while [ $seed -lt "$SEEDS" ]; do
     seed=$((seed + 1))
     for style in mix locks nowait queues full aborts precedences refusals malformed lists bytes ties cuts cycles desks opens keys \
-        many-locks many-steals many-entries many-waiting display; do
+        many-locks many-steals many-entries many-waiting display saved; do
         "$work/generate" $seed 2000 $style >"$work/log" || exit 1
         ./generate $seed 2000 $style | cmp - "$work/log" || exit 1
         play "style $style, seed $seed"

@@ -1,7 +1,8 @@
 /* Tests of the arbiter's C functions: the marked examples M1 to M14, what a log cannot
    reach (refusals 1, 5 and 8, states not settled) and the sound test; then the two events, the two desks, the wall
-   display and the stereo lists. */
+   display, the stereo lists and the saved texts. */
 #include "arbiter.h"
+#include "saved.h"
 #include "stereo.h"
 
 #include <stdio.h>
@@ -1371,6 +1372,378 @@ static void test_eight(void)
     check(same_answer(call(&a, ADCMD_ALLOCATE, 0, IOF_QUICK, 0, 1, 5, "\20"), 0, -5, 0, 5, 255), "map 10 on four");
 }
 
+/* ---- Saved texts: #106. The lines were worked out by hand ---- */
+
+static const char fresh_text[] =
+    "D001\n"
+    "D10000000000000000000000\nD10000000000000000000000\nD10000000000000000000000\nD10000000000000000000000\n"
+    "D70000\n";
+
+/* A state with every kind of line. The request of id 2 asks for no channel, so it could be granted: the state is not at rest. */
+#define SAVED_LINES 20
+static const char *const saved_lines[SAVED_LINES] = {
+    "D001",
+    "D10005FD0100010101000040",             /* key 5, precedence -3, locked, FINISH and PERVOL 65,536, 64 remembered */
+    "D10005FD0101000000000000",             /* key 5, precedence -3, locked, stopped */
+    "D10000000000000000000000",             /* free */
+    "D112347F0000000100007C00",             /* key 4660, precedence 127, PERVOL 124, 0 remembered */
+    "D23F00000A01020F01",                   /* id 63, key 0, precedence 10, NOWAIT, 0F 01 */
+    "D20200090A000100",                     /* id 2, key 9, precedence 10, 00 */
+    "D20700008000100F0F0F0F0F0F0F0F0F0F0F0F0F0F0F0F",   /* id 7, key 0, precedence -128, sixteen times 0F */
+    "D328000503",                           /* the older lock: id 40, key 5, channels 0 and 1 */
+    "D30C000501",                           /* id 12, key 5, channel 0 */
+    "D421123408",                           /* the older WAITCYCLE: id 33, key 4660, channel 3 */
+    "D401000501",                           /* id 1, key 5, channel 0 */
+    "D50014000000007C40",                   /* channel 0: id 20, endless, 124, 64 */
+    "D50013FFFF01000000",                   /* behind it: id 19, 65,535 cycles, 65,536, 0 */
+    "D50100000100012C01",                   /* channel 1: id 0, 1 cycle, 300, 1 */
+    "D5033201020003E820",                   /* channel 3: id 50, 258 cycles, 1000, 32 */
+    "D60005",
+    "D6FFFF",
+    "D60005",
+    "D71234"
+};
+
+static void write_to(struct Arbiter *a, unsigned c, unsigned id, unsigned cycles, unsigned period, unsigned volume)
+{
+    struct Request *q = &a->request[id];
+
+    q->command = CMD_WRITE;
+    q->key = a->channel[c].key;
+    q->cycles = (uint16_t)cycles;
+    q->period = period;
+    q->volume = (uint8_t)volume;
+    a->channel[c].writes.id[a->channel[c].writes.count++] = (uint8_t)id;
+}
+
+static void hold(struct Arbiter *a, struct Ids *list, unsigned command, unsigned id, unsigned key, unsigned map)
+{
+    a->request[id].command = (uint8_t)command;
+    a->request[id].key = (uint16_t)key;
+    a->request[id].map = (uint8_t)map;
+    list->id[list->count++] = (uint8_t)id;
+}
+
+static void ask(struct Arbiter *a, unsigned id, unsigned key, int precedence, unsigned nowait, unsigned length, unsigned first, unsigned rest)
+{
+    struct Request *q = &a->request[id];
+
+    q->command = ADCMD_ALLOCATE;
+    q->key = (uint16_t)key;
+    q->precedence = (int8_t)precedence;
+    q->nowait = (uint8_t)nowait;
+    q->length = (uint8_t)length;
+    memset(q->combination, (int)rest, length);
+    q->combination[0] = (uint8_t)first;
+    a->waiting.id[a->waiting.count++] = (uint8_t)id;
+}
+
+/* The state of those lines. */
+static void saved_state(struct Arbiter *a)
+{
+    arbiter_fresh(a, 4);
+    a->channel[0].key = a->channel[1].key = 5;
+    a->channel[0].precedence = a->channel[1].precedence = -3;
+    a->channel[0].locked = a->channel[1].locked = a->channel[1].stopped = 1;
+    a->channel[0].finish = a->channel[0].pervol = a->channel[3].pervol = 1;
+    a->channel[0].period = 65536;
+    a->channel[0].volume = 64;
+    a->channel[3].key = 0x1234;
+    a->channel[3].precedence = 127;
+    a->channel[3].period = 124;
+    ask(a, 63, 0, 10, 1, 2, 0x0F, 0x01);
+    ask(a, 2, 9, 10, 0, 1, 0, 0);
+    ask(a, 7, 0, -128, 0, 16, 0x0F, 0x0F);
+    hold(a, &a->locks, ADCMD_LOCK, 40, 5, 0x03);
+    hold(a, &a->locks, ADCMD_LOCK, 12, 5, 0x01);
+    hold(a, &a->cycles, ADCMD_WAITCYCLE, 33, 0x1234, 0x08);
+    hold(a, &a->cycles, ADCMD_WAITCYCLE, 1, 5, 0x01);
+    write_to(a, 0, 20, 0, 124, 64);
+    write_to(a, 0, 19, 65535, 65536, 0);
+    write_to(a, 1, 0, 1, 300, 1);
+    write_to(a, 3, 50, 258, 1000, 32);
+    enter(a, 5);
+    enter(a, 65535);
+    enter(a, 5);
+    a->last_key = 0x1234;
+}
+
+/* The lines as a text, with this one, from 1 on, in another spelling, or gone where that is NULL; 0 changes none. */
+static size_t text_with(unsigned line, const char *other, char *text)
+{
+    size_t length = 0;
+
+    for (unsigned i = 1; i <= SAVED_LINES; i++)
+        if (i != line || other != NULL)
+            length += (size_t)sprintf(text + length, "%s\n", i == line ? other : saved_lines[i - 1]);
+    return length;
+}
+
+/* Loads, and tells whether all that was lent is as it was. */
+static int load_text(unsigned channels, const char *text, size_t length, struct Arbiter *a, struct Display *d, int *untouched)
+{
+    struct Arbiter before;
+    struct Display shown_before;
+    int result;
+
+    memset(a, 0x55, sizeof *a);
+    memset(d, 0x55, sizeof *d);
+    memcpy(&before, a, sizeof before);
+    memcpy(&shown_before, d, sizeof shown_before);
+    result = saved_load(channels, text, length, a, d);
+    *untouched = memcmp(a, &before, sizeof before) == 0 && memcmp(d, &shown_before, sizeof shown_before) == 0;
+    return result;
+}
+
+/* This text is refused with 9, nothing is touched, and the line at fault is this one; 0 where only the whole is at fault. */
+static void refuses_text(const char *text, size_t length, size_t fault, const char *what)
+{
+    struct Arbiter a;
+    struct Display d;
+    int untouched, result = load_text(4, text, length, &a, &d, &untouched);
+
+    check(result == REFUSED_TEXT && untouched && saved_fault(text, length) == fault, what);
+}
+
+/* This text is that of a state, which is saved as it. */
+static void accepts_text(const char *text, size_t length, const char *what)
+{
+    char again[SAVED_LONGEST];
+    struct Arbiter a;
+    struct Display d;
+    size_t written;
+    int untouched, result = load_text(4, text, length, &a, &d, &untouched);
+
+    check(result == DONE && saved_fault(text, length) == 0 && saved_save(&a, again, sizeof again, &written) == DONE
+              && written == length && memcmp(again, text, length) == 0, what);
+}
+
+static void test_saved_text(void)
+{
+    static const uint8_t writes[MOST_CHANNELS] = {2, 1, 0, 1}, naming[MOST_CHANNELS] = {2, 2, 2, 2};
+    char text[SAVED_LONGEST], wanted[SAVED_LONGEST];
+    struct Arbiter a, b;
+    struct Display d;
+    size_t written, length;
+    int untouched;
+
+    arbiter_fresh(&a, 4);
+    check(saved_save(&a, text, sizeof text, &written) == DONE && written == 112 && memcmp(text, fresh_text, 112) == 0,
+          "a fresh board's text");
+    check(load_text(4, fresh_text, 112, &b, &d, &untouched) == DONE && memcmp(&a, &b, sizeof a) == 0, "a fresh board comes back");
+    check(d.writes[0] == 0 && d.naming[3] == 0 && d.looks == 0, "a fresh board's display is 0");
+    saved_state(&a);
+    check(arbiter_sound(&a), "the state of the lines is sound");
+    length = text_with(0, NULL, wanted);
+    check(saved_save(&a, text, sizeof text, &written) == DONE && written == length && memcmp(text, wanted, length) == 0,
+          "a text with every kind of line");
+    check(load_text(4, wanted, length, &b, &d, &untouched) == DONE && memcmp(&a, &b, sizeof a) == 0,
+          "and its state, with a request that could be granted still waiting");
+    check(memcmp(d.writes, writes, sizeof writes) == 0 && memcmp(d.naming, naming, sizeof naming) == 0 && d.looks == 0,
+          "a load counts the display's numbers and sets the looks to 0");
+    shown = d;
+    /* Id 63 has chosen channel 0, so both locks are stolen, the older first. */
+    check(same_answer(call(&b, CMD_CLEAR, 5, IOF_QUICK, 0, 0, 5, ""), 0, 0, 0, 5, 255) && told() == 3
+              && same_reply(32, 40, ADCMD_LOCK, -12, 0x03, 5) && same_reply(0, 12, ADCMD_LOCK, -12, 0x01, 5)
+              && same_reply(1, 2, ADCMD_ALLOCATE, 0, 0, 9),
+          "the next call settles, and grants it");
+    check(memcmp(shown.naming, naming, sizeof naming) == 0 && shown.looks > 0, "the numbers go on from the count");
+}
+
+static void test_saved_room(void)
+{
+    char text[SAVED_LONGEST + 2], before[sizeof text], wanted[SAVED_LONGEST];
+    struct Arbiter a;
+    size_t written, length = text_with(0, NULL, wanted);
+
+    saved_state(&a);
+    memset(before, 0x55, sizeof before);
+    for (size_t room = 0; room <= length + 1; room++) {
+        int result, fits = room >= length;
+
+        memcpy(text, before, sizeof text);
+        written = 99;
+        result = saved_save(&a, text, room, &written);
+        if (room == 0 || room == 111 || room == 112 || room + 1 >= length)
+            check(result == (fits ? DONE : REFUSED_ROOM) && written == (fits ? length : 0) && (!fits || memcmp(text, wanted, length) == 0)
+                      && memcmp(text + written, before + written, sizeof text - written) == 0,
+                  fits ? "a text just as long as the room, or shorter, fits" : "no room: 12, and nothing is written");
+    }
+    /* The longest: 64 requests of sixteen combinations, 32 open keys. */
+    arbiter_fresh(&a, 4);
+    for (unsigned id = 0; id < REQUESTS; id++)
+        ask(&a, id, 65535, 0, 0, COMBINATIONS, 0x0F, 0x0F);
+    for (unsigned i = 0; i < MOST_OPENS; i++)
+        enter(&a, 65535);
+    check(saved_save(&a, text, SAVED_LONGEST, &written) == DONE && written == 3344, "the longest text has 3,344 bytes");
+    accepts_text(text, 3344, "the longest text");
+    check(saved_save(&a, text, 3343, &written) == REFUSED_ROOM && written == 0, "a byte less is too small for it");
+    a.locks.count = 1;
+    memcpy(text, before, sizeof text);
+    check(saved_save(&a, text, 0, &written) == REFUSED_UNSOUND && written == 0, "1 before 12");
+    check(saved_save(&a, text, sizeof text, &written) == REFUSED_UNSOUND && memcmp(text, before, sizeof text) == 0, "not sound: 1");
+    arbiter_fresh(&a, 8);
+    check(saved_save(&a, text, 0, &written) == REFUSED_EIGHT && written == 0, "10 before 12");
+    check(saved_save(&a, text, sizeof text, &written) == REFUSED_EIGHT && memcmp(text, before, sizeof text) == 0, "eight channels: 10");
+    a.channel[7].locked = 1;
+    check(saved_save(&a, text, sizeof text, &written) == REFUSED_UNSOUND && written == 0, "1 before 10");
+}
+
+static void test_saved_lines(void)
+{
+    static const struct {
+        unsigned line;
+        const char *other;                  /* NULL: the line is gone */
+        size_t fault;                       /* 0: every line may stand, and the whole is not sound */
+        const char *what;
+    } wrong[] = {
+        {1, "D002", 1, "D002"}, {1, "D00", 1, "D00"}, {1, "d001", 1, "d001"}, {1, "D0001", 1, "D0001"}, {1, "D001\r", 1, "D001 and CR"},
+        {1, " D001", 1, "a space before D001"}, {1, "", 1, "an empty first line"}, {1, NULL, 1, "no first line"},
+        {1, "D001\nD001", 2, "D001 twice"}, {1, "D001\n", 2, "an empty second line"}, {1, "D001\nD804", 2, "a line of another form"},
+        {2, "d10005FD0100010101000040", 2, "a kind in lower case"}, {2, "D10005fd0100010101000040", 2, "digits in lower case"},
+        {2, "D10005FD010001010100004", 2, "a digit less"}, {2, "D10005FD01000101010000400", 2, "a digit more"},
+        {2, "D10005FD0100010101000", 2, "three digits less"}, {2, "D10005FD010001010100004000", 2, "a byte more"},
+        {2, "D10005FD01000101010000", 2, "a byte less"}, {2, "D10005FD0100010101000040\r", 2, "CR before an LF"},
+        {2, "D10005FD 100010101000040", 2, "a space among the digits"}, {2, "D10005FDG100010101000040", 2, "no digit"},
+        {2, "D10005FD0200010101000040", 2, "a lock mark of 02"}, {2, "D10005FD0102010101000040", 2, "a stop mark of 02"},
+        {2, "D10005FD0100020101000040", 2, "a FINISH mark of 02"}, {2, "D10005FD0100010201000040", 2, "a PERVOL mark of 02"},
+        {2, "D10005FD0100010100000040", 0, "PERVOL of period 0"}, {2, "D10005FD0100010100007B40", 0, "PERVOL of period 123"},
+        {2, "D10005FD0100010101000140", 0, "PERVOL of period 65,537"}, {2, "D10005FD0100010101000041", 0, "PERVOL of volume 65"},
+        {2, "D10005FD0100010001000040", 0, "numbers of no PERVOL"}, {2, "D10000FD0100010101000040", 0, "a free channel with all that"},
+        {2, "D10006FD0100010101000040", 0, "another key than its locks and waiters"},
+        {2, "D10005FD0000010101000040", 0, "a lock of an unlocked channel"}, {2, NULL, 5, "three channels"},
+        {2, "D10005FD0100010101000040\nD10000000000000000000000", 6, "five channels"},
+        {4, "D10000010000000000000000", 0, "a free channel of precedence 1"}, {4, "D10000000100000000000000", 0, "a free channel, locked"},
+        {4, "D10000000001000000000000", 0, "a free channel, stopped"}, {4, "D10000000000010000000000", 0, "FINISH on a free channel"},
+        {4, "D10000000000000100007C00", 0, "PERVOL on a free channel"}, {4, "D10007000000010000000000", 0, "FINISH without a write"},
+        {4, "D10007000000000100007C00", 0, "PERVOL without a write"}, {4, "D10007000000000000007C00", 0, "a period of nothing"},
+        {6, "D24000000A01020F01", 6, "a waiting id of 64"}, {6, "D2FF00000A01020F01", 6, "a waiting id of 255"},
+        {6, "D23F00000A02020F01", 6, "a NOWAIT mark of 02"}, {6, "D23F00000A01010F01", 6, "n 1 and two combinations"},
+        {6, "D23F00000A01030F01", 6, "n 3 and two combinations"}, {6, "D23F00000A0100", 0, "no combination"}, {6, "D23F00000A01", 6, "no n"},
+        {6, "D23F00000A01110101010101010101010101010101010101", 6, "seventeen combinations"},
+        {6, "D23F00000A01021001", 0, "a combination of 10"}, {6, "D23F00000901020F01", 0, "a lower precedence before a higher"},
+        {6, "D20200000A01020F01", 7, "an id that waits twice"}, {6, "D22800000A01020F01", 9, "an id that waits and locks"},
+        {6, "D22100000A01020F01", 11, "an id that waits for two things"}, {6, "D21400000A01020F01", 13, "an id that waits and plays"},
+        {8, "D20700000B00100F0F0F0F0F0F0F0F0F0F0F0F0F0F0F0F", 0, "the last of higher precedence"},
+        {9, "D328000500", 0, "a lock of no channel"}, {9, "D328000510", 0, "a lock of map 10"}, {9, "D328000504", 0, "a lock of a free channel"},
+        {9, "D328000508", 0, "a lock of an unlocked channel of another key"}, {9, "D32800050B", 0, "a lock of one channel too many"},
+        {9, "D328000603", 0, "a lock of another key"}, {9, "D328000003", 0, "a lock of key 0"}, {9, "D340000503", 9, "a lock of id 64"},
+        {9, "D30C000503", 10, "an id that locks twice"}, {9, "D32800050", 9, "a lock with a digit less"},
+        {9, "D32800050300", 9, "a lock with a byte more"}, {9, "D428000501", 10, "a lock behind a WAITCYCLE"},
+        {9, "D60005", 10, "an open key before the locks"}, {5, "D112347F0000000100007C00\nD50014000000007C40", 7, "a write before the waiting"},
+        {11, "D421123400", 0, "a WAITCYCLE of no channel"}, {11, "D421123409", 0, "a WAITCYCLE of two channels"},
+        {11, "D421123410", 0, "a WAITCYCLE of map 10"}, {11, "D421000008", 0, "a WAITCYCLE of key 0"},
+        {11, "D421000508", 0, "a WAITCYCLE of another key"}, {11, "D421123404", 0, "a WAITCYCLE of a free channel"},
+        {11, "D440123408", 11, "a WAITCYCLE of id 64"}, {11, "D401123408", 12, "an id that waits for two cycles"},
+        {13, "D50114000000007C40", 14, "a write of channel 0 behind one of channel 1"}, {13, "D50414000000007C40", 13, "a write of channel 4"},
+        {13, "D50040000000007C40", 13, "a write of id 64"}, {13, "D50013000000007C40", 14, "an id that plays twice"},
+        {13, "D50014000000007B40", 0, "a write of period 123"}, {13, "D50014000001000140", 0, "a write of period 65,537"},
+        {13, "D50014000000000040", 0, "a write of period 0"}, {13, "D50014000000007C41", 0, "a write of volume 65"},
+        {13, "D50014000000007C4", 13, "a write with a digit less"}, {13, "D50014000000007C4000", 13, "a write with a byte more"},
+        {15, "D50200000100012C01", 0, "a write on a free channel"}, {16, "D5003201020003E820", 16, "channel 0 behind channel 1"},
+        {16, NULL, 0, "a WAITCYCLE and a PERVOL without a write"}, {17, "D60000", 0, "an open key of 0"}, {17, "D6000500", 17, "an open key of three bytes"},
+        {17, "D605", 17, "an open key of a byte"}, {17, "D71234", 18, "the last key before the open keys"},
+        {20, NULL, 20, "no last key"}, {20, "D71234\nD71234", 21, "two last keys"}, {20, "D7123", 20, "a last key with a digit less"},
+        {20, "D7123400", 20, "a last key of three bytes"}, {20, "D71234\n", 21, "an empty line at the end"}, {20, "D81234", 20, "no such kind"},
+        {20, "D71234\nD60005", 21, "an open key at the end"}
+    };
+    char text[4096];
+
+    for (size_t i = 0; i < sizeof wrong / sizeof *wrong; i++)
+        refuses_text(text, text_with(wrong[i].line, wrong[i].other, text), wrong[i].fault, wrong[i].what);
+}
+
+/* What no line alone shows; and other texts that are good. */
+static void test_saved_whole(void)
+{
+    char text[4096], opens[512] = "";
+    struct Arbiter a;
+    struct Display d;
+    size_t length = text_with(0, NULL, text);
+    int untouched;
+
+    refuses_text(text, 0, 1, "an empty text");
+    for (size_t cut = 0; cut < length; cut++)
+        if (load_text(4, text, cut, &a, &d, &untouched) != REFUSED_TEXT || !untouched)
+            check(0, "a text that is cut");
+    refuses_text(text, length - 1, 20, "no last LF");
+    text[length] = '\0';
+    refuses_text(text, length + 1, 21, "a NUL behind the end");
+    text[length] = '0';
+    refuses_text(text, length + 1, 21, "a digit behind the end");
+    text[30] = '\0';
+    refuses_text(text, length, 3, "a NUL in the text");
+    for (unsigned i = 0; i < MOST_OPENS - 3; i++)
+        strcat(opens, "D60001\n");
+    strcat(opens, "D71234");
+    accepts_text(text, text_with(20, opens, text), "32 open keys");
+    memcpy(opens + strlen(opens) - 6, "D60001\nD71234", sizeof "D60001\nD71234");
+    refuses_text(text, text_with(20, opens, text), 49, "33 open keys");
+    length = text_with(0, NULL, text);
+    check(load_text(8, text, length, &a, &d, &untouched) == REFUSED_TEXT && untouched, "a board of eight has no first form");
+    check(load_text(0, text, length, &a, &d, &untouched) == REFUSED_TEXT && untouched, "no board of no channels");
+    check(load_text(5, text, length, &a, &d, &untouched) == REFUSED_TEXT && untouched, "no board of five");
+    accepts_text(text, text_with(17, NULL, text), "an open key less");
+    accepts_text(text, text_with(17, "D60005\nD60005", text), "an open key more");
+    accepts_text(text, text_with(20, "D7FFFF", text), "any last key");
+    accepts_text(text, text_with(20, "D70000", text), "no key issued yet");
+    accepts_text(text, text_with(9, "D306000503", text), "another id, that is idle");
+    accepts_text(text, text_with(8, NULL, text), "a waiting request less");
+    accepts_text(text, text_with(6, "D23F00007F01020F01", text), "the first of the highest precedence");
+    accepts_text(text, text_with(3, "D10005FD0100000000000000", text), "a channel that is not stopped");
+    accepts_text(text, text_with(4, "D10009800100000000000000", text), "a locked channel that no lock names");
+}
+
+/* Age is an order of its own: the locks, the WAITCYCLEs, the writes of a channel and the open keys the other way round are other
+   states, and each is saved as it stands. */
+static void test_saved_order(void)
+{
+    static const unsigned first[] = {9, 11, 13, 18};
+    char text[4096], swapped[4096];
+    struct Arbiter a, b;
+    struct Display d;
+    int untouched;
+
+    saved_state(&a);
+    for (size_t i = 0; i < sizeof first / sizeof *first; i++) {
+        size_t length = 0;
+
+        for (unsigned line = 1; line <= SAVED_LINES; line++) {
+            unsigned from = line == first[i] ? line + 1 : line == first[i] + 1 ? line - 1 : line;
+
+            length += (size_t)sprintf(swapped + length, "%s\n", saved_lines[from - 1]);
+        }
+        accepts_text(swapped, length, "two neighbours the other way round");
+        check(load_text(4, swapped, length, &b, &d, &untouched) == DONE && memcmp(&a, &b, sizeof a) != 0, "and that is another state");
+    }
+    load_text(4, text, text_with(9, "D30C000501", text), &b, &d, &untouched);
+    check(untouched, "a lock that stands twice");
+    load_text(4, text, text_with(0, NULL, text), &b, &d, &untouched);
+    check(b.locks.count == 2 && b.locks.id[0] == 40 && b.locks.id[1] == 12, "the order of the locks is their age");
+    check(b.cycles.count == 2 && b.cycles.id[0] == 33 && b.cycles.id[1] == 1, "the order of the WAITCYCLEs is their age");
+}
+
+/* A sound state that is not at rest: what settling would end is still there after a load. */
+static void test_saved_unsettled(void)
+{
+    char text[SAVED_LONGEST];
+    struct Arbiter a, b;
+    struct Display d;
+    size_t length;
+    int untouched;
+
+    marked_state(&a);
+    hold(&a, &a.locks, ADCMD_LOCK, 3, 6, 0x08);
+    ask(&a, 0, 0, 50, 0, 1, 0x08, 0);       /* held, over an outstanding lock */
+    ask(&a, 1, 0, 20, 0, 1, 0x01, 0);       /* could be granted */
+    ask(&a, 2, 0, 0, 1, 1, 0x01, 0);        /* fails with NOWAIT */
+    check(arbiter_sound(&a) && saved_save(&a, text, sizeof text, &length) == DONE, "a state that is not at rest is saved");
+    check(load_text(4, text, length, &b, &d, &untouched) == DONE && memcmp(&a, &b, sizeof a) == 0 && b.waiting.count == 3
+              && b.locks.count == 1, "and loaded, and not settled");
+    call(&b, CALL_ABORT, 9, 0, 0, 0, 0, "");
+    check(told() == 3 && b.waiting.count == 1 && b.locks.count == 0, "the first call after it settles");
+}
+
 int main(void)
 {
     test_marked();
@@ -1398,6 +1771,12 @@ int main(void)
     test_looks_many();
     test_records();
     test_stereo();
+    test_saved_text();
+    test_saved_room();
+    test_saved_lines();
+    test_saved_whole();
+    test_saved_order();
+    test_saved_unsettled();
     printf("test.c: %d passed, %d failed\n", passed, failed);
     return failed != 0;
 }

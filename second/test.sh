@@ -213,7 +213,7 @@ fi
 # The wall display: in every style, on both boards, the kept numbers are those of a count, from a fresh device; and from any numbers,
 # on states that are not at rest, they stay as far from it as they were. recount.c has the rest of what it tries.
 for style in mix locks nowait queues full aborts precedences refusals lists bytes ties cuts cycles desks opens many-steals many-waiting \
-    display; do
+    display saved; do
     for board in 4 8; do
         wrong=
         for seed in 1 2 3; do
@@ -228,6 +228,141 @@ for style in mix locks nowait queues full aborts precedences refusals lists byte
             echo "FAILED: the numbers of style $style on $board channels, $wrong"
         fi
     done
+done
+
+# ---- Saved states
+
+# verdict NAME: the last command's status.
+verdict() {
+    if [ $? -eq 0 ]; then
+        passed=$((passed + 1))
+    else
+        failed=$((failed + 1))
+        echo "FAILED: $1"
+    fi
+}
+
+free=D10000000000000000000000
+printf '%s\n' D001 $free $free $free $free D70000 >"$work/fresh"
+./arbiter2 --save "$work/saved" </dev/null && cmp "$work/saved" "$work/fresh" && [ ! -e "$work/saved.part" ]
+verdict "a fresh board's text"
+
+# Worked out by hand: key 1 takes channels 0 and 1 at precedence 10, locks channel 0, plays an endless message on channel 1 and cuts it at
+# the cycle's end; a request of precedence -1 waits; then two desks have opened.
+printf '%s\n' F000000000000000 200501000A000102030C 0D06000100000100 0321000200000106000000010040 0E22000200000100 0B07210200000100 \
+    20080000FF0000020F03 F000000000000000 >"$work/log"
+printf '%s\n' A000000001FF A000030001FF A100000001FF A100000001FF A100000001FF A000020001FF A100000000FF A000000002FF >"$work/expected"
+check "a board with something of every kind" --save "$work/saved"
+printf '%s\n' D001 D100010A0100000000000000 D100010A0000010000000000 $free $free D2080000FF00020F03 D306000101 D422000102 \
+    D50121000000010040 D60001 D60002 D70002 >"$work/text"
+cmp "$work/saved" "$work/text"
+verdict "its saved text"
+
+# It plays on: the cycle ends, so the WAITCYCLE is answered, and the write is cut; FREE ends the lock, and all four channels, now
+# free, go to the waiting request under key 3.
+printf '%s\n' F300000200000000 0909010300000100 >"$work/log"
+printf '%s\n' C0220E00020001 C02103FE000001 A000020000FF C0060D00000001 C00820000F0003 A000030001FF >"$work/expected"
+check "the log goes on" --load "$work/text" --save "$work/saved"
+taken=D10003FF0000000000000000
+printf '%s\n' D001 $taken $taken $taken $taken D60001 D60002 D70003 >"$work/text"
+cmp "$work/saved" "$work/text"
+verdict "the text after it"
+: >"$work/log"
+: >"$work/expected"
+check "no log, to the file that is loaded" --save "$work/saved" --load "$work/saved"
+cmp "$work/saved" "$work/text"
+verdict "loaded and saved it is the same"
+
+# The display after a load: counted numbers, looks 0 until a call settles. A refused call leaves them: 4, id 64.
+printf '%s\n' D001 D100010A0100000000000000 D100010A0000000000000000 $free $free D2080000FF00020F03 D2090000FE00010C D306000101 \
+    D50121000000010040 D50122000000010040 D60001 D70001 >"$work/text"
+printf '%s\n' 0540010000000100 F300000800000000 >"$work/log"
+printf '%s\n' A004000001FF E00001020100020002''0000 E108FF0000 E109FE0000 C00920000C0002 A000000000FF E00001020100010001''0003 E108FF0000 \
+    >"$work/expected"
+check "the display after a load, and a state that is not at rest" --load "$work/text" --display
+
+# Status 2, a message, nothing on standard output, the log unread: refuses_all NAME OPTION..
+refuses_all() {
+    name=$1
+    shift
+    ./generate 1 40 >"$work/log"
+    rm -f "$work/new" "$work/new.part"
+    { ./arbiter2 "$@" >"$work/got" 2>"$work/said"; status=$?; cat >"$work/rest"; } <"$work/log"
+    [ $status -eq 2 ] && [ ! -s "$work/got" ] && [ -s "$work/said" ] && cmp -s "$work/rest" "$work/log" && [ ! -e "$work/new" ] &&
+        [ ! -e "$work/new.part" ]
+    verdict "$name"
+}
+refuses_all "--load without a file" --load
+refuses_all "--load of no name" --load ''
+refuses_all "--save without a file" --load "$work/fresh" --save
+refuses_all "--save of no name" --save ''
+refuses_all "a file that is not there" --load "$work/nowhere" --save "$work/new"
+refuses_all "a folder is no file" --load "$work"
+refuses_all "a folder that is not there" --save "$work/nowhere/new"
+refuses_all "a wrong option behind a good file" --load "$work/fresh" --loud
+refuses_all "eight channels have no first form to save" --channels 8 --save "$work/new"
+grep -q 'four-channel board' "$work/said"
+verdict "and that is told"
+refuses_all "eight channels have no first form to load" --load "$work/fresh" --channels 8
+sed 4s/D1/d1/ "$work/fresh" >"$work/bad"
+refuses_all "a refused text" --load "$work/bad" --save "$work/new"
+grep -q 'line 4 ' "$work/said"
+verdict "the line is told"
+sed 6s/D7/D60000D7/ "$work/fresh" | sed 's/D60000D7/D60000\
+D7/' >"$work/bad"
+refuses_all "a text of no sound state" --load "$work/bad"
+grep -q 'no sound state' "$work/said"
+verdict "and that is told"
+{ cat "$work/fresh"; head -c 5000 /dev/zero; } >"$work/bad"
+refuses_all "a text with much behind it" --load "$work/bad"
+grep -q 'line 7 ' "$work/said"
+verdict "the line behind the last is told"
+
+# A log that cannot be read is not played to its end, so nothing is saved.
+./arbiter2 --save "$work/new" <. >"$work/got" 2>"$work/said"
+[ $? -eq 1 ] && [ ! -e "$work/new" ] && [ ! -e "$work/new.part" ]
+verdict "a log that cannot be read saves nothing"
+
+# A log cut in two with a save between gives the output of the whole, and the same saved text in the end. The looks are not saved.
+cut_in_two() {
+    ./generate $2 240 $1 >"$work/log"
+    ./arbiter2 --show --display --save "$work/end" <"$work/log" >"$work/whole" || return
+    for at in $((1 + $2 * 7 % 100)) $((100 + $2 * 31 % 139)); do
+        head -n $at "$work/log" | ./arbiter2 --show --display --save "$work/between" >"$work/one" || return
+        tail -n +$((at + 1)) "$work/log" | ./arbiter2 --show --display --load "$work/between" --save "$work/last" >>"$work/one" || return
+        cmp "$work/last" "$work/end" || return
+        for out in whole one; do sed '/^E0/s/....$//' "$work/$out" >"$work/$out.seen"; done
+        cmp "$work/one.seen" "$work/whole.seen" || return
+    done
+}
+for style in mix locks nowait queues full aborts precedences lists ties cuts cycles desks opens display many-locks saved; do
+    for seed in 1 2 3; do
+        cut_in_two $style $seed
+        verdict "a log of $style, seed $seed, cut in two with a save between"
+    done
+done
+
+# Spoilt texts: a kind that never gives a good one is refused, others are loaded or refused; what is loaded is saved as it was.
+# second/coverage.sh has many more.
+for seed in 1 2 3; do ./generate $seed 260 saved | ./arbiter2 --save "$work/good.$seed" >"$work/got"; done
+for kind in $(./spoil 2>&1 | sed -n 's/^kinds: //p'); do
+    wrong=
+    for seed in 1 2 3; do
+        ./spoil $seed $kind <"$work/good.$seed" >"$work/spoilt"
+        if ./arbiter2 --load "$work/spoilt" --save "$work/again" </dev/null >"$work/got" 2>"$work/said"; then
+            cmp -s "$work/spoilt" "$work/again" || wrong="seed $seed"
+            case " lower all-lower nul high strange cr bytes last-lf behind cut cut-line empty blank join long form channels mark id same-id \
+                period volume order free-write not-free unlocked key count none seventeen map open-zero opens-33 " in
+            *" $kind "*) cmp -s "$work/spoilt" "$work/good.$seed" || wrong="seed $seed is accepted" ;;
+            esac
+        elif [ $? -ne 2 ] || [ -s "$work/got" ] || [ ! -s "$work/said" ]; then
+            wrong="seed $seed"
+        else
+            case $kind in sixteen | list | opens-32 | last-key | numbers) wrong="seed $seed is refused" ;; esac
+        fi
+    done
+    [ -z "$wrong" ]
+    verdict "spoilt by $kind: $wrong"
 done
 
 echo "test.sh: $passed passed, $failed failed"

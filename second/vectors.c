@@ -1,9 +1,11 @@
 /* Writes vectors for the machine: calls with what this arbiter makes of them, as text of
    antt. vectors calls SEED writes calls on states that are not at rest, which no log
-   reaches; vectors log NAME reads a log and writes it beside its output. Same arguments,
-   same bytes, on every machine. */
+   reaches; vectors log NAME reads a log and writes it beside its output; vectors saved NAME
+   reads a log and writes it beside its output and the saved text of the state after it. Same
+   arguments, same bytes, on every machine. */
 #include "chance.h"
 #include "log.h"
+#include "saved.h"
 
 #include <stdio.h>
 #include <stdlib.h>
@@ -938,7 +940,7 @@ static void put_answer_lines(void)
 }
 
 /* A log from standard input, line by line; a line that cannot be quoted is left out. */
-static void put_log(const char *name)
+static void put_lines(const char *name)
 {
     static char line[1 << 18];
     size_t length = 0;
@@ -966,8 +968,32 @@ static void put_log(const char *name)
         }
         length = 0;
     } while (c != EOF);
-    printf("[]\n\npub %s : Answers %s-lines\nunfolding machine bytes page\n%s = refl\n", name, name,
-           name);
+    printf("[]\n");
+}
+
+static void put_log(const char *name)
+{
+    put_lines(name);
+    printf("\npub %s : Answers %s-lines\nunfolding machine bytes page\n%s = refl\n", name, name, name);
+}
+
+/* A log, and the lines of the text of the state after it. */
+static void put_saved(const char *name)
+{
+    static char text[SAVED_LONGEST];
+    size_t length;
+
+    put_lines(name);
+    if (saved_save(&after, text, sizeof text, &length) != DONE) {
+        fputs("vectors: the state has no saved text\n", stderr);
+        exit(1);
+    }
+    printf("\nabbrev pub %s-text : List String\n%s-text =\n    ", name, name);
+    for (const char *line = text; line < text + length; line = strchr(line, '\n') + 1)
+        printf("\"%.*s\"\n    ∷ ", (int)strcspn(line, "\n"), line);
+    printf("[]\n\npub %s : Keeps %s-lines %s-text\n"
+           "unfolding machine bytes page text kept channelFrame requestFrame spanFrame writeFrame writeFrames keyFrame frames spelt\n"
+           "%s = refl\n", name, name, name, name);
 }
 
 int main(int count, char **argument)
@@ -978,8 +1004,10 @@ int main(int count, char **argument)
             put_wish(&wishes[i]);
     } else if (count == 3 && strcmp(argument[1], "log") == 0) {
         put_log(argument[2]);
+    } else if (count == 3 && strcmp(argument[1], "saved") == 0) {
+        put_saved(argument[2]);
     } else {
-        fputs("usage: vectors calls SEED | vectors log NAME\n", stderr);
+        fputs("usage: vectors calls SEED | vectors log NAME | vectors saved NAME\n", stderr);
         return 2;
     }
     if (fflush(stdout) != 0 || ferror(stdout)) {

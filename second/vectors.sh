@@ -1,9 +1,60 @@
 #!/bin/sh
 # Writes crates/vectors/specs/Vectors.antt to standard output: generated logs and generated
 # calls, each with what this program makes of it. The machine must compute the same.
+# vectors.sh saved writes crates/saved_vectors/specs/SavedVectors.antt: generated logs, each with the
+# saved text of the state after it.
 cd "$(dirname "$0")" || exit 1
 LC_ALL=C
 export LC_ALL
+
+# ---- Saved texts
+
+# saved NAME SEED STYLE
+saved() {
+    ./generate "$2" 26 "$3" | ./vectors saved "$1" || exit 1
+}
+
+saved_vectors() {
+    cat <<'HEAD'
+-- Saved vectors: generated logs with the text that the second program saves after each. The definition computes the same.
+-- Written by second/vectors.sh saved, not by hand; the gate writes it again and compares.
+-- Assumes nothing.
+--
+--   Keeps t s           the lines of a log, each with what the second program writes, and the lines of a saved text: the state
+--                       after the log has that text
+--
+-- The texts have every kind of line: waiting requests with and without NOWAIT, locks and WAITCYCLEs of any age, writes of several
+-- channels, FINISH and PERVOL remembered, open keys. The first is a fresh board's.
+use Prim.Native.String.{String}
+use mathlib.Core.Path.{_≡_, refl}
+use mathlib.Core.List.{List, [], _∷_}
+use Rattle.machine.specs.Text.{bytes, page}
+use Rattle.machine.specs.State.{fresh}
+use Rattle.machine.specs.Log.{lines, run}
+use Rattle.machine.specs.Drawn.{Talk, given}
+use Rattle.machine.specs.Machine.{machine}
+use Rattle.saved.specs.Saved.{text, kept, channelFrame, requestFrame, spanFrame, writeFrame, writeFrames, keyFrame, frames, spelt}
+
+abbrev pub Keeps : Talk → List String → Type 0
+Keeps t s = text (run fresh (lines (page (given t))) .next) ≡ page s
+HEAD
+    ./vectors saved fresh-board </dev/null || exit 1
+    saved of-everything 39 saved
+    saved of-everything-again 130 saved
+    saved of-cuts 77 cuts
+    saved of-cycles 95 cycles
+    saved of-desks 41 desks
+    saved of-locks 46 locks
+    saved of-nowait 39 nowait
+    saved of-many-waiting 13 display
+    saved of-opens 120 opens
+    saved of-many-writes 64 full
+    saved of-queues 77 queues
+}
+if [ "${1:-}" = saved ]; then
+    saved_vectors
+    exit
+fi
 
 cat <<'HEAD'
 -- Vectors: generated calls with what the second program answers to each. The machine computes the same.

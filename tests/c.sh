@@ -48,9 +48,9 @@ page() {
     tried "$1" "$work/page$2.out" "$work/page$2.c" /dev/null
 }
 
-# The stack that the page says, of a call and of a fragment; and no more than that is taken on a generated log.
+# The stack that the page says, of a call, of a fragment and of a load; and no more than that is taken on a generated log.
 stack_said() {
-    sed -n 's/.*`qamhudeer_call` took less than \([0-9]*\),\([0-9]*\) bytes of stack and `qamhudeer_feed` less than \([0-9]*\),\([0-9]*\),.*/\1\2 \3\4/p' docs/desk.md
+    sed -n 's/.*`qamhudeer_call` took less than \([0-9]*\),\([0-9]*\) bytes of stack, `qamhudeer_feed` less than \([0-9]*\),\([0-9]*\) and `qamhudeer_load` less than \([0-9]*\),\([0-9]*\),.*/\1\2 \3\4 \5\6/p' docs/desk.md
 }
 
 stack_taken() {
@@ -68,6 +68,7 @@ elif linker_ready; then
     tried "the example desk that counts cycles" examples/cycles.out examples/cycles.c /dev/null
     tried "the example of two desks" examples/two_desks.out examples/two_desks.c /dev/null
     tried "the example of the wall display" examples/wall.out examples/wall.c /dev/null
+    tried "the example of a state carried to the bench" examples/carry.out examples/carry.c /dev/null
     tried "the example desk that wants stereo" examples/stereo.out examples/stereo.c /dev/null
     tried "a log byte by byte through the service port" second/sample.out examples/port.c second/sample.log
     # Names are bound at the start: to bind one on the way takes a stack of its own, which differs from machine to machine.

@@ -35,11 +35,6 @@ log() {
     second/$made >"$work/log" || die "second/$made fails"
 }
 
-# play PROGRAM
-play() {
-    run_c "$1" $chance $tries $board <"$work/log" >"$work/said" 2>&1
-}
-
 # What was tried, and which numbers came back.
 tell_counts() {
     echo "seed $seed, $count logs, $failed of them with a difference:"

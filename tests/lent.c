@@ -61,27 +61,37 @@ static void span(const struct Lent *l, size_t *from, size_t *to)
     *to = PAGE - at - l->length < GUARD ? PAGE : at + l->length + GUARD;
 }
 
-void lend(struct Lent *l, const struct Bytes *b)
+void lend_bytes(struct Lent *l, const uint8_t *byte, size_t length)
 {
     unsigned place = below(4), odd = below(16);
     size_t from, to;
 
-    l->at = l->page + (place == 0 ? 0 : place == 1 ? 4096 + odd : PAGE - b->length);
-    l->length = b->length;
+    l->at = l->page + (place == 0 ? 0 : place == 1 ? 4096 + odd : PAGE - length);
+    l->length = length;
     span(l, &from, &to);
     for (size_t i = from; i < to; i++)
         l->page[i] = guard_byte(i);
-    memcpy(l->at, b->byte, b->length);
+    memcpy(l->at, byte, length);
+}
+
+void lend(struct Lent *l, const struct Bytes *b)
+{
+    lend_bytes(l, b->byte, b->length);
 }
 
 int lent_same(const struct Lent *l, const struct Bytes *want, const char *name)
+{
+    return lent_same_bytes(l, want->byte, name);
+}
+
+int lent_same_bytes(const struct Lent *l, const uint8_t *want, const char *name)
 {
     size_t from, to, at = (size_t)(l->at - l->page);
 
     span(l, &from, &to);
     for (size_t i = from; i < to; i++) {
         int within = i >= at && i < at + l->length;
-        uint8_t must = within ? want->byte[i - at] : guard_byte(i);
+        uint8_t must = within ? want[i - at] : guard_byte(i);
 
         if (l->page[i] != must) {
             printf("DIFFERENT: %s%s, byte %ld is %02X and must be %02X\n", within ? "" : "memory outside the ", name,

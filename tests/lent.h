@@ -34,6 +34,10 @@ void lend(struct Lent *l, const struct Bytes *b);
 /* Each byte of the piece and of its guards is as it must be; else it is told under this name, and the result is 0. */
 int lent_same(const struct Lent *l, const struct Bytes *want, const char *name);
 
+/* The same of bytes that stand anywhere, and of any number up to a page's. */
+void lend_bytes(struct Lent *l, const uint8_t *byte, size_t length);
+int lent_same_bytes(const struct Lent *l, const uint8_t *want, const char *name);
+
 /* As many bytes of any kind. */
 void fill(struct Bytes *b, size_t length);
 

@@ -48,22 +48,6 @@ play() {
     return 1
 }
 
-# tell_counts: what was tried. Its status is 1 where something was never met.
-tell_counts() {
-    echo "seed $seed, $count logs, $failed of them with a difference:"
-    awk '
-        { name = $0; sub(/^count [0-9]* /, "", name) }
-        !(name in sum) { order[++names] = name }
-        { sum[name] += $2 }
-        END {
-            for (i = 1; i <= names; i++) {
-                printf "%9d %s\n", sum[order[i]], order[i]
-                missing += !sum[order[i]]
-            }
-            exit missing > 0 || names == 0
-        }' "$work/counts"
-}
-
 # ---- The wrong programs
 
 # spoilt NAME STATEMENT: a library that does this after each fragment.

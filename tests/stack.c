@@ -1,6 +1,6 @@
-/* How much stack the library takes: stack MOST_OF_A_CALL MOST_OF_A_FRAGMENT <LOG. The log is played through qamhudeer_call and
- * through qamhudeer_feed, on both boards, each in a thread whose stack was painted before. Says what was taken, and fails where
- * it is more than docs/desk.md says. */
+/* How much stack the library takes: stack MOST_OF_A_CALL MOST_OF_A_FRAGMENT MOST_OF_A_LOAD <LOG. The log is played through
+ * qamhudeer_call and through qamhudeer_feed, on both boards, and a state is saved and loaded, each in a thread whose stack was
+ * painted before. Says what was taken, and fails where it is more than docs/desk.md says. */
 #define _POSIX_C_SOURCE 200809L
 #include <pthread.h>
 #include <stdio.h>
@@ -59,6 +59,19 @@ static void *feed_all(void *nothing)
     return nothing;
 }
 
+static void *carry(void *nothing)
+{
+    static uint8_t saved[QAMHUDEER_TEXT_SIZE];
+    uint8_t here;
+    size_t written;
+
+    top = (uintptr_t)&here;
+    if (qamhudeer_save(state, sizeof state, table, sizeof table, saved, sizeof saved, &written) != 0 ||
+        qamhudeer_load(4, saved, written, state, sizeof state, table, sizeof table, display, sizeof display) != 0)
+        exit(2);
+    return nothing;
+}
+
 static size_t taken(void *(*play)(void *))
 {
     static void *stack;
@@ -81,10 +94,10 @@ static size_t taken(void *(*play)(void *))
 
 int main(int words, char **word)
 {
-    size_t call, fragment;
+    size_t call, fragment, load;
     int wrong = 0;
 
-    if (words != 3)
+    if (words != 4)
         return 2;
     length = fread(text, 1, sizeof text, stdin);
     for (channels = 4; channels <= 8; channels = (uint8_t)(channels + 4)) {
@@ -94,5 +107,8 @@ int main(int words, char **word)
         if (call > strtoul(word[1], NULL, 10) || fragment > strtoul(word[2], NULL, 10))
             wrong = 1;
     }
-    return wrong;
+    channels = 4;
+    load = taken(carry);
+    printf("a state saved and loaded: %lu bytes\n", (unsigned long)load);
+    return wrong || load > strtoul(word[3], NULL, 10);
 }

@@ -2,17 +2,37 @@
 # behind begin.sh. The test that reads it says these:
 #
 #   parts          the parts of its program in C, folder/name, its own first
-#   log NUMBER     makes a log in $work/log, and says in $made how
-#   play PROGRAM   plays the log: status 0 where there is no difference, and what the program said in $work/said
+#   log NUMBER     makes a log in $work/log, and says in $made how; also $chance and $board, and the test's $tries, for play
 #
-# and has these:
+# and has these, of which it may say the first two otherwise:
 #
+#   play PROGRAM               plays the log: status 0 where there is no difference, and what the program said in $work/said
+#   tell_counts                what was tried, of $work/counts: status 1 where something was never met
 #   prepare WHAT PROGRAMS..    the library, these programs of second/, and the trial as $work/trial
 #   play_logs                  $count logs of $seed; what was counted in $work/counts
 #   prepare_wrong              what the wrong programs are made from
 #   must_differ NAME WORDS..   the program made from these finds a difference in one of forty logs
 #   objects_but PART           those of all other parts
 #   wrong NAME FILE OLD NEW    in a copy of the file OLD, which stands there once, is NEW: that must differ
+play() {
+    run_c "$1" $chance $tries $board <"$work/log" >"$work/said" 2>&1
+}
+
+tell_counts() {
+    echo "seed $seed, $count logs, $failed of them with a difference:"
+    awk '
+        { name = $0; sub(/^count [0-9]* /, "", name) }
+        !(name in sum) { order[++names] = name }
+        { sum[name] += $2 }
+        END {
+            for (i = 1; i <= names; i++) {
+                printf "%9d %s\n", sum[order[i]], order[i]
+                missing += !sum[order[i]]
+            }
+            exit missing > 0 || names == 0
+        }' "$work/counts"
+}
+
 prepare() {
     what=$1
     shift

@@ -20,7 +20,7 @@ pub fn bytes(a: &[u8], b: &[u8], from: usize) -> bool {
 pub fn states(s: Board, t: Board) -> bool {
     let mut a = [0u8; 823];
     let mut b = [0u8; 823];
-    saving::save(s, &mut a);
-    saving::save(t, &mut b);
+    encoding::save(s, &mut a);
+    encoding::save(t, &mut b);
     bytes(&a, &b, 0)
 }

@@ -23,7 +23,10 @@ use Rattle.finishing.specs.Finishing.{Finishes}
 use Rattle.whole_log.proofs.Progress.{Went, desk-good, fills-went, fills-on, finished-went, left-held, left-shown, left-within, left-inside, left-size, left-used}
 use Rattle.whole_log.proofs.Whole.{fresh-held}
 use Rattle.arbiter_log.specs.declared.Desk.{Desk}
-use Rattle.arbiter_log.specs.Desk.{Ready}
+use Rattle.accepting.specs.declared.Found.{Found}
+use Rattle.accepting.proofs.Accepting.{false-true}
+use Rattle.carrying.specs.Carrying.{Resumes}
+use Rattle.arbiter_log.specs.Desk.{Ready, Loaded, Begins}
 
 -- the room that a page of the program has is enough, whatever is shown
 enough : (show : Show) {k : ℕ} → 1836 ≤ k → 0 + needed show ≤ k
@@ -70,7 +73,16 @@ pub finish-inside : {show : Show} {d : Desk} {tb dp l page : List ℕ} {t : Take
 finish-inside {show} {d} {tb} {dp} {l} {page} r w =
     left-inside (finished-went show (deskOf (d .state) tb dp l (d .line) page 0) (desk-good l (r .held) (r .shown) (r .within) (omega arith))) (w .leaves)
 
--- where the program begins: the fresh device, and a table of zeros
+pub finish-ready : {show : Show} {d : Desk} {tb dp l page : List ℕ} {t : Taken} {tb′ dp′ page′ : List ℕ} → Ready d tb dp page → Finishes show (d .state) tb dp l (d .line) page 0 t tb′ dp′ page′
+    → (ok : Bool) → Ready (record { state = t .state; line = t .line; ok = ok }) tb′ dp′ page′
+finish-ready {show} {d} {tb} {dp} {l} {page} r w ok =
+    let x = deskOf (d .state) tb dp l (d .line) page 0 in
+    let v = finished-went show x (desk-good l (r .held) (r .shown) (r .within) (omega arith)) in
+    let e = left-size v (w .leaves) in
+    let m = r .room in
+    record { held = left-held v (w .leaves); shown = left-shown v (w .leaves); within = left-within v (w .leaves); room = omega arith }
+
+-- where the program begins: the fresh device, and a table of zeros; or what was loaded
 
 none-table : tableOf (freshOn 0) ≡ replicate 1472 0
 unfolding tableOf entries lookup items writeItems frees
@@ -80,7 +92,27 @@ fresh-table : (w : ℕ) → tableOf (freshOn w) ≡ replicate 1472 0
 unfolding frees
 fresh-table w = table-wide w (freshOn 0) ∙ none-table
 
-pub fresh-ready : (w : ℕ) → T (sized w) → {s : Board} {ok : Bool} {page : List ℕ} → s ≡ freshBoard w → 65536 ≡ length page
-    → Ready (record { state = s; line = 0; ok = ok }) (replicate 1472 0) blank page
-fresh-ready w t {s} {page = page} e n =
-    record { held = subst (Held s) (fresh-table w) (subst (λ (x : Board). Held x (tableOf (freshOn w))) (sym (e ∙ fresh-of w t)) (fresh-held w t)); shown = refl; within = omega arith; room = omega arith }
+fresh-begun : (w : ℕ) → T (sized w) → {s : Board} → s ≡ freshBoard w → Held s (replicate 1472 0)
+fresh-begun w t {s} e = subst (Held s) (fresh-table w) (subst (λ (x : Board). Held x (tableOf (freshOn w))) (sym (e ∙ fresh-of w t)) (fresh-held w t))
+
+module _ {load : Bool} {w : ℕ} {tb dp : List ℕ} where
+  pub begins-fresh : T (sized w) → {s : Board} → load ≡ false → s ≡ freshBoard w → tb ≡ replicate 1472 0 → dp ≡ blank → Begins load w (record { ok = true; board = s }) tb dp
+  begins-fresh t {s} n e a b =
+      record {
+        fresh = λ _. (ap (λ (x : Board). record { ok = true; board = x }) e, a, b);
+        loaded = λ y. absurd (false-true (sym n ∙ y));
+        held = λ _. subst (Held s) (sym a) (fresh-begun w t e);
+        shown = ap length b;
+      }
+
+  pub begins-loaded : {t : List ℕ} {f : Found} → load ≡ true → Resumes t f tb dp → length dp ≡ 18 → Begins load w f tb dp
+  begins-loaded {t} y r k =
+      record {
+        fresh = λ n. absurd (false-true (sym n ∙ y));
+        loaded = λ _. record { text = t; resumes = r };
+        held = λ o. r .accepts .yes o .held;
+        shown = k;
+      }
+
+  pub begun-ready : {f : Found} {ok : Bool} {page : List ℕ} → Begins load w f tb dp → f .ok ≡ true → 65536 ≡ length page → Ready (record { state = f .board; line = 0; ok = ok }) tb dp page
+  begun-ready e o n = record { held = e .held o; shown = e .shown; within = omega arith; room = omega arith }

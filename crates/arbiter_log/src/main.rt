@@ -1,15 +1,34 @@
 // The log program: a log on standard input, its output on standard output, in constant memory. Its first argument is the number of
-// channels, 4 or 8, and 4 where it is anything else or left out. Its second is a word of letters: where c is among its first two, the
-// board's channels are told after each line, and where d is, then the wall display. It reads, calls `paging` and `finishing`, and
-// writes: what is read and written is the C library's to say, and that each page is passed to `write` as it was handed back stands
-// in `lump` and `last` to be read.
+// channels, 4 or 8, and 4 where it is anything else or left out. Its second is a word of four letters at most: where c is among them, the
+// board's channels are told after each line, and where d is, then the wall display; where l is, it goes on from the saved text on
+// descriptor 3, and where s is, the text of the state at the end goes to descriptor 4. It reads, calls `carrying`, `paging`, `finishing`
+// and `saving`, and writes: what is read and written is the C library's to say, and that each page is passed to `write` as it was handed
+// back stands in `lump`, `last` and `keep` to be read.
+use accepting::Found;
 use board::Board;
 use taking::Show;
+ghost use mathlib.Core.Path.{_≡_};
 ghost use lib.Dec.{T};
 ghost use Prim.Native.Nat.{_≤_};
-ghost use lib.ListN.{length};
-ghost use Rattle.board.specs.Board.{sized};
-ghost use Rattle.arbiter_log.specs.Desk.{Ready};
+ghost use lib.ListN.{length, replicate};
+ghost use Rattle.display.specs.Display.{blank};
+ghost use Rattle.board.specs.Board.{sized, Held};
+ghost use Rattle.arbiter_log.specs.Desk.{Ready, Begins};
+
+// The descriptors that ./arbiter-log opens, where it has the files.
+const LOADED: i32 = 3;
+
+const SAVED: i32 = 4;
+
+// A byte more than the longest text has, which is enough to see that a text is none.
+const MOST: usize = 3345;
+
+// What the second word asks for.
+struct Asked {
+    show: Show,
+    load: bool,
+    save: bool,
+}
 
 // What is kept from lump to lump of input. `line` is how much of a line stands that has not ended; `ok` is whether all was read
 // and written so far.
@@ -139,6 +158,7 @@ fn turns(
     d
 }
 
+// The log has ended: what stands of a last line is answered.
 fn last(
     show: Show,
     d: Desk,
@@ -146,16 +166,38 @@ fn last(
     table: &mut [u8],
     display: &mut [u8; 18],
     page: &mut [u8],
-)
+) -> Desk
     requires { ⌜ Ready d (now table) (now display) (now page) ⌝ }
+    ensures { λ r. ⌜ Ready r (now (table .exit)) (now (display .exit)) (now (page .exit)) ⌝ }
 {
     if !d.ok {
-        return;
+        return d;
     }
     let s = d.state;
     let n = d.line;
     let t = finishing::finish(show, s, line, n, table, display, page, 0);
-    write(page, t.at);
+    let ok = write(page, t.at);
+    let q = t.state;
+    Desk {
+        state: q,
+        line: t.line,
+        ok,
+    }
+}
+
+// The text of the state at the end. Eight channels have none.
+fn keep(b: Board, table: &[u8])
+    requires { ⌜ Held b (now table) ⌝ }
+{
+    if b.width != Board::FOUR {
+        return;
+    }
+    let mut page = [0u8; saving::LONGEST];
+    let n = saving::spell(b, table, &mut page);
+    let ok = io::write_all(SAVED, &page[..n]);
+    if !ok {
+        os::fail(b"save");
+    }
 }
 
 // How many channels the board has.
@@ -173,29 +215,61 @@ fn width() -> u8
     Board::FOUR
 }
 
-// What is shown.
-fn shown() -> Show {
-    let mut word = [0u8; 2];
+// Whether a letter is in the word.
+fn has(word: &[u8; 4], letter: u8) -> bool {
+    word[0] == letter || word[1] == letter || word[2] == letter || word[3] == letter
+}
+
+// What the second word asks for.
+fn words() -> Asked {
+    let mut word = [0u8; 4];
     os::arg(2, &mut word);
-    let c = word[0] == b'c' || word[1] == b'c';
-    let d = word[0] == b'd' || word[1] == b'd';
-    Show {
+    let c = has(&word, b'c');
+    let d = has(&word, b'd');
+    let show = Show {
         channels: c,
         display: d,
+    };
+    let l = has(&word, b'l');
+    let s = has(&word, b's');
+    Asked {
+        show,
+        load: l,
+        save: s,
     }
 }
 
+// What the program begins with: a fresh board of w channels; or the board of the loaded text, its table and its display.
+fn begin(load: bool, w: u8, table: &mut [u8], display: &mut [u8]) -> Found
+    requires { ⌜ (T (sized w)) × (now table ≡ replicate 1472 0) × (now display ≡ blank) ⌝ }
+    ensures { λ r. ⌜ Begins load w r (now (table .exit)) (now (display .exit)) ⌝ }
+{
+    if !load {
+        let s = Board::fresh(w);
+        return Found { ok: true, board: s };
+    }
+    let mut text = [0u8; MOST];
+    let n = io::read_full(LOADED, &mut text);
+    carrying::resume(&text[..n], table, display)
+}
+
 fn main() {
-    let show = shown();
+    let a = words();
     let w = width();
-    let s = Board::fresh(w);
+    let mut table = [0u8; 1472];
+    let mut display = [0u8; 18];
+    let f = begin(a.load, w, &mut table, &mut display);
+    if !f.ok {
+        io::write_all(libc::STDERR_FILENO, b"the text is refused\n");
+        return;
+    }
+    let s = f.board;
     let d = Desk {
         state: s,
         line: 0,
         ok: true,
     };
-    let mut table = [0u8; 1472];
-    let mut display = [0u8; 18];
+    let show = a.show;
     let mut line = [0u8; 527];
     let mut input = io::large_buffer();
     let mut page = io::large_buffer();
@@ -208,5 +282,11 @@ fn main() {
         &mut display,
         &mut page,
     );
-    last(show, e, &line, &mut table, &mut display, &mut page);
+    let z = last(show, e, &line, &mut table, &mut display, &mut page);
+    if a.save {
+        if z.ok {
+            let b = z.state;
+            keep(b, &table);
+        }
+    }
 }

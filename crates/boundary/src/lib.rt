@@ -51,11 +51,11 @@ fn carry(
     ensures { λ n. ⌜ Carried op r (now (combos .entry)) (now (state .entry)) (now (table .entry)) (now (display .entry)) (now (replies .entry))
         n (now (state .exit)) (now (table .exit)) (now (display .exit)) (now (replies .exit)) (now (answer .exit)) ⌝ }
 {
-    let b = loading::load(state);
+    let b = decoding::load(state);
     let d = show(op, r, b, combos, table, display, replies);
     let a = d.answer;
     let t = d.state;
-    saving::save(t, state);
+    encoding::save(t, state);
     handed::put_answer(answer, a, d.a, d.b);
     d.a + d.b
 }

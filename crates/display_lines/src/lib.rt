@@ -6,20 +6,7 @@ ghost use Prim.Native.Nat.{_+_, _*_, _≤_};
 ghost use lib.ListN.{length};
 ghost use Rattle.memory.specs.Splice.{splice};
 ghost use Rattle.machine.specs.Log.{line};
-ghost use Rattle.spelling.specs.Spelling.{digits};
 ghost use Rattle.display_lines.specs.DisplayLines.{loadOf, recordLines, Shows};
-
-// The digits of bytes.
-fn put_bytes(out: &mut [u8], at: usize, bs: &[u8])
-    requires { ⌜ at + 2 * length (now bs) ≤ length (now out) ⌝ }
-    ensures { λ _. ⌜ now (out .exit) ≡ splice (now (out .entry)) at (digits (now (bs .entry))) ⌝ }
-{
-    let mut i: usize = 0;
-    while i < bs.len() {
-        spelling::put_byte(out, at + 2 * i, bs[i]);
-        i += 1;
-    }
-}
 
 // E0: the two numbers of each of w channels, then the looks.
 fn put_load(out: &mut [u8], w: usize, display: &[u8])
@@ -29,8 +16,8 @@ fn put_load(out: &mut [u8], w: usize, display: &[u8])
     let k = 2 * w;
     let e = 2 + 2 * k;
     spelling::put_byte(out, 0, 0xE0);
-    put_bytes(out, 2, &display[..k]);
-    put_bytes(out, e, &display[16..]);
+    hex_lines::put_bytes(out, 2, &display[..k]);
+    hex_lines::put_bytes(out, e, &display[16..]);
     out[e + 4] = 10;
 }
 
@@ -40,7 +27,7 @@ fn put_record(out: &mut [u8], at: usize, bs: &[u8])
     ensures { λ _. ⌜ now (out .exit) ≡ splice (now (out .entry)) at (line (0xE1 ∷ now (bs .entry))) ⌝ }
 {
     spelling::put_byte(out, at, 0xE1);
-    put_bytes(out, at + 2, bs);
+    hex_lines::put_bytes(out, at + 2, bs);
     out[at + 10] = 10;
 }
 

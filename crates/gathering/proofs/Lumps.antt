@@ -154,7 +154,7 @@ unfolding front
 front-within [] = omega arith
 front-within (b ∷ a) = by-LF b (λ e. let p = ap length (front-LF b a e) in omega arith) (λ n. let p = ap length (front-other b a n) in let q = front-within a in omega arith)
 
-front-take : (a : List ℕ) → take (length (front a)) a ≡ front a
+pub front-take : (a : List ℕ) → take (length (front a)) a ≡ front a
 unfolding front
 front-take [] = refl
 front-take (b ∷ a) = by-LF b (λ e. rw (front-LF b a e)) (λ n. rw (front-other b a n, front-take a))

@@ -12,7 +12,7 @@ pub struct Gathered {
 }
 
 // Where the first LF stands; the length where there is none.
-fn end_of(input: &[u8]) -> usize
+pub fn end_of(input: &[u8]) -> usize
     ensures { λ r. ⌜ r ≡ length (front (now (input .entry))) ⌝ }
 {
     let mut i: usize = 0;

@@ -19,9 +19,9 @@ pub fn hear(
         let none = unheard::unsound(Board::fresh(Board::FOUR), line, out);
         return none.n;
     }
-    let b = loading::load(state);
+    let b = decoding::load(state);
     let f = feeding::feed(b, line, table, display, out);
     let t = f.state;
-    saving::save(t, state);
+    encoding::save(t, state);
     f.n
 }

@@ -1,4 +1,4 @@
-// The state as 823 bytes that a caller keeps: tested (specs/Image.antt has the layout; `loading` reads it, `saving` writes it).
+// The state as 823 bytes that a caller keeps: tested (specs/Image.antt has the layout; `decoding` reads it, `encoding` writes it).
 // Assumes nothing.
 ghost use mathlib.Core.Path.{_≡_};
 ghost use Prim.Native.Nat.{_+_, _≤_};

@@ -1,6 +1,7 @@
 -- Demand 3 on what the log program writes: two logs with a common beginning, read in lumps of any size, on a board of 4 or 8
 -- channels. Of the program only the promises of `fill` and `finish` are used, by `Ran` of crates/whole_log. Nothing is shown: document
--- 02, #110, "For the two-run rule these reports are the managers' and not a desk's".
+-- 02, #110, "For the two-run rule these reports are the managers' and not a desk's". The logs begin on a fresh device: #106, "A load
+-- replaces history, so demand 3's stretch begins after it", and a log that goes on from a saved text is a run of its own (crates/carrying).
 -- Assumes nothing.
 --
 --   Log w l page pre xs bss out   a run of the program: its lumps are the common lines, then those of a stretch

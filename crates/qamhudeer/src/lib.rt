@@ -8,6 +8,8 @@ ghost use Rattle.handed.specs.Handed.{requestOf};
 ghost use Rattle.starting.specs.Starting.{Started};
 ghost use Rattle.boundary.specs.Boundary.{Crossed};
 ghost use Rattle.waiting_list.specs.WaitingList.{Tells};
+ghost use Rattle.saving.specs.Saving.{TEXT, Saves};
+ghost use Rattle.loading.specs.Loading.{Loads};
 ghost use Rattle.fragments.specs.Fragments.{Feeds};
 ghost use Rattle.last_line.specs.LastLine.{Ends};
 ghost use Rattle.machine.specs.Lists.{if_then_else_};
@@ -69,6 +71,13 @@ pub extern "C" fn qamhudeer_records_size() -> usize
     ensures { λ r. ⌜ r ≡ RECORDS ⌝ }
 {
     sizes::records_size()
+}
+
+#[no_mangle]
+pub extern "C" fn qamhudeer_text_size() -> usize
+    ensures { λ r. ⌜ r ≡ TEXT ⌝ }
+{
+    saving::text_size()
 }
 
 #[no_mangle]
@@ -234,6 +243,40 @@ pub extern "C" fn qamhudeer_waiting(
     let made = waiting_list::waiting(state, table, records);
     *count = made.count;
     made.error
+}
+
+// ---- saved states
+
+// The text of a state: 0 and its length. Bytes that hold no sound state: 1. Eight channels: 10. Room that is too short: 12. After a
+// refusal the length is 0, and nothing is written.
+#[no_mangle]
+pub extern "C" fn qamhudeer_save(
+    state: &[u8],
+    table: &[u8],
+    text: &mut [u8],
+    written: &mut usize,
+) -> u8
+    ensures { λ r. ⌜ Saves (now (state .entry)) (now (table .entry)) (now (text .entry)) r (now (written .exit)) (now (text .exit)) ⌝ }
+{
+    let made = saving::save(state, table, text);
+    *written = made.written;
+    made.error
+}
+
+// The state of a saved text, its table and its display: 0. Memory of another size: 1. A text that was not saved, or another number of
+// channels than 4: 9. After a refusal nothing has moved.
+#[no_mangle]
+pub extern "C" fn qamhudeer_load(
+    channels: u8,
+    text: &[u8],
+    state: &mut [u8],
+    table: &mut [u8],
+    display: &mut [u8],
+) -> u8
+    ensures { λ r. ⌜ Loads channels (now (text .entry)) (now (state .entry)) (now (table .entry)) (now (display .entry))
+        r (now (state .exit)) (now (table .exit)) (now (display .exit)) ⌝ }
+{
+    loading::load(channels, text, state, table, display)
 }
 
 // ---- lists for stereo

@@ -1,97 +1,73 @@
-// The state written as the 823 bytes that a caller keeps (image's specs/Image.antt has the layout, and what is promised).
-// Assumes nothing.
+// A state saved as a text, in room that the caller lends: document 02, #106. `save` asks nothing: whatever the bytes are, the answer and
+// every byte lent are determined (specs/Saving.antt). `qamhudeer` exports it to programs in C. Assumes nothing.
 use board::Board;
-use channel::Channel;
-use open_keys::Keys;
-use queue::Queue;
 ghost use mathlib.Core.Path.{_≡_};
-ghost use Prim.Native.Nat.{_+_, _≤_, _<_};
-ghost use lib.ListN.{length, set};
-ghost use Rattle.image.specs.Image.{markOf, keysBytes, openBytes, queueBytes, channelBytes, Wrote, Entered, Saved};
+ghost use lib.ListN.{length};
+ghost use Rattle.hex_lines.specs.HexLines.{Put};
+ghost use Rattle.board.specs.Board.{stateIn, Held};
+ghost use Rattle.saved.specs.Saved.{text as textOf};
+ghost use Rattle.saving.specs.Saving.{TEXT, Saves};
 
-fn mark(on: bool) -> u8
-    ensures { λ r. ⌜ r ≡ markOf on ⌝ }
-{
-    if on { 1 } else { 0 }
+// The refusal, or 0; how long the text is.
+pub struct Written {
+    pub error: u8,
+    pub written: usize,
 }
 
-fn put_queue(bytes: &mut [u8], at: usize, q: Queue)
-    requires { ⌜ at + 65 ≤ length (now bytes) ⌝ }
-    ensures { λ _. ⌜ Wrote (now (bytes .entry)) at (queueBytes q) 65 (now (bytes .exit)) ⌝ }
+// No text of four channels is longer.
+pub const LONGEST: usize = 3344;
+
+// Room for every text.
+pub fn text_size() -> usize
+    ensures { λ r. ⌜ r ≡ TEXT ⌝ }
 {
-    let ids = q.ids;
-    bytes[at] = q.n;
-    memory::copy(bytes, at + 1, &ids);
+    LONGEST
 }
 
-fn put_channel(bytes: &mut [u8], at: usize, c: Channel)
-    requires { ⌜ at + 70 ≤ length (now bytes) ⌝ }
-    ensures { λ _. ⌜ Wrote (now (bytes .entry)) at (channelBytes c) 70 (now (bytes .exit)) ⌝ }
+// The text of a board of four channels, in front of the page; how long it is.
+pub fn spell(b: Board, table: &[u8], page: &mut [u8]) -> usize
+    requires { ⌜ Held b (now table) × (b .width ≡ 4) × (length (now page) ≡ 3344) ⌝ }
+    ensures { λ r. ⌜ Put (now (page .entry)) 0 (textOf (stateIn b (now (table .entry)))) r (now (page .exit)) ⌝ }
 {
-    let q = c.writes;
-    memory::put_key(bytes, at, c.key);
-    bytes[at + 2] = c.prec;
-    bytes[at + 3] = mark(c.locked);
-    bytes[at + 4] = mark(c.stopped);
-    put_queue(bytes, at + 5, q);
+    memory::copy(page, 0, b"D001\n");
+    saved_lines::put_frames(page, 5, b, table)
 }
 
-fn put_channels(bytes: &mut [u8], cs: [Channel; 8])
-    requires { ⌜ 560 ≤ length (now bytes) ⌝ }
-    ensures { λ _. ⌜ Entered (now (bytes .entry)) cs (now (bytes .exit)) ⌝ }
+// Bytes that hold no sound state: 1. Eight channels, which have no text of this form: 10. Room that is too short: 12. After a refusal
+// the length is 0, and nothing is written.
+pub fn save(state: &[u8], table: &[u8], text: &mut [u8]) -> Written
+    ensures { λ r. ⌜ Saves (now (state .entry)) (now (table .entry)) (now (text .entry)) (r .error) (r .written) (now (text .exit)) ⌝ }
 {
-    let mut i: usize = 0;
-    while i < 8 {
-        let c = cs[i];
-        put_channel(bytes, i * 70, c);
-        i += 1;
+    if !image::whole(state) {
+        return Written {
+            error: 1,
+            written: 0,
+        };
     }
-}
-
-fn put_keys(bytes: &mut [u8], at: usize, keys: [u16; Keys::ROOM])
-    requires { ⌜ at + 64 ≤ length (now bytes) ⌝ }
-    ensures { λ _. ⌜ Wrote (now (bytes .entry)) at (keysBytes keys) 64 (now (bytes .exit)) ⌝ }
-{
-    let mut i: usize = 0;
-    while i < Keys::ROOM {
-        let k = keys[i];
-        memory::put_key(bytes, at + 2 * i, k);
-        i += 1;
+    let b = decoding::load(state);
+    if !sound::sound(b, table) {
+        return Written {
+            error: 1,
+            written: 0,
+        };
     }
-}
-
-fn put_open(bytes: &mut [u8], at: usize, opens: Keys)
-    requires { ⌜ at + 65 ≤ length (now bytes) ⌝ }
-    ensures { λ _. ⌜ Wrote (now (bytes .entry)) at (openBytes opens) 65 (now (bytes .exit)) ⌝ }
-{
-    let keys = opens.keys;
-    bytes[at] = opens.n;
-    put_keys(bytes, at + 1, keys);
-}
-
-// How many channels the board has, in the last byte.
-fn put_width(bytes: &mut [u8], width: u8)
-    requires { ⌜ 822 < length (now bytes) ⌝ }
-    ensures { λ _. ⌜ now (bytes .exit) ≡ set (now (bytes .entry)) 822 width ⌝ }
-{
-    bytes[822] = width;
-}
-
-pub fn save(b: Board, bytes: &mut [u8])
-    requires { ⌜ length (now bytes) ≡ 823 ⌝ }
-    ensures { λ _. ⌜ Saved b (now (bytes .exit)) ⌝ }
-{
-    let s = b.state;
-    let cs = s.channels;
-    let locks = s.locks;
-    let waiters = s.waiters;
-    let waiting = s.waiting;
-    let opens = s.opens;
-    put_channels(bytes, cs);
-    put_queue(bytes, 560, locks);
-    put_queue(bytes, 625, waiters);
-    put_queue(bytes, 690, waiting);
-    put_open(bytes, 755, opens);
-    memory::put_key(bytes, 820, s.last);
-    put_width(bytes, b.width);
+    if b.width != Board::FOUR {
+        return Written {
+            error: 10,
+            written: 0,
+        };
+    }
+    let mut page = [0u8; LONGEST];
+    let n = spell(b, table, &mut page);
+    if n > text.len() {
+        return Written {
+            error: 12,
+            written: 0,
+        };
+    }
+    memory::copy(text, 0, &page[..n]);
+    Written {
+        error: 0,
+        written: n,
+    }
 }

@@ -20,7 +20,7 @@ pub fn fresh(channels: u8, state: &mut [u8], table: &mut [u8], display: &mut [u8
         return 1;
     }
     let b = Board::fresh(channels);
-    saving::save(b, state);
+    encoding::save(b, state);
     let n = table.len();
     memory::clear(table, 0, n);
     memory::clear(display, 0, 18);

@@ -61,7 +61,7 @@ module _ {st tb l : List ℕ} where
 
 -- ---- no second list fits
 
-sound-or-not {ℓ} : {R : Type ℓ} (st tb : List ℕ) → (Sound st tb → R) → ((Sound st tb → ⊥) → R) → R
+pub sound-or-not {ℓ} : {R : Type ℓ} (st tb : List ℕ) → (Sound st tb → R) → ((Sound st tb → ⊥) → R) → R
 sound-or-not {R = R} st tb y z = by-test (isWhole st) whole (λ t. z (λ s. T-not (isWhole st) t (s .0)))
   where
     go : Whole st → (x : Bool) → Decides x (Held (stateOf st) tb) → R

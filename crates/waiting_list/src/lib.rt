@@ -16,7 +16,7 @@ pub fn waiting(state: &[u8], table: &[u8], list: &mut [u8]) -> Listed
     if !image::whole(state) {
         return Listed { error: 1, count: 0 };
     }
-    let b = loading::load(state);
+    let b = decoding::load(state);
     if !sound::sound(b, table) {
         return Listed { error: 1, count: 0 };
     }

@@ -31,7 +31,7 @@ use Rattle.taking.proofs.Kept.{leaves-state}
 use Rattle.taking.proofs.Laws.{fed-hidden, taken-open, taken-ended, taken-used, closed-none, closed-some}
 use Rattle.paging.specs.Paging.{Fills}
 use Rattle.finishing.specs.Finishing.{Finishes}
-use Rattle.whole_log.specs.Whole.{joined, Ran, fills, used-up, finishes, writes, over}
+use Rattle.whole_log.specs.Whole.{joined, Ran, fills, used-up, finishes, writes, over, boardAt, tableAt}
 use Rattle.whole_log.proofs.Progress.{Good, Went, desk-good, taken-went, filled-went, finished-went, left-held, left-shown, left-inside}
 
 -- ---- runShown
@@ -45,7 +45,7 @@ run-none : (show : Show) (s : StateM) (d : List ℕ) → runShown show s d [] �
 unfolding runShown
 run-none show s d = refl
 
-none-ended : ended [] ≡ false
+pub none-ended : ended [] ≡ false
 unfolding ended
 none-ended = refl
 
@@ -61,6 +61,10 @@ not-empty t h e = h (t .count ∙ ap (λ (x : List ℕ). length (take LINE x)) e
 -- what stands on the page, then the output of the line that has begun with p and of what is left
 abbrev pub comes : Show → Desk → List ℕ → List ℕ → List ℕ
 comes show d p rest = take (d .at) (d .page) ++ runShown show (d .state) (d .display) (lines (p ++ rest))
+
+-- the state that they come to
+abbrev pub arrives : Desk → List ℕ → List ℕ → StateM
+arrives d p rest = run (d .state) (lines (p ++ rest)) .next
 
 -- a line that is cut is fed as it is whole
 module _ (s : StateM) (d : List ℕ) {l : List ℕ} {n : ℕ} {p : List ℕ} (t : Stands l n p) where
@@ -88,20 +92,25 @@ answered-comes show d p ls g t =
     ap (λ (x : List ℕ). x ++ runShown show (answered show d .state) (answered show d .display) ls) a ∙ append-assoc h o _
     ∙ ap (λ (x : List ℕ). h ++ x) (ap₂ (λ (x : FedM) (y : List ℕ). x .output ++ runShown show (x .next) y ls) f z ∙ sym (run-cons show (d .state) (d .display) p ls))
 
+answered-arrives : (show : Show) (d : Desk) (p : List ℕ) (ls : List (List ℕ)) → Stands (d .line) (d .n) p → run (answered show d .state) ls .next ≡ run (d .state) (p ∷ ls) .next
+unfolding fed run
+answered-arrives show d p ls t = ap (λ (f : FedM). run (f .next) ls .next) (stands-feed t (d .state))
+
 -- ---- a lump
 
--- from the desk d, with p standing, the call went to x: what is to come is the same
+-- from the desk d, with p standing, the call went to x: what is to come is the same, and so is the state in the end
 record Goes (show : Show) (whole : List ℕ) (d : Desk) (p : List ℕ) (x : Desk) : Type 0 where
   pub begun : List ℕ
   pub stands : Stands (x .line) (x .n) begun
   pub unended : ended begun ≡ false
   pub same : (rest : List ℕ) → comes show x begun (drop (x .used) whole ++ rest) ≡ comes show d p (drop (d .used) whole ++ rest)
+  pub ends : (rest : List ℕ) → arrives x begun (drop (x .used) whole ++ rest) ≡ arrives d p (drop (d .used) whole ++ rest)
 
 goes-nowhere : (show : Show) (whole : List ℕ) (d : Desk) (p : List ℕ) → Stands (d .line) (d .n) p → ended p ≡ false → Goes show whole d p d
-goes-nowhere show whole d p t o = record { begun = p; stands = t; unended = o; same = λ rest. refl }
+goes-nowhere show whole d p t o = record { begun = p; stands = t; unended = o; same = λ rest. refl; ends = λ rest. refl }
 
 goes-on : {show : Show} {whole : List ℕ} {d x y : Desk} {p : List ℕ} (g : Goes show whole d p x) → Goes show whole x (g .begun) y → Goes show whole d p y
-goes-on g h = record { begun = h .begun; stands = h .stands; unended = h .unended; same = λ rest. h .same rest ∙ g .same rest }
+goes-on g h = record { begun = h .begun; stands = h .stands; unended = h .unended; same = λ rest. h .same rest ∙ g .same rest; ends = λ rest. h .ends rest ∙ g .ends rest }
 
 module _ (show : Show) (whole : List ℕ) (d : Desk) (p bs : List ℕ) (g : Good d) (t : Stands (d .line) (d .n) p) (o : ended p ≡ false) (e : drop (d .used) whole ≡ bs) where
   more : Stands (gathered d bs .line) (gathered d bs .n) (p ++ front bs)
@@ -122,6 +131,9 @@ module _ (show : Show) (whole : List ℕ) (d : Desk) (p bs : List ℕ) (g : Good
         same = λ rest. ap (λ (x : List ℕ). take (d .at) (d .page) ++ runShown show (d .state) (d .display) (lines ((p ++ bs) ++ (x ++ rest)))) (left-over ∙ z)
             ∙ ap (λ (x : List (List ℕ)). take (d .at) (d .page) ++ runShown show (d .state) (d .display) x) (sym (lines-on p bs rest o b .1))
             ∙ ap (λ (x : List ℕ). comes show d p (x ++ rest)) (sym e);
+        ends = λ rest. ap (λ (x : List ℕ). run (d .state) (lines ((p ++ bs) ++ (x ++ rest))) .next) (left-over ∙ z)
+            ∙ ap (λ (x : List (List ℕ)). run (d .state) x .next) (sym (lines-on p bs rest o b .1))
+            ∙ ap (λ (x : List ℕ). arrives d p (x ++ rest)) (sym e);
       }
 
   ended-goes : ended bs ≡ true → Goes show whole d p (answered show (gathered d bs))
@@ -134,6 +146,10 @@ module _ (show : Show) (whole : List ℕ) (d : Desk) (p bs : List ℕ) (g : Good
             ∙ answered-comes show (gathered d bs) (p ++ front bs) (lines (drop (used bs) bs ++ rest)) (record { fine = g .fine; within = stands-within more; inside = g .inside; shown = g .shown }) more
             ∙ ap (λ (x : List (List ℕ)). take (d .at) (d .page) ++ runShown show (d .state) (d .display) x) (sym (lines-step p bs rest o b))
             ∙ ap (λ (x : List ℕ). comes show d p (x ++ rest)) (sym e);
+        ends = λ rest. ap (λ (x : List ℕ). arrives (answered show (gathered d bs)) [] (x ++ rest)) left-over
+            ∙ answered-arrives show (gathered d bs) (p ++ front bs) (lines (drop (used bs) bs ++ rest)) more
+            ∙ ap (λ (x : List (List ℕ)). run (d .state) x .next) (sym (lines-step p bs rest o b))
+            ∙ ap (λ (x : List ℕ). arrives d p (x ++ rest)) (sym e);
       }
 
   taken-goes : Goes show whole d p (taken show d bs)
@@ -168,10 +184,11 @@ record Closes (show : Show) (d : Desk) (p : List ℕ) (x : Desk) : Type 0 where
   pub stands : Stands (x .line) (x .n) begun
   pub unended : ended begun ≡ false
   pub same : comes show x begun [] ≡ comes show d p []
+  pub ends : arrives x begun [] ≡ arrives d p []
 
 module _ (show : Show) (d : Desk) (p : List ℕ) (g : Good d) (t : Stands (d .line) (d .n) p) (o : ended p ≡ false) where
   closes-nowhere : Closes show d p d
-  closes-nowhere = record { begun = p; stands = t; unended = o; same = refl }
+  closes-nowhere = record { begun = p; stands = t; unended = o; same = refl; ends = refl }
 
   closed-closes : Closes show d p (closed show d)
   closed-closes =
@@ -186,6 +203,9 @@ module _ (show : Show) (d : Desk) (p : List ℕ) (g : Good d) (t : Stands (d .li
         same = ap (λ (x : List (List ℕ)). take (answered show d .at) (answered show d .page) ++ runShown show (answered show d .state) (answered show d .display) x) lines-none
             ∙ answered-comes show d p [] g t
             ∙ ap (λ (x : List (List ℕ)). take (d .at) (d .page) ++ runShown show (d .state) (d .display) x) (sym (ap lines (append-nil p) ∙ lines-last p o (not-empty t h)));
+        ends = ap (λ (x : List (List ℕ)). run (answered show d .state) x .next) lines-none
+            ∙ answered-arrives show d p [] t
+            ∙ ap (λ (x : List (List ℕ)). run (d .state) x .next) (sym (ap lines (append-nil p) ∙ lines-last p o (not-empty t h)));
       }))
 
   finished-closes : Closes show d p (finished show d)
@@ -228,6 +248,46 @@ ran-run p h e r t o (over {show} {s} {tb} {dp} {l} z) =
     let q = empty (rw z at t) in
     sym (ap (λ (x : List ℕ). runShown show (stateIn s tb) dp (lines (x ++ []))) q ∙ ap (runShown show (stateIn s tb) dp) lines-none ∙ run-none show (stateIn s tb) dp)
 
+-- ---- where it ends
+
+-- the struct and the table that a run ends with hold the state that the machine comes to
+pub record Ended (s : StateM) (ls : List (List ℕ)) (b : Board) (tb : List ℕ) : Type 0 where
+  pub held : Held b tb
+  pub state : stateIn b tb ≡ run s ls .next
+
+left-arrives : {t : Taken} {l tb dp page : List ℕ} {d x : Desk} {m : ℕ} → Went d m x → Leaves t l tb dp page x → (p rest : List ℕ)
+    → run (stateIn (t .state) tb) (lines (p ++ rest)) .next ≡ arrives x p rest
+left-arrives v w p rest = rw (leaves-state (v .good .fine) w)
+
+ends-so : {s u : StateM} {ks ls : List (List ℕ)} {b : Board} {tb : List ℕ} → Ended s ks b tb → run s ks .next ≡ run u ls .next → Ended u ls b tb
+ends-so a e = record { held = a .held; state = a .state ∙ e }
+
+pub ran-ends : {show : Show} {s : Board} {tb dp l : List ℕ} {n : ℕ} {page : List ℕ} {at : ℕ} {bss : List (List ℕ)} {out : List ℕ} (p : List ℕ) → Held s tb → length dp ≡ 18
+    → at ≤ length page → Stands l n p → ended p ≡ false → (r : Ran show s tb dp l n page at bss out)
+    → Ended (stateIn s tb) (lines (p ++ joined bss)) (boardAt r) (tableAt r)
+unfolding boardAt tableAt run
+ran-ends p h e r t o (fills {show} {s} {tb} {dp} {l} {n} {page} {at} {bs} {bss} {t = u} w k) =
+    let d = deskOf s tb dp l n page at in
+    let g = desk-good l h e (stands-within t) r in
+    let v = filled-went show d bs g in
+    let c = filled-goes show d p bs refl g t o in
+    ends-so (ran-ends (c .begun) (left-held v (w .leaves)) (left-shown v (w .leaves)) (left-inside v (w .leaves)) (left-stands (w .leaves) (c .stands)) (c .unended) k)
+    (left-arrives v (w .leaves) (c .begun) (drop (u .used) bs ++ joined bss)
+    ∙ ap (λ (x : ℕ). arrives (filled show d bs) (c .begun) (drop x bs ++ joined bss)) (w .leaves .used)
+    ∙ c .ends (joined bss))
+ran-ends p h e r t o (used-up k) = ran-ends p h e r t o k
+ran-ends p h e r t o (finishes {show} {s} {tb} {dp} {l} {n} {page} {at} w k) =
+    let d = deskOf s tb dp l n page at in
+    let g = desk-good l h e (stands-within t) r in
+    let v = finished-went show d g in
+    let c = finished-closes show d p g t o in
+    ends-so (ran-ends (c .begun) (left-held v (w .leaves)) (left-shown v (w .leaves)) (left-inside v (w .leaves)) (left-stands (w .leaves) (c .stands)) (c .unended) k)
+    (left-arrives v (w .leaves) (c .begun) [] ∙ c .ends)
+ran-ends p h e r t o (writes k) = ran-ends p h e (omega arith) t o k
+ran-ends p h e r t o (over {show} {s} {tb} {dp} {l} z) =
+    let q = empty (rw z at t) in
+    record { held = h; state = sym (ap (λ (x : List ℕ). run (stateIn s tb) (lines (x ++ [])) .next) q ∙ ap (λ (x : List (List ℕ)). run (stateIn s tb) x .next) lines-none) }
+
 -- ---- from the fresh device
 
 pub fresh-held : (w : ℕ) → T (sized w) → Held (structOf (freshOn w)) (tableOf (freshOn w))
@@ -242,7 +302,7 @@ whole-log-shown w t {show} {l} {page} {bss} r =
     ran-run [] (fresh-held w t) refl (omega arith) (stands-none l) none-ended r
     ∙ ap (λ x. runShown show x blank (lines (joined bss))) (stateIn-of (freshOn w) (parts (freshOn w) (fresh-sane w t)))
 
-run-hidden : (s : StateM) (d : List ℕ) (ls : List (List ℕ)) → runShown hidden s d ls ≡ run s ls .output
+pub run-hidden : (s : StateM) (d : List ℕ) (ls : List (List ℕ)) → runShown hidden s d ls ≡ run s ls .output
 unfolding runShown run
 run-hidden s d [] = refl
 run-hidden s d (l ∷ ls) =

@@ -10,6 +10,7 @@
 --     finishes                   the input has ended, and a call answers what stands of a line
 --     writes                     what stands on the page is written, and the page is empty again: after any call
 --     over                       the input has ended, and nothing stands of a line or on the page
+--   boardAt r, tableAt r         the struct and the table that a run ends with
 use Prim.Native.Nat.{ℕ}
 use mathlib.Core.Path.{_≡_}
 use mathlib.Core.List.{List, [], _∷_, _++_}
@@ -35,3 +36,17 @@ pub data Ran : Show → Board → List ℕ → List ℕ → List ℕ → ℕ →
   writes : {show : Show} {s : Board} {tb dp l : List ℕ} {n : ℕ} {page : List ℕ} {at : ℕ} {bss : List (List ℕ)} {out : List ℕ}
       → Ran show s tb dp l n page 0 bss out → Ran show s tb dp l n page at bss (take at page ++ out)
   over : {show : Show} {s : Board} {tb dp l : List ℕ} {n : ℕ} {page : List ℕ} → n ≡ 0 → Ran show s tb dp l n page 0 [] []
+
+unfoldable pub boardAt : {show : Show} {s : Board} {tb dp l : List ℕ} {n : ℕ} {page : List ℕ} {at : ℕ} {bss : List (List ℕ)} {out : List ℕ} → Ran show s tb dp l n page at bss out → Board
+boardAt (fills w k) = boardAt k
+boardAt (used-up k) = boardAt k
+boardAt (finishes w k) = boardAt k
+boardAt (writes k) = boardAt k
+boardAt (over {s = s} z) = s
+
+unfoldable pub tableAt : {show : Show} {s : Board} {tb dp l : List ℕ} {n : ℕ} {page : List ℕ} {at : ℕ} {bss : List (List ℕ)} {out : List ℕ} → Ran show s tb dp l n page at bss out → List ℕ
+tableAt (fills w k) = tableAt k
+tableAt (used-up k) = tableAt k
+tableAt (finishes w k) = tableAt k
+tableAt (writes k) = tableAt k
+tableAt (over {tb = tb} z) = tb

@@ -1,8 +1,12 @@
--- `last` meets its contract: what `finish` puts on the page stands within it. Assumes nothing.
-use Rattle.arbiter_log.proofs.Laws.{finish-inside}
+-- `last` meets its contract: what `finish` puts on the page stands within it, and the desk stays ready. Assumes nothing.
+use Rattle.arbiter_log.proofs.Laws.{finish-inside, finish-ready}
 use borrow.Author.Needs.{needs}
 use Rattle.arbiter_log.proofs.last.Statement.{statement}
 use Rattle.arbiter_log.proofs.last.Tie as tie
+use Rattle.arbiter_log.proofs.last.Reads as reads
+use Rattle.arbiter_log.proofs.last.Lts as lts
+use Rattle.arbiter_log.proofs.write.Reads as write-reads
+use Rattle.finishing.proofs.finish.Reads as finish-reads
 
 returns : tie.Need-returns
 returns c = search needs
@@ -22,15 +26,10 @@ same-length-2 : tie.Need-same-length-2
 same-length-2 c = search needs
 
 returns-2 : tie.Need-returns-2
-returns-2 c = search needs
+returns-2 c =
+    let f = c .before .before .before .before .before .before .before in
+    finish-ready (f .before .before .before .before .before .before .before .before .before .pre) (f .finish .ensures) _
 
 pub last-spec : {M : Type 1} → statement M
 last-spec =
-    tie.close
-    (tie.spec
-    returns
-    finish-requires
-    write-requires
-    same-length
-    same-length-2
-    returns-2)
+    tie.close (tie.spec returns finish-requires write-requires same-length same-length-2 returns-2)

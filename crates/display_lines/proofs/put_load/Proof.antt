@@ -10,7 +10,7 @@ use Rattle.display_lines.proofs.put_load.Statement.{statement}
 use Rattle.display_lines.proofs.put_load.Tie as tie
 use Rattle.display_lines.proofs.put_load.Reads as reads
 use Rattle.display_lines.proofs.put_load.Lts as lts
-use Rattle.display_lines.proofs.put_bytes.Reads as put-bytes-reads
+use Rattle.hex_lines.proofs.put_bytes.Reads as put-bytes-reads
 use Rattle.spelling.proofs.put_byte.Reads as put-byte-reads
 
 mul-k : tie.Need-mul-k

@@ -7,7 +7,7 @@ use Rattle.display_lines.proofs.put_record.Statement.{statement}
 use Rattle.display_lines.proofs.put_record.Tie as tie
 use Rattle.display_lines.proofs.put_record.Reads as reads
 use Rattle.display_lines.proofs.put_record.Lts as lts
-use Rattle.display_lines.proofs.put_bytes.Reads as put-bytes-reads
+use Rattle.hex_lines.proofs.put_bytes.Reads as put-bytes-reads
 use Rattle.spelling.proofs.put_byte.Reads as put-byte-reads
 
 put-byte-requires : tie.Need-put-byte-requires

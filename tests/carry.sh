@@ -1,0 +1,193 @@
+#!/bin/sh
+# A board's state carried by ./arbiter-log --save and --load (request #106): what is refused before the log is read, and with which
+# line; a save that fails and leaves the old file; logs cut in two with a save between, also told by ./explain; the texts of
+# docs/saved.md. The last line is 'N passed, M failed'.
+. "$(dirname "$0")/begin.sh"
+text=$work/text
+log=second/sample.log
+
+# refuses WORDS..: with status 2, a message, nothing on standard output, and nothing of the log is read. The message is in $work/err.
+refuses() {
+    { ./arbiter-log "$@" >"$work/out" 2>"$work/err"; status=$?; cat >"$work/rest"; } <"$log"
+    [ $status -eq 2 ] && [ ! -s "$work/out" ] && [ -s "$work/err" ] && cmp "$work/rest" "$log"
+}
+
+# refuses_text WORDS: the text at hand, with these words in the message.
+refuses_text() {
+    refuses --load "$text" && grep -F "$text: $1" "$work/err"
+}
+
+# spoilt SCRIPT WORDS: the busy text of the page, changed by sed.
+spoilt() {
+    sed "$1" "$work/busy" >"$text"
+    check "refused: the busy text after sed '$1'" refuses_text "$2"
+}
+
+# quoted NUMBER: a text of the page.
+quoted() {
+    awk -v number="$1" '$0 == "```text" { on = ++seen == number; next } /^```/ { on = 0 } on' docs/saved.md
+}
+
+frame() {
+    echo "line $1 is no frame of its kind"
+}
+
+# again TEXT: it is loaded, and saved as it was. The file that is loaded stays.
+again() {
+    cp "$1" "$work/loaded" && ./arbiter-log --load "$work/loaded" --save "$work/again" </dev/null >"$work/out" &&
+        [ ! -s "$work/out" ] && cmp "$1" "$work/again" && cmp "$1" "$work/loaded"
+}
+
+# keeps STATUS COMMAND..: the command ends so, the old file is as it was, and no part of a new one is left.
+keeps() {
+    wanted=$1
+    shift
+    echo old >"$work/file"
+    "$@" >"$work/out" 2>"$work/err"
+    status=$?
+    [ $status -eq "$wanted" ] && [ "$(cat "$work/file")" = old ] && [ ! -e "$work/file.part" ]
+}
+
+unread() {
+    ./arbiter-log --save "$work/file" <"$work"
+}
+
+unwritten() {
+    ./arbiter-log --save "$work/file" <"$log" >/dev/full
+}
+
+# stopped SIGNAL: it is stopped while it waits for more of the log.
+stopped() {
+    rm -f "$work/pipe"
+    mkfifo "$work/pipe" || return
+    ./arbiter-log --save "$work/file" <"$work/pipe" &
+    player=$!
+    {
+        cat "$log"
+        while [ ! -e "$work/file.part" ]; do sleep 1; done
+        kill "-$1" $player
+    } >"$work/pipe"
+    wait $player
+}
+
+# A crash: no one tidies up. The old file stands, and the next save is a save.
+crashed() {
+    echo old >"$work/file"
+    stopped KILL >/dev/null 2>&1
+    [ "$(cat "$work/file")" = old ] && ./arbiter-log --save "$work/file" <"$log" >/dev/null && again "$work/file" &&
+        [ ! -e "$work/file.part" ]
+}
+
+# cut_at LINES LOG: played in two parts, with a save between, it comes to the same output and the same text as in one.
+cut_at() {
+    head -n "$1" "$2" | ./arbiter-log --show --save "$work/between" >"$work/parts" &&
+        tail -n +$(($1 + 1)) "$2" | ./arbiter-log --save "$work/end" --load "$work/between" --show >>"$work/parts" &&
+        ./arbiter-log --show --save "$work/end.whole" <"$2" >"$work/out" && cmp "$work/parts" "$work/out" &&
+        cmp "$work/end" "$work/end.whole"
+}
+
+# told_at LINES LOG TOLD: the same of ./explain, but for the numbers of the lines.
+told_at() {
+    {
+        head -n "$1" "$2" | ./explain --save "$work/between" && tail -n +$(($1 + 1)) "$2" | ./explain --load "$work/between"
+    } >"$work/parts" || return
+    sed 's/^ *[0-9]*  //' "$work/parts" >"$work/told" && sed 's/^ *[0-9]*  //' "$3" | cmp - "$work/told"
+}
+
+if ! ready || ! proved_program text_program; then
+    failed=$((failed + 1))
+    echo "FAILED: the programs are not built"
+    finish
+fi
+quoted 1 >"$work/fresh"
+quoted 2 >"$work/busy"
+
+# ---- What is saved
+
+check "a fresh board's text is the page's" sh -c './arbiter-log --save "$1/new" </dev/null && cmp "$1/new" "$1/fresh"' sh "$work"
+check "it has 112 bytes" [ "$(wc -c <"$work/fresh")" -eq 112 ]
+check "the page's fresh text is loaded" again "$work/fresh"
+check "the page's busy text is loaded" again "$work/busy"
+check "a file is loaded and saved to" sh -c 'cp "$1/busy" "$1/both" && ./arbiter-log --load "$1/both" --save "$1/both" </dev/null && cmp "$1/busy" "$1/both"' \
+    sh "$work"
+mkdir "$work/a folder" && cp "$work/busy" "$work/a folder/-text"
+check "a name with a space and a hyphen" sh -c 'cd "$2/a folder" && "$1/arbiter-log" --load -text --save -new </dev/null && cmp ./-text ./-new' sh "$root" "$work"
+
+# ---- What is refused
+
+for words in --load --save '--show --load' "--load $work/nowhere" "--load $work" "--save $work" "--save $work/nowhere/file" \
+    "--channels 8 --save $work/new" "--channels 8 --load $work/busy" "--load $work/busy --channels 8" "--load $work/busy --loud" \
+    "--load $work/busy --save"; do
+    check "refused: $words" refuses $words
+done
+check "refused: --load with an empty name" refuses --load ''
+check "refused: --save with an empty name" refuses --save ''
+check "refused: a file that may not be replaced" refuses --save /dev/null
+check "no file is left of a refused save" [ ! -e "$work/nowhere" ]
+: >"$text"
+check "refused: an empty text" refuses_text "$(frame 1)"
+spoilt 1d "$(frame 1)"
+spoilt 1s/1/2/ "$(frame 1)"
+spoilt 1s/D001/D00100/ "$(frame 1)"
+spoilt 1s/D/d/ "$(frame 1)"
+spoilt '1s/^/ /' "$(frame 1)"
+spoilt 2s/C/c/ "$(frame 2)"
+spoilt 2s/..$// "$(frame 2)"
+spoilt 3s/$/00/ "$(frame 3)"
+spoilt 4s/.$// "$(frame 4)"
+spoilt 5s/D1/D8/ "$(frame 5)"
+spoilt 5s/.*// "$(frame 5)"
+spoilt 6s/0102030C/0103030C/ "$(frame 6)"
+spoilt 7s/..$// "$(frame 7)"
+spoilt 8s/D3/00/ "$(frame 8)"
+spoilt '9s/$/ /' "$(frame 9)"
+spoilt 10s/01$/0101/ "$(frame 10)"
+spoilt 11s/D5/D6/ "$(frame 11)"
+spoilt 16s/D7/D5/ "$(frame 16)"
+spoilt '$s/$/\r/' "$(frame 16)"
+spoilt '$a\
+' "$(frame 17)"
+spoilt '$a\
+D0' "$(frame 17)"
+printf %s "$(cat "$work/busy")" >"$text"
+check "refused: no LF behind the last line" refuses_text "$(frame 16)"
+{ cat "$work/busy"; printf 'D7'; } >"$text"
+check "refused: bytes behind the last line" refuses_text "$(frame 17)"
+head -c 100000 /dev/zero >"$text"
+check "refused: many NULs" refuses_text "$(frame 1)"
+sound='every line is a frame, and the whole is no sound state'
+spoilt '$d' "$sound"
+spoilt '$p' "$sound"
+spoilt 2d "$sound"
+spoilt 5p "$sound"
+spoilt 2s/A01/A02/ "$sound"
+spoilt '6{h;d;};7G' "$sound"
+spoilt '8{h;d;};10G' "$sound"
+spoilt 8s/06/05/ "$sound"
+spoilt 8s/06/40/ "$sound"
+spoilt 8s/0001/0003/ "$sound"
+spoilt 11s/00/04/ "$sound"
+spoilt 13s/0001/0000/ "$sound"
+
+# ---- A save that fails
+
+check "a log that cannot be read to its end" keeps 1 unread
+check "an output that cannot be written" keeps 1 unwritten
+check "stopped while it plays" keeps 2 stopped TERM
+check "a crash while it plays" crashed
+
+# ---- A log in two parts
+
+at=0
+while [ $at -le "$(wc -l <"$log")" ]; do
+    check "the sample, cut at line $at" cut_at $at "$log"
+    at=$((at + 1))
+done
+for told in words cuts cycles desks; do
+    for at in 1 7 12 16; do
+        check "$told, cut at line $at" cut_at $at "scripts/explained/$told.log"
+        check "$told, cut at line $at, in words" told_at $at "scripts/explained/$told.log" "scripts/explained/$told.txt"
+    done
+done
+check "a long log, cut in the middle" cut_at $(($(wc -l <crates/arbiter_log/stdin) / 2)) crates/arbiter_log/stdin
+finish

@@ -1,0 +1,139 @@
+#!/bin/sh
+# The saved texts of request #106, through the library: saves of good and damaged states in every room, loads of good and spoilt texts
+# over any bytes, held against the second program (tests/saved.c says how).
+#
+#   tests/saved.sh [SEED [COUNT]]   COUNT logs; 1 and 48 where not given
+#   tests/saved.sh gate             the fixed set of the gate, then the wrong programs. Its last line is 'N passed, M failed'
+#   tests/saved.sh wrong            only the wrong programs
+#
+# The logs are made by second/generate and lead through good states, on four channels and, one in four, on eight. The same words
+# give the same calls on every machine.
+#
+# A wrong program has one mistake: in the second program's texts, or in a library that touches what it should not. Each must be
+# found: they show that the trial can fail.
+#
+# Where the library cannot be run it says 'NOT RUN: ..', and passes nothing.
+. "$(dirname "$0")/begin.sh"
+. tests/trial.sh
+
+styles='saved display saved cuts desks saved full locks saved opens mix cycles'
+lines=100
+tries=8
+parts='tests/saved tests/states tests/lent second/spoilt second/saved second/chance second/log second/arbiter'
+
+# ---- The logs
+
+log() {
+    number=$1
+    board=4
+    [ $((number % 4)) -ne 3 ] || board=8
+    chance=$((seed * 100000 + number))
+    set -- $styles
+    shift $((number % $#))
+    # Every third one is long, so that the lists are.
+    made="generate $chance $((number % 3 == 0 ? 3 * lines : lines)) $1 $board"
+    second/$made >"$work/log" || die "second/$made fails"
+}
+
+# ---- The wrong programs
+
+# spoilt save|load NAME STATEMENT: a library that does this after each such call.
+spoilt() {
+    {
+        echo '#include <stddef.h>'
+        echo '#include <stdint.h>'
+        case $1 in
+        save)
+            echo '#define WORDS uint8_t *state, size_t state_len, uint8_t *table, size_t table_len, uint8_t *text, size_t text_len, size_t *written'
+            echo '#define NAMES state, state_len, table, table_len, text, text_len, written'
+            ;;
+        load)
+            echo '#define WORDS uint8_t channels, uint8_t *text, size_t text_len, uint8_t *state, size_t state_len, uint8_t *table, \'
+            echo '    size_t table_len, uint8_t *display, size_t display_len'
+            echo '#define NAMES channels, text, text_len, state, state_len, table, table_len, display, display_len'
+            ;;
+        esac
+        echo "uint8_t __real_qamhudeer_$1(WORDS); uint8_t __wrap_qamhudeer_$1(WORDS); volatile uint8_t seen;"
+        echo "uint8_t __wrap_qamhudeer_$1(WORDS) { uint8_t r = __real_qamhudeer_$1(NAMES); $3; return r; }"
+    } >"$work/spoilt.c"
+    must_differ "$2" -Wl,--wrap=qamhudeer_$1 "$work/spoilt.c" $(objects_but none)
+}
+
+play_wrong() {
+    prepare_wrong
+    saved=second/saved.c
+    wrong "lower case is accepted" $saved 'const char *found = memchr(digits, c, 16);' "const char *found = memchr(digits, c >= 'a' && c <= 'f' ? c - 32 : c, 16);"
+    wrong "the last LF may be absent" $saved "const char *end = r->left > 0 ? memchr(r->text, '\\n', r->left) : NULL;" "static char last[64]; const char *end = r->left > 0 ? memchr(r->text, '\\n', r->left) : NULL; if (end == NULL && r->left > 0 && r->left < 60) { memcpy(last, r->text, r->left); r->text = last; end = last + r->left++; }"
+    wrong "bytes behind the end are read over" $saved 'return r->left == 0;' 'return 1;'
+    wrong "what is not sound is loaded" $saved 'if (!arbiter_sound(&read))' 'if (0)'
+    wrong "the order of the locks is turned" $saved 'for (unsigned at = 0; at < a->locks.count; at++)' 'for (unsigned at = a->locks.count; at-- > 0;)'
+    wrong "the youngest WAITCYCLE comes first" $saved 'for (unsigned at = 0; at < a->cycles.count; at++)' 'for (unsigned at = a->cycles.count; at-- > 0;)'
+    wrong "the open keys are turned" $saved 'for (unsigned at = 0; at < a->open.count; at++)' 'for (unsigned at = a->open.count; at-- > 0;)'
+    wrong "writes of any order of channels" $saved 'if (c < *channel || c >= a->channels)' 'if (c >= a->channels)'
+    wrong "a text just as long does not fit" $saved 'if (t.length > room)' 'if (t.length >= room)'
+    wrong "a text a byte too long fits" $saved 'if (t.length > room)' 'if (t.length > room + 1)'
+    wrong "the length is told after 12" $saved 'return REFUSED_ROOM;' 'return *written = t.length, REFUSED_ROOM;'
+    wrong "10 before 1" tests/saved.c 'count[decodes(' 'if (c->piece[STATE].length == QAMHUDEER_STATE_SIZE && c->piece[STATE].byte[QAMHUDEER_OFFSET_OF_CHANNELS] == 8) c->result = 10; count[decodes('
+    wrong "12 before 10" $saved 'return REFUSED_EIGHT;' 'return room < 112 ? REFUSED_ROOM : REFUSED_EIGHT;'
+    wrong "12 before 1" tests/saved.c 'count[decodes(' 'if (c->text.length < 112) c->result = 12; count[decodes('
+    wrong "a mark of 02 is read as 00" $saved 'uint8_t mark = take_byte(r);' 'uint8_t mark = take_byte(r) & 1;'
+    wrong "the precedence is saved plus 128" $saved 'put(t, (uint8_t)channel->precedence, 1);' 'put(t, (uint8_t)(channel->precedence + 128), 1);'
+    wrong "the low byte of the cycles comes first" $saved 'put(t, q->cycles, 2);' 'put(t, (uint16_t)(q->cycles << 8 | q->cycles >> 8), 2);'
+    wrong "what is remembered is not saved" $saved 'put(t, channel->finish, 1);' 'put(t, 0, 1);'
+    wrong "D002 is taken" $saved 'memcmp(r->text, first_line, first) != 0' 'memcmp(r->text, first_line, first - 2) != 0'
+    wrong "any board loads" $saved 'if (channels != FORM_CHANNELS)' 'if (channels == 0)'
+    wrong "31 open keys are the most" $saved 'open->count == MOST_OPENS)' 'open->count == MOST_OPENS - 1)'
+    wrong "a load settles" $saved '*a = read;' '*a = read; { struct Reply record[64]; struct Replies told = {.record = record, .capacity = 64}; struct Frame f = {.operation = CALL_CYCLE_ENDED}; arbiter_call(a, &f, &told); }'
+    wrong "the numbers are not counted" $saved 'd->writes[c] = a->channel[c].writes.count;' ';'
+    wrong "each combination counts" $saved '+ (named >> c & 1));' '+ q->length * (named >> c & 1));'
+    wrong "the looks stay" $saved 'memset(d, 0, sizeof *d);' 'memset(d, 0, 2 * MOST_CHANNELS);'
+    wrong "the numbers behind the board stay" $saved 'memset(d, 0, sizeof *d);' 'memset(d, 0, sizeof *d), memset(d->naming + 4, 1, 4);'
+    wrong "9 before 1" tests/saved.c 'count[WRONG_LENGTH]++;' 'c->result = saved_fault(c->text.text, c->text.length) != 0 ? 9 : 1;'
+    spoilt save "a byte behind the text is written" 'if (r == 0 && *written < text_len) text[*written] ^= 1'
+    spoilt save "a text that does not fit is begun" 'if (r == 12 && text_len > 0) text[0] ^= 1'
+    spoilt save "the length is told after a refusal" 'if (r == 1) *written = 1'
+    spoilt save "the state moves" 'if (state_len > 9) state[9] ^= 1'
+    spoilt save "a byte behind the table is read" 'seen = table[table_len]'
+    spoilt save "a byte behind the room is written" 'text[text_len] ^= 1'
+    spoilt load "a refused text moves the state" 'if (r == 9) state[9] ^= 1'
+    spoilt load "a refused text moves the table" 'if (r == 9) table[table_len - 1] ^= 1'
+    spoilt load "a refused text moves the display" 'if (r == 9) display[17] ^= 1'
+    spoilt load "a wrong length moves what has its length" 'if (r == 1 && display_len == 18) display[0] ^= 1'
+    spoilt load "the text is written" 'if (text_len > 0) text[0] ^= 1'
+    spoilt load "a byte behind the text is read" 'seen = text[text_len]'
+    spoilt load "a wrong length is 9" 'if (r == 1) r = 9'
+    spoilt load "the looks are not 0" 'if (r == 0) display[17] = 1'
+    spoilt load "an idle entry keeps a byte" 'if (r == 0 && table[0] == 0) table[22] = 1'
+}
+
+# ---- The three ways to run it
+
+case ${1:-} in
+gate)
+    prepare "saved texts" generate
+    seed=1 count=48
+    play_logs
+    if tell_counts; then
+        passed=$((passed + 1))
+    else
+        failed=$((failed + 1))
+        echo "FAILED: some kind of call was never made"
+    fi
+    play_wrong
+    finish
+    ;;
+wrong)
+    prepare "saved texts" generate
+    seed=1
+    play_wrong
+    finish
+    ;;
+*)
+    seed=${1:-1} count=${2:-48}
+    case $seed$count in *[!0-9]*) die "usage: tests/saved.sh [SEED [COUNT]], tests/saved.sh gate or tests/saved.sh wrong" ;; esac
+    prepare "saved texts" generate
+    play_logs
+    tell_counts
+    [ $failed -eq 0 ]
+    ;;
+esac
