@@ -64,7 +64,11 @@ stopped() {
     player=$!
     {
         cat "$log"
-        while [ ! -e "$work/file.part" ]; do sleep 1; done
+        waited=0
+        while [ ! -e "$work/file.part" ] && [ $waited -lt 20 ]; do
+            sleep 1
+            waited=$((waited + 1))
+        done
         kill "-$1" $player
     } >"$work/pipe"
     wait $player
