@@ -122,7 +122,8 @@ for words in --load --save '--show --load' "--load $work/nowhere" "--load $work"
 done
 check "refused: --load with an empty name" refuses --load ''
 check "refused: --save with an empty name" refuses --save ''
-check "refused: a file that may not be replaced" refuses --save /dev/null
+mkfifo "$work/pipe"
+check "refused: what is no file is not replaced" refuses --save "$work/pipe"
 check "no file is left of a refused save" [ ! -e "$work/nowhere" ]
 : >"$text"
 check "refused: an empty text" refuses_text "$(frame 1)"
