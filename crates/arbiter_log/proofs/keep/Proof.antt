@@ -1,51 +1,38 @@
--- `keep` meets its contract: a text of four channels has room on the page. Assumes nothing.
-use mathlib.Core.Path.{sym}
-use lib.Seq.{length-take-le}
-use Rattle.saving.proofs.Laws.{text-fits, page-within}
 use borrow.Author.Needs.{needs}
 use Rattle.arbiter_log.proofs.keep.Statement.{statement}
 use Rattle.arbiter_log.proofs.keep.Tie as tie
 use Rattle.arbiter_log.proofs.keep.Reads as reads
 use Rattle.arbiter_log.proofs.keep.Lts as lts
-use Rattle.io.proofs.write_all.Reads as write-all-reads
-use Rattle.os.proofs.fail.Reads as fail-reads
+use Rattle.arbiter_log.proofs.saved.Reads as saved-reads
 use Rattle.saving.proofs.spell.Reads as spell-reads
 
+-- src/main.rt:202:9
 returns : tie.Need-returns
 returns c = search needs
 
+-- src/main.rt:205:37
 slice-aggregate-spell : tie.Need-slice-aggregate-spell
 slice-aggregate-spell c = search needs
 
+-- src/main.rt:205:9
 spell-requires : tie.Need-spell-requires
 spell-requires c κs = search needs
 
+-- src/main.rt:206:11
 array-share-prefix-page : tie.Need-array-share-prefix-page
-array-share-prefix-page c =
-    let p = c .before in
-    let e = p .before .before in
-    page-within (p .spell .ensures) (text-fits (e .before .before .before .pre) (e .if1 .left))
+array-share-prefix-page c = ?
 
-slice-aggregate-write-all : tie.Need-slice-aggregate-write-all
-slice-aggregate-write-all c =
-    let p = c .before .before in
-    let e = p .before .before in
-    sym (length-take-le _ _ (page-within (p .spell .ensures) (text-fits (e .before .before .before .pre) (e .if1 .left))))
+-- src/main.rt:206:11
+slice-aggregate-saved : tie.Need-slice-aggregate-saved
+slice-aggregate-saved c = ?
 
-write-all-requires : tie.Need-write-all-requires
-write-all-requires c κs = search needs
+-- src/main.rt:206:5
+saved-requires : tie.Need-saved-requires
+saved-requires c κs = search needs
 
-slice-aggregate-fail : tie.Need-slice-aggregate-fail
-slice-aggregate-fail c = search needs
-
-fail-requires : tie.Need-fail-requires
-fail-requires c κs = search needs
-
+-- src/main.rt:198:1
 returns-2 : tie.Need-returns-2
 returns-2 c = search needs
-
-returns-3 : tie.Need-returns-3
-returns-3 c = search needs
 
 pub keep-spec : {M : Type 1} → statement M
 keep-spec =
@@ -55,9 +42,6 @@ keep-spec =
     slice-aggregate-spell
     spell-requires
     array-share-prefix-page
-    slice-aggregate-write-all
-    write-all-requires
-    slice-aggregate-fail
-    fail-requires
-    returns-2
-    returns-3)
+    slice-aggregate-saved
+    saved-requires
+    returns-2)
