@@ -1,3 +1,8 @@
+-- `begin` meets its contract: a fresh board is held with a table of zeros, and a loaded one with its own. Assumes nothing.
+use mathlib.Core.Path.{ap, _∙_}
+use lib.ListN.{length}
+use borrow.Author.Tests.{not-true, not-false}
+use Rattle.arbiter_log.proofs.Laws.{begins-fresh, begins-loaded, begins-loaded2}
 use borrow.Author.Needs.{needs}
 use Rattle.arbiter_log.proofs.begin.Statement.{statement}
 use Rattle.arbiter_log.proofs.begin.Tie as tie
@@ -8,69 +13,68 @@ use Rattle.carrying.proofs.resume.Reads as resume-reads
 use Rattle.carrying.proofs.resume2.Reads as resume2-reads
 use Rattle.io.proofs.read_full.Reads as read-full-reads
 
--- src/main.rt:270:13
 fresh-requires : tie.Need-fresh-requires
 fresh-requires c κs = search needs
 
--- src/main.rt:271:9
 returns : tie.Need-returns
-returns c = ?
+returns c =
+    let s = c .before .before .before .before .pre in
+    begins-fresh (s .0) (not-true _ (c .before .if1 .taken)) (c .fresh .ensures) (s .1) (s .2)
 
--- src/main.rt:274:35
 slice-aggregate-read-full : tie.Need-slice-aggregate-read-full
 slice-aggregate-read-full c = search needs
 
--- src/main.rt:274:9
 read-full-requires : tie.Need-read-full-requires
 read-full-requires c κs = search needs
 
--- src/main.rt:276:37
 array-share-prefix-text : tie.Need-array-share-prefix-text
 array-share-prefix-text c = search needs
 
--- src/main.rt:276:37
 slice-aggregate-resume2 : tie.Need-slice-aggregate-resume2
 slice-aggregate-resume2 c = search needs
 
--- src/main.rt:276:9
 resume2-requires : tie.Need-resume2-requires
-resume2-requires c κs = ?
+resume2-requires c κs =
+    let s = c .before .before .before .before .before .before .before .before .before .before .pre in
+    (s .0, s .1, ap length (s .2))
 
--- src/main.rt:276:9
 same-length : tie.Need-same-length
 same-length c = search needs
 
--- src/main.rt:276:9
 same-length-2 : tie.Need-same-length-2
 same-length-2 c = search needs
 
--- src/main.rt:276:9
 returns-2 : tie.Need-returns-2
-returns-2 c = ?
+returns-2 c =
+    let r = c .before .before .before .before in
+    let d = r .before .before .before .before in
+    let e = d .before .before .before .before in
+    begins-loaded2 (not-false _ (e .if1 .left)) (d .if2 .taken) (r .resume2 .ensures)
+    (r .resume2 .kept .1 .1 .1 .0 ∙ ap length (e .before .before .before .pre .2))
 
--- src/main.rt:278:22
 array-share-prefix-text-2 : tie.Need-array-share-prefix-text-2
 array-share-prefix-text-2 c = search needs
 
--- src/main.rt:278:22
 slice-aggregate-resume : tie.Need-slice-aggregate-resume
 slice-aggregate-resume c = search needs
 
--- src/main.rt:278:5
 resume-requires : tie.Need-resume-requires
-resume-requires c κs = ?
+resume-requires c κs =
+    let s = c .before .before .before .before .before .before .before .before .before .before .pre in
+    (s .1, ap length (s .2))
 
--- src/main.rt:265:1
 same-length-3 : tie.Need-same-length-3
 same-length-3 c = search needs
 
--- src/main.rt:265:1
 same-length-4 : tie.Need-same-length-4
 same-length-4 c = search needs
 
--- src/main.rt:265:1
 returns-3 : tie.Need-returns-3
-returns-3 c = ?
+returns-3 c =
+    let r = c .before .before .before .before in
+    let d = r .before .before .before .before in
+    let e = d .before .before .before .before in
+    begins-loaded (not-false _ (e .if1 .left)) (d .if2 .left) (r .resume .ensures) (r .resume .kept .1 .1 .0 ∙ ap length (e .before .before .before .pre .2))
 
 pub begin-spec : {M : Type 1} → statement M
 begin-spec =

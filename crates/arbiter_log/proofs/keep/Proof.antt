@@ -1,3 +1,7 @@
+-- `keep` meets its contract: a text of four channels has room on the page. Assumes nothing.
+use mathlib.Core.Path.{sym}
+use lib.Seq.{length-take-le}
+use Rattle.saving.proofs.Laws.{text-fits, page-within}
 use borrow.Author.Needs.{needs}
 use Rattle.arbiter_log.proofs.keep.Statement.{statement}
 use Rattle.arbiter_log.proofs.keep.Tie as tie
@@ -6,31 +10,30 @@ use Rattle.arbiter_log.proofs.keep.Lts as lts
 use Rattle.arbiter_log.proofs.saved.Reads as saved-reads
 use Rattle.saving.proofs.spell.Reads as spell-reads
 
--- src/main.rt:202:9
 returns : tie.Need-returns
 returns c = search needs
 
--- src/main.rt:205:37
 slice-aggregate-spell : tie.Need-slice-aggregate-spell
 slice-aggregate-spell c = search needs
 
--- src/main.rt:205:9
 spell-requires : tie.Need-spell-requires
 spell-requires c κs = search needs
 
--- src/main.rt:206:11
 array-share-prefix-page : tie.Need-array-share-prefix-page
-array-share-prefix-page c = ?
+array-share-prefix-page c =
+    let p = c .before in
+    let e = p .before .before in
+    page-within (p .spell .ensures) (text-fits (e .before .before .before .pre) (e .if1 .left))
 
--- src/main.rt:206:11
 slice-aggregate-saved : tie.Need-slice-aggregate-saved
-slice-aggregate-saved c = ?
+slice-aggregate-saved c =
+    let p = c .before .before in
+    let e = p .before .before in
+    sym (length-take-le _ _ (page-within (p .spell .ensures) (text-fits (e .before .before .before .pre) (e .if1 .left))))
 
--- src/main.rt:206:5
 saved-requires : tie.Need-saved-requires
 saved-requires c κs = search needs
 
--- src/main.rt:198:1
 returns-2 : tie.Need-returns-2
 returns-2 c = search needs
 

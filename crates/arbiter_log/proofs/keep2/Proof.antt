@@ -1,3 +1,8 @@
+-- `keep2` meets its contract: a text of either board has room on the page. Assumes nothing.
+use mathlib.Core.Path.{sym}
+use lib.Seq.{length-take-le}
+use Rattle.saving.proofs.Laws.{page-within}
+use Rattle.saving2.proofs.Laws2.{text2-fits}
 use borrow.Author.Needs.{needs}
 use Rattle.arbiter_log.proofs.keep2.Statement.{statement}
 use Rattle.arbiter_log.proofs.keep2.Tie as tie
@@ -6,27 +11,25 @@ use Rattle.arbiter_log.proofs.keep2.Lts as lts
 use Rattle.arbiter_log.proofs.saved.Reads as saved-reads
 use Rattle.saving2.proofs.spell2.Reads as spell2-reads
 
--- src/main.rt:214:39
 slice-aggregate-spell2 : tie.Need-slice-aggregate-spell2
 slice-aggregate-spell2 c = search needs
 
--- src/main.rt:214:9
 spell2-requires : tie.Need-spell2-requires
 spell2-requires c κs = search needs
 
--- src/main.rt:215:11
 array-share-prefix-page : tie.Need-array-share-prefix-page
-array-share-prefix-page c = ?
+array-share-prefix-page c =
+    let p = c .before in
+    page-within (p .spell2 .ensures) (text2-fits (p .before .before .before .pre))
 
--- src/main.rt:215:11
 slice-aggregate-saved : tie.Need-slice-aggregate-saved
-slice-aggregate-saved c = ?
+slice-aggregate-saved c =
+    let p = c .before .before in
+    sym (length-take-le _ _ (page-within (p .spell2 .ensures) (text2-fits (p .before .before .before .pre))))
 
--- src/main.rt:215:5
 saved-requires : tie.Need-saved-requires
 saved-requires c κs = search needs
 
--- src/main.rt:210:1
 returns : tie.Need-returns
 returns c = search needs
 
