@@ -26,7 +26,7 @@ extern "C" {
 /* ---- the version: the first number moves where a desk's source may have to change (CHANGELOG.md says what). It stands here
  * alone; the package and the programs take it from this line. */
 
-#define QAMHUDEER_VERSION "7.1.0"
+#define QAMHUDEER_VERSION "7.2.0"
 
 /* ---- sizes in bytes */
 
@@ -41,7 +41,8 @@ extern "C" {
 #define QAMHUDEER_CHANNEL_SIZE 70
 #define QAMHUDEER_PORT_SIZE 529
 #define QAMHUDEER_ROOM_SIZE 973 /* what one line of a log may bring: 64 replies and an answer */
-#define QAMHUDEER_TEXT_SIZE 3344 /* no saved text is longer */
+#define QAMHUDEER_TEXT_SIZE 3344 /* no saved text of the first form is longer */
+#define QAMHUDEER_TEXT2_SIZE 3521 /* nor one of the second form, of either board */
 
 /* ---- what a caller may read of a state. Numbers of two bytes have the high one first. */
 
@@ -199,7 +200,7 @@ extern "C" {
 
 /* Refusals of saved states, of the maker of stereo lists, and of a port. */
 #define QAMHUDEER_BADTEXT 9   /* no text that was saved of a sound state of this board */
-#define QAMHUDEER_EIGHT 10    /* eight channels, which have no text of the first form */
+#define QAMHUDEER_EIGHT 10    /* eight channels, which have no text of the first form: a state to save, a text to move back */
 #define QAMHUDEER_BADWISH 11  /* a number above 2 */
 #define QAMHUDEER_TOOSMALL 12 /* room for fewer maps than QAMHUDEER_STEREO_ROOM, less room than QAMHUDEER_ROOM_SIZE, or than a text has */
 #define QAMHUDEER_STEREO_ROOM 4
@@ -300,6 +301,31 @@ uint8_t qamhudeer_load(uint8_t channels,
                        uint8_t *table, size_t table_len,
                        uint8_t *display, size_t display_len);
 
+/* The second form of a saved text, for both boards: it has the number of channels and the display's numbers too.
+ *
+ * qamhudeer_save2 is as qamhudeer_save, for 4 and 8 channels. Where state and table are not sound, display_len is not
+ * QAMHUDEER_DISPLAY_SIZE, or a number of the display is not that of a count: returns QAMHUDEER_UNSOUND. Then a text_len below the
+ * text's length: QAMHUDEER_TOOSMALL. The looks are not saved. qamhudeer_load2 is as qamhudeer_load, for channels 4 and 8: it takes
+ * exactly the second form's texts of that board. Neither loader takes the other's form.
+ *
+ * qamhudeer_to_new writes the second form of a text of the first at the front of `text`, with four channels and the numbers counted;
+ * qamhudeer_to_old writes the first form of one of the second. Each returns 0, and *written is the length. Where the text is none
+ * that the loader takes, of either board for qamhudeer_to_old: QAMHUDEER_BADTEXT. Then eight channels, which do not move back:
+ * QAMHUDEER_EIGHT. Then a text_len that is too short: QAMHUDEER_TOOSMALL. After a refusal *written is 0, and nothing is written. There
+ * and back leaves an old text as it was, byte for byte. */
+uint8_t qamhudeer_save2(const uint8_t *state, size_t state_len,
+                        const uint8_t *table, size_t table_len,
+                        const uint8_t *display, size_t display_len,
+                        uint8_t *text, size_t text_len,
+                        size_t *written);
+uint8_t qamhudeer_load2(uint8_t channels,
+                        const uint8_t *text, size_t text_len,
+                        uint8_t *state, size_t state_len,
+                        uint8_t *table, size_t table_len,
+                        uint8_t *display, size_t display_len);
+uint8_t qamhudeer_to_new(const uint8_t *from, size_t from_len, uint8_t *text, size_t text_len, size_t *written);
+uint8_t qamhudeer_to_old(const uint8_t *from, size_t from_len, uint8_t *text, size_t text_len, size_t *written);
+
 /* Lists for stereo, on the four-channel board alone: channels 0 and 3 sound left, 1 and 2 right.
  *
  * All maps with `left` left and `right` right channels, 0 to 2 each, in ascending order at the front of `maps`: returns 0, and
@@ -321,6 +347,7 @@ size_t qamhudeer_channel_size(void);
 size_t qamhudeer_port_size(void);
 size_t qamhudeer_room_size(void);
 size_t qamhudeer_text_size(void);
+size_t qamhudeer_text2_size(void);
 size_t qamhudeer_offset_of_locks(void);
 size_t qamhudeer_offset_of_waiters(void);
 size_t qamhudeer_offset_of_waiting(void);

@@ -1,12 +1,13 @@
 /* The second program: plays a log from standard input on a fresh device and writes
    each call's replies and answer to standard output.
 
-     arbiter2 [--channels 4|8] [--show] [--display] [--load FILE] [--save FILE]
+     arbiter2 [--channels 4|8] [--show] [--display] [--load FILE] [--save FILE] [--form 1|2]
      arbiter2 --version
 
    --show: then also a line B0 for each channel of the board. --display: then a line E0 with
    the numbers of the wall display, and a line E1 for each waiting request. --load: it plays
    on from the saved state in FILE. --save: after the log's end the state is saved in FILE.
+   --form: the form of both, 1 on four channels and 2 on eight where it is left out.
    --help tells this. A wrong option gets a message and status 2, and so does a FILE that
    cannot be read, that holds no saved text or that cannot be written; all that is tested
    before the log is read. The version is that of the header for C, the only thing that is
@@ -22,7 +23,8 @@
 #include <string.h>
 
 static const char usage[] =
-    "usage: arbiter2 [--channels 4|8] [--show] [--display] [--load FILE] [--save FILE] <LOG | arbiter2 --version\n";
+    "usage: arbiter2 [--channels 4|8] [--show] [--display] [--load FILE] [--save FILE] [--form 1|2] <LOG\n"
+    "       arbiter2 --version\n";
 static const char help[] =
     "Plays a log on a fresh device; writes each line's replies and its answer.\n"
     "  --channels 4|8  the board; left out: 4\n"
@@ -31,13 +33,16 @@ static const char help[] =
     "                  behind them the looks of the last settling; and a line E1 for each waiting\n"
     "                  request in order: id, precedence, held 00 or 01, desk 00 or 01\n"
     "  --load FILE     plays on from the state that was saved in FILE, and not on a fresh device\n"
-    "  --save FILE     after the log's end saves the state in FILE; of the four-channel board alone\n"
+    "  --save FILE     after the log's end saves the state in FILE\n"
+    "  --form 1|2      the form of these texts; left out: 1 for four channels, 2 for eight. The first is\n"
+    "                  of four channels alone\n"
     "  --help          writes this, and reads no log\n";
 
 struct Options {
     unsigned channels;
     int show, display, help;
     const char *load, *save;                /* NULL where not asked for */
+    unsigned form;                          /* 0 where left out */
 };
 
 static struct Arbiter state;
@@ -60,8 +65,13 @@ static int read_options(int count, char **argument, struct Options *o)
             o->load = argument[++i];
         else if (strcmp(argument[i], "--save") == 0 && i + 1 < count && argument[i + 1][0] != '\0')
             o->save = argument[++i];
+        else if (strcmp(argument[i], "--form") == 0 && i + 1 < count
+                 && (strcmp(argument[i + 1], "1") == 0 || strcmp(argument[i + 1], "2") == 0))
+            o->form = (unsigned)(argument[++i][0] - '0');
         else
             return 0;
+    if (o->form == 0)
+        o->form = o->channels == 4 ? 1 : 2;
     return 1;
 }
 
@@ -74,20 +84,23 @@ static int complain(const char *file, const char *what)
 }
 
 /* Why the text is refused: a line of it, or the whole. */
-static int complain_of_text(const char *file, const char *text, size_t length)
+static int complain_of_text(const char *file, const struct Options *o, const char *text, size_t length)
 {
-    size_t line = saved_fault(text, length);
+    size_t line = o->form == 1 ? saved_fault(text, length) : saved_fault2(o->channels, text, length);
 
     if (line == 0)
-        return complain(file, "the whole is no sound state");
+        return complain(file, o->form == 1 ? "the whole is no sound state"
+                                           : "the whole is no sound state, or its numbers are not those of a count");
     fprintf(stderr, "arbiter2: %s: line %lu is no frame that may stand there\n", file, (unsigned long)line);
     return 0;
 }
 
-/* 1 if the file holds a saved text, whose state then stands. A byte more than the longest text has is enough to see that it is none. */
-static int load(const char *name, unsigned channels)
+/* 1 if the file holds a saved text of this form, whose state then stands. No loader guesses the form. A byte more than the longest text
+   has is enough to see that it is none. */
+static int load(const struct Options *o)
 {
-    static char text[SAVED_LONGEST + 1];
+    static char text[SAVED_LONGEST2 + 1];
+    const char *name = o->load;
     FILE *file = fopen(name, "rb");
     size_t length = 0;
     int whole;
@@ -99,8 +112,8 @@ static int load(const char *name, unsigned channels)
     fclose(file);
     if (!whole)
         return complain(name, "cannot be read");
-    if (saved_load(channels, text, length, &state, &display) != DONE)
-        return complain_of_text(name, text, length);
+    if ((o->form == 1 ? saved_load : saved_load2)(o->channels, text, length, &state, &display) != DONE)
+        return complain_of_text(name, o, text, length);
     return 1;
 }
 
@@ -129,13 +142,15 @@ static void drop_part(void)
 }
 
 /* 1 if the state is saved: whole, or not at all. */
-static int save(const char *name)
+static int save(const struct Options *o)
 {
-    static char text[SAVED_LONGEST];
+    static char text[SAVED_LONGEST2];
+    const char *name = o->save;
     size_t length;
-    int kept;
+    int kept, result = o->form == 1 ? saved_save(&state, text, sizeof text, &length)
+                                    : saved_save2(&state, &display, text, sizeof text, &length);
 
-    if (saved_save(&state, text, sizeof text, &length) != DONE) {
+    if (result != DONE) {
         drop_part();
         return complain(name, "the state cannot be saved");
     }
@@ -149,12 +164,12 @@ static int save(const char *name)
 /* All that is tested before the log is read. */
 static int begin(const struct Options *o)
 {
-    if (o->channels != 4 && (o->load != NULL || o->save != NULL)) {
+    if (o->channels != 4 && o->form == 1) {
         fputs("arbiter2: the first form of saved texts is the four-channel board's alone\n", stderr);
         return 0;
     }
     arbiter_fresh(&state, o->channels);
-    if (o->load != NULL && !load(o->load, o->channels))
+    if (o->load != NULL && !load(o))
         return 0;
     return o->save == NULL || open_part(o->save);
 }
@@ -163,7 +178,7 @@ int main(int count, char **argument)
 {
     static struct Reply record[REQUESTS];
     static char buffer[1 << 16], text[LONGEST_OUTPUT];
-    struct Options options = {4, 0, 0, 0, NULL, NULL};
+    struct Options options = {4, 0, 0, 0, NULL, NULL, 0};
     struct Frame frame;
     enum Line line;
 
@@ -200,5 +215,5 @@ int main(int count, char **argument)
         drop_part();
         return 1;
     }
-    return options.save != NULL && !save(options.save);
+    return options.save != NULL && !save(&options);
 }

@@ -2,9 +2,11 @@
    caused them: coverage-count SHORT|LONG|EIGHT LOG... Prints a row for each, and fails if a
    row that is due was never reached. Some rows are due in LONG logs only, some on four
    channels only. coverage-count DISPLAY|DISPLAY8 LOG... prints the rows of the wall display
-   alone, for logs on four channels or on eight; each of them is due. coverage-count SAVED
-   LOG... saves the state after each line, loads it back, spoils the text and loads that, and
-   prints the rows of the saved texts alone; each of them is due. */
+   alone, for logs on four channels or on eight; each of them is due. coverage-count
+   SAVED|SAVED2|SAVED8 LOG... saves the state after each line in the first form, in the second,
+   or in the second on eight channels, loads it back, spoils the text and loads that, and
+   prints the rows of the saved texts alone; each of them is due. A text of four channels in
+   the second form also goes to the first and back. */
 #include "chance.h"
 #include "log.h"
 #include "saved.h"
@@ -364,6 +366,7 @@ enum {
 };
 #define MOST_KINDS 128u
 static unsigned long spoilt_refused[MOST_KINDS], spoilt_accepted[MOST_KINDS], texts;
+static unsigned form = 1;                   /* of the saved texts */
 
 #define COUNT_OF(array) (sizeof (array) / sizeof *(array))
 
@@ -1105,38 +1108,60 @@ static void count_saved_whole(const struct Arbiter *a, size_t length)
 
 /* One kind of spoiling after the other. A kind that may not give a good text, or gives nothing else, must keep its word; and what is
    accepted must be what is saved of it: "every sound state has one spelling". */
-static void count_spoilt(const char *text, size_t length)
+static void count_spoilt(unsigned channels, const char *text, size_t length)
 {
     static struct Spoilt t;
-    static char again[SAVED_LONGEST];
+    static char again[SAVED_LONGEST2];
     struct Arbiter read;
     struct Display display;
     size_t written;
     unsigned kind = (unsigned)(texts % spoilt_kinds());
+    enum Spoils gives = spoilt_gives(kind, form);
     int refused;
 
     memcpy(t.text, text, length);
     t.length = length;
     if (!spoilt_by(kind, &t) || (t.length == length && memcmp(t.text, text, length) == 0))
         return;
-    refused = saved_load(4, t.text, t.length, &read, &display) != DONE;
+    refused = (form == 1 ? saved_load : saved_load2)(channels, t.text, t.length, &read, &display) != DONE;
     spoilt_refused[kind] += (unsigned)refused;
     spoilt_accepted[kind] += (unsigned)!refused;
-    unexpected += refused ? spoilt_gives(kind) == SPOILS_GOOD : spoilt_gives(kind) == SPOILS_REFUSED;
-    if (!refused)
-        unexpected += saved_save(&read, again, sizeof again, &written) != DONE || written != t.length || memcmp(again, t.text, written) != 0;
+    unexpected += refused ? gives == SPOILS_GOOD : gives == SPOILS_REFUSED;
+    if (refused)
+        return;
+    if (form == 1)
+        saved_save(&read, again, sizeof again, &written);
+    else
+        saved_save2(&read, &display, again, sizeof again, &written);
+    unexpected += written != t.length || memcmp(again, t.text, written) != 0;
+}
+
+/* "There and back leaves an old text as it was, byte for byte." Eight channels have no old text. */
+static int goes_back(const struct Arbiter *a, const char *text, size_t length)
+{
+    static char old[SAVED_LONGEST], again[SAVED_LONGEST2];
+    size_t old_length, again_length;
+
+    if (a->channels == 8)
+        return saved_to_old(text, length, old, sizeof old, &old_length) == REFUSED_EIGHT;
+    return saved_to_old(text, length, old, sizeof old, &old_length) == DONE
+        && saved_save(a, again, sizeof again, &again_length) == DONE
+        && old_length == again_length && memcmp(old, again, old_length) == 0
+        && saved_to_new(old, old_length, again, sizeof again, &again_length) == DONE
+        && again_length == length && memcmp(again, text, length) == 0;
 }
 
 /* The state is saved and comes back, with the numbers of the display that stands beside it. */
 static void count_saved(const struct Arbiter *a, const struct Display *d)
 {
-    static char text[SAVED_LONGEST];
+    static char text[SAVED_LONGEST2];
     static struct Arbiter read;
     struct Display display;
     size_t length;
+    int result = form == 1 ? saved_save(a, text, sizeof text, &length) : saved_save2(a, d, text, sizeof text, &length);
 
-    if (saved_save(a, text, sizeof text, &length) != DONE || saved_load(4, text, length, &read, &display) != DONE
-        || memcmp(a, &read, sizeof read) != 0 || memcmp(d->writes, display.writes, sizeof d->writes) != 0
+    if (result != DONE || (form == 1 ? saved_load : saved_load2)(a->channels, text, length, &read, &display) != DONE
+        || (form == 2 && !goes_back(a, text, length)) || memcmp(a, &read, sizeof read) != 0 || memcmp(d->writes, display.writes, sizeof d->writes) != 0
         || memcmp(d->naming, display.naming, sizeof d->naming) != 0 || display.looks != 0) {
         unexpected++;
         return;
@@ -1145,7 +1170,7 @@ static void count_saved(const struct Arbiter *a, const struct Display *d)
     count_saved_holders(a);
     count_saved_writes(a);
     count_saved_whole(a, length);
-    count_spoilt(text, length);
+    count_spoilt(a->channels, text, length);
     texts++;
 }
 
@@ -1203,9 +1228,11 @@ static int print_spoilt(void)
     int missing = 0;
 
     for (unsigned kind = 0; kind < spoilt_kinds(); kind++) {
-        enum Spoils gives = spoilt_gives(kind);
+        enum Spoils gives = spoilt_gives(kind, form);
         char name[64];
 
+        if (!spoilt_applies(kind, form, is_eight ? 8 : 4))
+            continue;
         sprintf(name, "spoilt by %s: refused", spoilt_name(kind));
         if (gives != SPOILS_GOOD)
             missing += print_row(name, spoilt_refused[kind], ALWAYS);
@@ -1221,9 +1248,11 @@ int main(int count, char **argument)
     int missing = 0;
 
     is_long = count > 1 && strcmp(argument[1], "LONG") == 0;
-    is_eight = count > 1 && (strcmp(argument[1], "EIGHT") == 0 || strcmp(argument[1], "DISPLAY8") == 0);
+    is_eight = count > 1 && (strcmp(argument[1], "EIGHT") == 0 || strcmp(argument[1], "DISPLAY8") == 0
+                             || strcmp(argument[1], "SAVED8") == 0);
     is_display = count > 1 && strncmp(argument[1], "DISPLAY", 7) == 0;
-    is_saved = count > 1 && strcmp(argument[1], "SAVED") == 0;
+    is_saved = count > 1 && strncmp(argument[1], "SAVED", 5) == 0;
+    form = count > 1 && (strcmp(argument[1], "SAVED2") == 0 || is_eight) ? 2 : 1;
     chance_seed(1);
     for (int i = 2; i < count; i++) {
         FILE *log = fopen(argument[i], "rb");
@@ -1236,7 +1265,7 @@ int main(int count, char **argument)
         fclose(log);
     }
     if (lines == 0) {
-        fputs("usage: coverage-count SHORT|LONG|EIGHT|DISPLAY|DISPLAY8|SAVED LOG...\n", stderr);
+        fputs("usage: coverage-count SHORT|LONG|EIGHT|DISPLAY|DISPLAY8|SAVED|SAVED2|SAVED8 LOG...\n", stderr);
         return 2;
     }
     printf("| %-42s | %8s | %8s |\n", "", "count", "per 1000");
@@ -1244,7 +1273,7 @@ int main(int count, char **argument)
     for (size_t i = 0; i < COUNT_OF(display_rows) && is_display; i++)
         missing += print_row(display_rows[i].name, display_rows[i].count, ALWAYS);
     for (size_t i = 0; i < COUNT_OF(saved_rows) && is_saved; i++)
-        missing += print_row(saved_rows[i].name, saved_rows[i].count, ALWAYS);
+        missing += print_row(saved_rows[i].name, saved_rows[i].count, i == WRITES_ALL ? ONLY_FOUR : ALWAYS);
     if (is_saved)
         missing += print_spoilt();
     is_display |= is_saved;

@@ -35,6 +35,15 @@ done
 echo
 echo "Saved texts: style saved, seeds 1 to 10, 1000 lines each"
 ./coverage-count SAVED "$work"/saved.* || exit 1
+echo
+echo "The same in the second form"
+./coverage-count SAVED2 "$work"/saved.* || exit 1
+for seed in 1 2 3 4 5 6 7 8 9 10; do
+    ./generate $seed 1000 saved 8 >"$work/saved.$seed"
+done
+echo
+echo "The same on eight channels"
+./coverage-count SAVED8 "$work"/saved.* || exit 1
 
 for seed in 1 2 3 4 5 6; do
     ./generate $seed 70000 keys >"$work/long.keys.$seed"

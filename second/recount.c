@@ -5,8 +5,8 @@
    put out of rest between the calls, as no log puts it, so that more is granted and dropped in one settling.
 
    The looks must be those that the replies tell of, and never above w(w+1)/2. The call without numbers must answer and
-   move the same. The state must come back from its saved text, with the numbers of the count and without looks. Silent where
-   all holds; else it tells the line, and ends with status 1. */
+   move the same. The state must come back from its saved text, of either form, with the numbers of the count and without
+   looks; and the text from the other form. Silent where all holds; else it tells the line, and ends with status 1. */
 #include "chance.h"
 #include "log.h"
 #include "saved.h"
@@ -209,6 +209,35 @@ static int comes_back(void)
         && d.looks == 0;
 }
 
+/* The same of the second form, which has the numbers; those that are none of a count are refused with 1. */
+static int comes_back2(const struct Display *kept)
+{
+    static char text[SAVED_LONGEST2], old[SAVED_LONGEST], again[SAVED_LONGEST2];
+    static struct Arbiter read;
+    struct Display d = {{9}, {9}, 9}, count, other;
+    size_t length, written, old_length;
+
+    count_all(&state, &count);
+    count.looks = kept->looks;              /* any number: they are not saved */
+    other = count;
+    other.naming[below(MOST_CHANNELS)]++;
+    if (saved_save2(&state, &count, text, sizeof text, &length) != DONE
+        || saved_save2(&state, &count, again, length, &written) != DONE || written != length || memcmp(text, again, length) != 0
+        || saved_save2(&state, &count, again, length - 1, &written) != REFUSED_ROOM || written != 0
+        || saved_save2(&state, &other, again, 0, &written) != REFUSED_UNSOUND)
+        return 0;
+    if (saved_load2(state.channels, text, length, &read, &d) != DONE || memcmp(&read, &state, sizeof state) != 0
+        || memcmp(d.writes, count.writes, sizeof d.writes) != 0 || memcmp(d.naming, count.naming, sizeof d.naming) != 0
+        || d.looks != 0 || saved_load2(12 - state.channels, text, length, &read, &d) != REFUSED_TEXT)
+        return 0;
+    if (state.channels == 8)
+        return saved_to_old(text, length, old, sizeof old, &old_length) == REFUSED_EIGHT && old_length == 0;
+    return saved_to_old(text, length, old, sizeof old, &old_length) == DONE
+        && saved_save(&state, again, sizeof again, &written) == DONE && written == old_length
+        && memcmp(old, again, written) == 0 && saved_to_new(old, old_length, again, sizeof again, &written) == DONE
+        && written == length && memcmp(again, text, length) == 0;
+}
+
 /* ---- A line ---- */
 
 static int same_call(const struct Frame *f, const struct Answer *answer)
@@ -236,7 +265,9 @@ static const char *play(struct Display *d, const struct Display *off, const stru
         return "the records are not those of the waiting requests";
     if (!same_call(f, &answer))
         return "without the numbers the call is another";
-    return comes_back() ? NULL : "saved and loaded, the state is another";
+    if (!comes_back())
+        return "saved and loaded, the state is another";
+    return comes_back2(d) ? NULL : "saved and loaded in the second form, the state is another";
 }
 
 int main(int count, char **argument)

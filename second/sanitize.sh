@@ -14,6 +14,7 @@ $CC $checks -o "$work/arbiter2" arbiter2.c $parts &&
     $CC $checks -o "$work/generate" generate.c $parts &&
     $CC $checks -o "$work/recount" recount.c $parts &&
     $CC $checks -o "$work/spoil" spoil.c spoilt.c $parts &&
+    $CC $checks -o "$work/convert" convert.c $parts &&
     $CC $checks -o "$work/test" test.c stereo.c $parts || exit 1
 played=0
 
@@ -24,20 +25,25 @@ play() {
     played=$((played + 1))
 }
 
-# Spoilt texts, with what lies behind them.
+# Spoilt texts, with what lies behind them, and their way into the other form: spoil_all OPTION..
 spoil_all() {
-    "$work/generate" 3 400 saved | ./arbiter2 --save "$work/good" >"$work/plain" || return
     for kind in $(./spoil 2>&1 | sed -n 's/^kinds: //p'); do
         for seed in 1 2 3; do
             "$work/spoil" $seed $kind <"$work/good" >"$work/spoilt" && ./spoil $seed $kind <"$work/good" | cmp - "$work/spoilt" || return
-            "$work/arbiter2" --load "$work/spoilt" --save "$work/again" </dev/null 2>"$work/said"
+            "$work/arbiter2" "$@" --load "$work/spoilt" --save "$work/again" </dev/null 2>"$work/said"
             [ $? -le 2 ] && ! grep -q ERROR "$work/said" || { cat "$work/said"; return 1; }
+            for way in new old; do
+                "$work/convert" $way <"$work/spoilt" >"$work/again" 2>"$work/said"
+                [ $? -le 2 ] && ! grep -q ERROR "$work/said" || { cat "$work/said"; return 1; }
+            done
         done
     done
 }
 
 "$work/test" || exit 1
-spoil_all || exit 1
+"$work/generate" 3 400 saved | ./arbiter2 --save "$work/good" >"$work/plain" && spoil_all || exit 1
+"$work/generate" 3 400 saved | ./arbiter2 --form 2 --save "$work/good" >"$work/plain" && spoil_all --form 2 || exit 1
+"$work/generate" 3 400 saved 8 | ./arbiter2 --channels 8 --save "$work/good" >"$work/plain" && spoil_all --channels 8 || exit 1
 "$work/generate" 1 2000 display 8 >"$work/log" && "$work/recount" 8 1 <"$work/log" || exit 1
 seed=0
 while [ $seed -lt "$SEEDS" ]; do

@@ -1,4 +1,5 @@
-/* Writes and reads the saved texts of request #106, line by line. What is read is a state only where the arbiter calls it sound. */
+/* Writes and reads the saved texts of requests #106 and #112, line by line. What is read is a state only where the arbiter calls it
+   sound; in the second form, where its numbers are those of a count as well. */
 #include "saved.h"
 
 #include <string.h>
@@ -6,24 +7,27 @@
 /* "Each kind has its own first byte." */
 enum {
     KIND_CHANNEL = 0xD1, KIND_WAITING = 0xD2, KIND_LOCK = 0xD3, KIND_CYCLE = 0xD4, KIND_WRITE = 0xD5, KIND_OPEN = 0xD6,
-    KIND_LAST = 0xD7
+    KIND_LAST = 0xD7, KIND_BOARD = 0xD8, KIND_SHOWN = 0xD9
 };
 
 /* The bytes of a line of each kind, its first byte with them. */
 enum {
     CHANNEL_BYTES = 12, WAITING_BYTES = 7, LOCK_BYTES = 5, CYCLE_BYTES = 5, WRITE_BYTES = 9, KEY_BYTES = 3,
-    MOST_BYTES = WAITING_BYTES + COMBINATIONS
+    BOARD_BYTES = 2, SHOWN_BYTES = 4, MOST_BYTES = WAITING_BYTES + COMBINATIONS
 };
 
 #define FORM_CHANNELS 4u                    /* the first form is of the four-channel board alone */
+#define SHOWN_LINE (2u * SHOWN_BYTES + 1u)  /* characters, with the LF */
+#define BOARD_LINE (2u * BOARD_BYTES + 1u)
 
 static const char digits[] = "0123456789ABCDEF";
-static const char first_line[] = "D001\n";
+static const char first_line[] = "D001\n";  /* of the first form */
+static const char second_line[] = "D002\n"; /* the first line of the second form */
 
 /* ---- Writing ---- */
 
 struct Text {
-    char text[SAVED_LONGEST];
+    char text[SAVED_LONGEST2];
     size_t length;
 };
 
@@ -120,24 +124,77 @@ static void put_state(struct Text *t, const struct Arbiter *a)
     put_key(t, KIND_LAST, a->last_key);
 }
 
+static void put_text(struct Text *t, const char *text, size_t length)
+{
+    memcpy(t->text + t->length, text, length);
+    t->length += length;
+}
+
+/* "Then the channel number." */
+static void put_board(struct Text *t, unsigned channels)
+{
+    put(t, KIND_BOARD, 1);
+    put(t, channels, 1);
+    end_line(t);
+}
+
+/* "The two display numbers", for each channel. */
+static void put_shown(struct Text *t, unsigned channels, const struct Display *d)
+{
+    for (unsigned c = 0; c < channels; c++) {
+        put(t, KIND_SHOWN, 1);
+        put(t, c, 1);
+        put(t, d->writes[c], 1);
+        put(t, d->naming[c], 1);
+        end_line(t);
+    }
+}
+
+/* "A text that doesn't fit the lent room gets 12 and nothing is written." One just as long fits. */
+static int lend_out(const struct Text *t, char *text, size_t room, size_t *written)
+{
+    if (t->length > room)
+        return REFUSED_ROOM;
+    memcpy(text, t->text, t->length);
+    *written = t->length;
+    return DONE;
+}
+
 int saved_save(const struct Arbiter *a, char *text, size_t room, size_t *written)
 {
-    struct Text t;
+    struct Text t = {.length = 0};
 
     *written = 0;
     if (!arbiter_sound(a))
         return REFUSED_UNSOUND;
     if (a->channels != FORM_CHANNELS)
         return REFUSED_EIGHT;
-    t.length = strlen(first_line);
-    memcpy(t.text, first_line, t.length);
+    put_text(&t, first_line, strlen(first_line));
     put_state(&t, a);
-    /* "A text that doesn't fit the lent room gets 12 and nothing is written." One just as long fits. */
-    if (t.length > room)
-        return REFUSED_ROOM;
-    memcpy(text, t.text, t.length);
-    *written = t.length;
-    return DONE;
+    return lend_out(&t, text, room, written);
+}
+
+/* The numbers beside a sound state are those of a count; on a board of four those of channels 4 to 7 are 0. */
+static int shows_count(const struct Arbiter *a, const struct Display *d)
+{
+    struct Display count;
+
+    saved_count(a, &count);
+    return memcmp(d->writes, count.writes, sizeof count.writes) == 0 && memcmp(d->naming, count.naming, sizeof count.naming) == 0;
+}
+
+int saved_save2(const struct Arbiter *a, const struct Display *d, char *text, size_t room, size_t *written)
+{
+    struct Text t = {.length = 0};
+
+    *written = 0;
+    if (!arbiter_sound(a) || !shows_count(a, d))
+        return REFUSED_UNSOUND;
+    put_text(&t, second_line, strlen(second_line));
+    put_board(&t, a->channels);
+    put_state(&t, a);
+    put_shown(&t, a->channels, d);
+    return lend_out(&t, text, room, written);
 }
 
 /* ---- Reading ---- */
@@ -364,21 +421,62 @@ static int read_state(struct Reader *r, struct Arbiter *a)
     return 1;
 }
 
-/* "Opens with the line D001"; nothing stands behind the last key. */
-static int read_text(struct Reader *r, struct Arbiter *a)
+/* The text opens with this line. */
+static int opens_with(struct Reader *r, const char *line)
 {
-    size_t first = strlen(first_line);
+    size_t length = strlen(line);
 
     r->line = 1;
-    if (r->left < first || memcmp(r->text, first_line, first) != 0)
+    if (r->left < length || memcmp(r->text, line, length) != 0)
         return 0;
-    r->text += first;
-    r->left -= first;
-    arbiter_fresh(a, FORM_CHANNELS);
-    if (!read_state(r, a))
-        return 0;
+    r->text += length;
+    r->left -= length;
+    return 1;
+}
+
+/* Nothing stands behind the last line. */
+static int ends(struct Reader *r)
+{
     r->line++;
     return r->left == 0;
+}
+
+/* "Opens with the line D001." */
+static int read_text(struct Reader *r, struct Arbiter *a)
+{
+    arbiter_fresh(a, FORM_CHANNELS);
+    return opens_with(r, first_line) && read_state(r, a) && ends(r);
+}
+
+/* The line D9 of this channel: its number, its writes, the waiting requests that name it. */
+static int read_shown(struct Reader *r, unsigned c, struct Display *d)
+{
+    next_line(r);
+    if (!begins(r, KIND_SHOWN, SHOWN_BYTES) || take_byte(r) != c)
+        return 0;
+    d->writes[c] = take_byte(r);
+    d->naming[c] = take_byte(r);
+    return 1;
+}
+
+/* "The new form opens with D002, then the channel number", which is that of the board that loads. */
+static int read_text2(struct Reader *r, unsigned channels, struct Arbiter *a, struct Display *d)
+{
+    static const struct Display none;
+
+    arbiter_fresh(a, channels);
+    *d = none;
+    if (!opens_with(r, second_line))
+        return 0;
+    next_line(r);
+    if (!begins(r, KIND_BOARD, BOARD_BYTES) || take_byte(r) != channels)
+        return 0;
+    if (!read_state(r, a))
+        return 0;
+    for (unsigned c = 0; c < channels; c++)
+        if (!read_shown(r, c, d))
+            return 0;
+    return ends(r);
 }
 
 size_t saved_fault(const char *text, size_t length)
@@ -423,4 +521,77 @@ int saved_load(unsigned channels, const char *text, size_t length, struct Arbite
     *a = read;
     saved_count(a, d);
     return DONE;
+}
+
+/* ---- The second form ---- */
+
+static int is_board(unsigned channels)
+{
+    return channels == 4 || channels == 8;
+}
+
+size_t saved_fault2(unsigned channels, const char *text, size_t length)
+{
+    struct Reader r = {.text = text, .left = length};
+    struct Arbiter a;
+    struct Display d;
+
+    if (!is_board(channels))
+        return 1;
+    return read_text2(&r, channels, &a, &d) ? 0 : r.line;
+}
+
+/* "A text that neither board's loader accepts, as when its numbers disagree with a count, gets 9." */
+int saved_load2(unsigned channels, const char *text, size_t length, struct Arbiter *a, struct Display *d)
+{
+    struct Reader r = {.text = text, .left = length};
+    struct Arbiter read;
+    struct Display numbers;
+
+    if (!is_board(channels))
+        return REFUSED_TEXT;
+    if (!read_text2(&r, channels, &read, &numbers))
+        return REFUSED_TEXT;
+    if (!arbiter_sound(&read) || !shows_count(&read, &numbers))
+        return REFUSED_TEXT;
+    *a = read;
+    *d = numbers;
+    return DONE;
+}
+
+/* "Old texts move to the new form with four channels and the numbers counted": the lines between stay, character by character. */
+int saved_to_new(const char *from, size_t length, char *text, size_t room, size_t *written)
+{
+    struct Text t = {.length = 0};
+    struct Arbiter a;
+    struct Display d;
+    size_t head = strlen(first_line);
+
+    *written = 0;
+    if (saved_load(FORM_CHANNELS, from, length, &a, &d) != DONE)
+        return REFUSED_TEXT;
+    put_text(&t, second_line, strlen(second_line));
+    put_board(&t, FORM_CHANNELS);
+    put_text(&t, from + head, length - head);
+    put_shown(&t, FORM_CHANNELS, &d);
+    return lend_out(&t, text, room, written);
+}
+
+/* "A new text with four channels moves back to the old text it came from, one with eight is refused with 10; a text that neither
+   board's loader accepts ... gets 9 first, short room 12 last, and nothing is written." */
+int saved_to_old(const char *from, size_t length, char *text, size_t room, size_t *written)
+{
+    struct Text t = {.length = 0};
+    struct Arbiter a;
+    struct Display d;
+    size_t head = strlen(second_line) + BOARD_LINE, tail = FORM_CHANNELS * SHOWN_LINE;
+
+    *written = 0;
+    if (saved_load2(8, from, length, &a, &d) == DONE)
+        return REFUSED_EIGHT;
+    if (saved_load2(FORM_CHANNELS, from, length, &a, &d) != DONE)
+        return REFUSED_TEXT;
+    put_text(&t, first_line, strlen(first_line));
+    put_text(&t, from + head, length - head - tail);
+    return lend_out(&t, text, room, written);
 }

@@ -91,6 +91,14 @@ static size_t line_of(const struct Spoilt *t, unsigned kind, unsigned bytes)
     return count == 0 ? NONE : found[below(count)];
 }
 
+/* The channels of the board: 8 where the second form says so, else 4. */
+static unsigned board_of(const struct Spoilt *t)
+{
+    size_t found[LINES];
+
+    return lines_of(t, 0xD8, 2, found) > 0 && byte_at(t, found[0], 1) == 8 ? 8 : 4;
+}
+
 /* A line of one of the four kinds that have an id, and the number of its byte; or NONE. */
 static size_t line_with_id(const struct Spoilt *t, unsigned *number)
 {
@@ -379,7 +387,7 @@ static int change_form(struct Spoilt *t)
 {
     static const char *const forms[] = {
         "D002\n", "D00\n", "d001\n", "D0001\n", "D001 \n", "D000\n", "D003\n", "D101\n", "D011\n", "D001\r\n", "001\n", "D0\n", "\n",
-        "D001\nD001\n", "D0010\n", "D00100\n", ""
+        "D001\nD001\n", "D0010\n", "D00100\n", "D001\n", ""
     };
     const char *form = forms[below(sizeof forms / sizeof *forms)];
 
@@ -524,7 +532,7 @@ static int bad_channel(struct Spoilt *t)
     size_t line = line_of(t, 0xD5, 9);
 
     if (line != NONE)
-        set_byte(t, line, 1, percent(50) ? below(4) : percent(50) ? 4 : below(256));
+        set_byte(t, line, 1, percent(50) ? below(board_of(t)) : percent(50) ? board_of(t) : below(256));
     return line != NONE;
 }
 
@@ -667,13 +675,13 @@ static int list_of_none(struct Spoilt *t) { return list_of(t, 0); }
 static int list_of_sixteen(struct Spoilt *t) { return list_of(t, 16); }
 static int list_of_seventeen(struct Spoilt *t) { return list_of(t, 17 + (percent(50) ? 0 : below(100))); }
 
-/* A map above 15: of a lock, of a WAITCYCLE, or a combination. */
+/* A map above 15: of a lock, of a WAITCYCLE, or a combination. Eight channels have no such map. */
 static int bad_map(struct Spoilt *t)
 {
     unsigned kind = below(3), map = percent(50) ? 16 : 16 + below(240);
     size_t line = line_of(t, 0xD2 + kind, kind == 0 ? 8 : 5);
 
-    if (line == NONE)
+    if (line == NONE || board_of(t) == 8)
         return 0;
     if (kind == 0)
         set_byte(t, line, 7 + below(byte_at(t, line, 6)), map);
@@ -688,17 +696,17 @@ static int other_map(struct Spoilt *t)
     size_t line = line_of(t, percent(50) ? 0xD3 : 0xD4, 5);
 
     if (line != NONE)
-        set_byte(t, line, 4, percent(30) ? 0 : below(16));
+        set_byte(t, line, 4, percent(30) ? 0 : below(1u << board_of(t)));
     return line != NONE;
 }
 
-/* Other combinations, of this board: the text stays good. */
+/* Other combinations, of this board: a text of the first form stays good; in the second the numbers may be wrong. */
 static int other_list(struct Spoilt *t)
 {
     size_t line = line_of(t, 0xD2, 8);
 
     if (line != NONE)
-        set_byte(t, line, 7 + below(byte_at(t, line, 6)), below(16));
+        set_byte(t, line, 7 + below(byte_at(t, line, 6)), below(1u << board_of(t)));
     return line != NONE;
 }
 
@@ -774,6 +782,116 @@ static int other_last(struct Spoilt *t)
     return 1;
 }
 
+/* ---- The second form ---- */
+
+/* A board of five channels, whole: the number says so, and there is one more channel with its numbers. */
+static void five_channels(struct Spoilt *t, size_t board)
+{
+    char shown[] = "D9040000\n";
+    size_t found[LINES];
+
+    set_byte(t, board, 1, 5);
+    if (lines_of(t, 0xD9, 4, found) == 4)
+        splice(t, t->length, 0, shown, sizeof shown - 1);
+    if (lines_of(t, 0xD1, 12, found) == 4)
+        splice(t, found[0], 0, "D10000000000000000000000\n", 25);
+}
+
+/* The number of channels: the other board's, none's, or no such line, or two. */
+static int bad_board(struct Spoilt *t)
+{
+    static const uint8_t numbers[6] = {0, 1, 3, 5, 7, 255};
+    unsigned odds = below(7), number = numbers[below(6)];
+    size_t line = line_of(t, 0xD8, 2);
+
+    if (line == NONE)
+        return 0;
+    if (odds == 6)
+        five_channels(t, line);
+    else if (odds == 0)
+        splice(t, line, line_length(t, line), "", 0);
+    else if (odds == 1)
+        copy_line(t, line, line, 1);
+    else
+        set_byte(t, line, 1, odds < 4 ? byte_at(t, line, 1) ^ 12 : number);
+    return 1;
+}
+
+/* A number that is not that of a count. */
+static int bad_shown(struct Spoilt *t)
+{
+    size_t line = line_of(t, 0xD9, 4);
+    unsigned number = 2 + below(2), by = percent(70) ? 1 + 254 * below(2) : 1 + below(255);
+
+    if (line != NONE)
+        set_byte(t, line, number, byte_at(t, line, number) + by);
+    return line != NONE;
+}
+
+static int bad_shown_channel(struct Spoilt *t)
+{
+    size_t line = line_of(t, 0xD9, 4);
+
+    if (line != NONE)
+        set_byte(t, line, 1, byte_at(t, line, 1) + 1 + below(percent(50) ? 7 : 255));
+    return line != NONE;
+}
+
+/* One of the lines of numbers is gone, stands twice, has its neighbour's place or stands before the last key. */
+static int bad_shown_lines(struct Spoilt *t)
+{
+    size_t found[LINES], last = line_of(t, 0xD7, 3);
+    unsigned count = lines_of(t, 0xD9, 4, found), odds = below(4), i = count < 2 ? 0 : below(count - 1);
+
+    if (count < 2 || last == NONE)
+        return 0;
+    if (odds == 0)
+        splice(t, found[i], line_length(t, found[i]), "", 0);
+    else if (odds == 1)
+        copy_line(t, found[i], found[i], 1);
+    else if (odds == 2)
+        copy_line(t, found[i + 1], found[i], 0);
+    else
+        copy_line(t, found[i], last, 0);
+    return 1;
+}
+
+/* An id that no line has; 64 where there is none. */
+static unsigned idle_id(const struct Spoilt *t)
+{
+    static const uint8_t kinds[4] = {0xD2, 0xD3, 0xD4, 0xD5};
+    size_t found[LINES];
+    uint8_t met[256] = {0};
+    unsigned id = below(64), tries = 0;
+
+    for (unsigned kind = 0; kind < 4; kind++)
+        for (unsigned count = lines_of(t, kinds[kind], 5, found); count > 0; count--)
+            met[byte_at(t, found[count - 1], kinds[kind] == 0xD5 ? 2 : 1)] = 1;
+    for (; tries < 64 && met[id]; tries++)
+        id = (id + 1) % 64;
+    return tries < 64 ? id : 64;
+}
+
+/* One write more, at its queue's end, and the number says so: the text stays good. */
+static int write_counted(struct Spoilt *t)
+{
+    char made[] = "D5000000010000FC40\n";
+    size_t channel[LINES], shown[LINES], found[LINES], to;
+    unsigned count = lines_of(t, 0xD1, 12, channel), c = count == 0 ? 0 : below(count), id = idle_id(t);
+
+    if (count == 0 || lines_of(t, 0xD9, 4, shown) != count || id == 64
+        || (byte_at(t, channel[c], 1) == 0 && byte_at(t, channel[c], 2) == 0))
+        return 0;
+    to = lines_of(t, 0xD6, 3, found) > 0 ? found[0] : line_of(t, 0xD7, 3);
+    for (unsigned writes = lines_of(t, 0xD5, 9, found); writes > 0 && byte_at(t, found[writes - 1], 1) > c; writes--)
+        to = found[writes - 1];
+    set_byte(t, shown[c], 2, byte_at(t, shown[c], 2) + 1);
+    splice(t, to, 0, made, sizeof made - 1);
+    set_byte(t, to, 1, c);
+    set_byte(t, to, 2, id);
+    return 1;
+}
+
 /* ---- The kinds ---- */
 
 static const struct {
@@ -834,8 +952,15 @@ static const struct {
     {"open-zero", open_zero, SPOILS_REFUSED},
     {"opens-32", opens_32, SPOILS_GOOD},
     {"opens-33", opens_33, SPOILS_REFUSED},
-    {"last-key", other_last, SPOILS_GOOD}
+    {"last-key", other_last, SPOILS_GOOD},
+    {"board", bad_board, SPOILS_REFUSED},               /* from here on of the second form alone */
+    {"shown", bad_shown, SPOILS_REFUSED},               /* a number that is not that of a count */
+    {"shown-channel", bad_shown_channel, SPOILS_REFUSED},
+    {"shown-lines", bad_shown_lines, SPOILS_REFUSED},
+    {"counted", write_counted, SPOILS_GOOD}             /* a write more, and its number */
 };
+
+#define OF_SECOND_FORM 5u                   /* the last so many */
 
 unsigned spoilt_kinds(void)
 {
@@ -847,9 +972,21 @@ const char *spoilt_name(unsigned kind)
     return kinds[kind].name;
 }
 
-enum Spoils spoilt_gives(unsigned kind)
+/* In the second form what changes the writes or who is named is refused, for the numbers are then wrong. */
+enum Spoils spoilt_gives(unsigned kind, unsigned form)
 {
+    if (form == 2 && (kinds[kind].spoil == other_list || kinds[kind].spoil == list_of_sixteen))
+        return SPOILS_BOTH;
+    if (form == 2 && kinds[kind].spoil == bad_channel)
+        return SPOILS_REFUSED;
     return kinds[kind].gives;
+}
+
+int spoilt_applies(unsigned kind, unsigned form, unsigned channels)
+{
+    if (kinds[kind].spoil == bad_map)
+        return channels == 4;
+    return form == 2 || kind < spoilt_kinds() - OF_SECOND_FORM;
 }
 
 int spoilt_by(unsigned kind, struct Spoilt *t)

@@ -16,10 +16,13 @@ struct Spoilt {
 unsigned spoilt_kinds(void);
 const char *spoilt_name(unsigned kind);
 
-/* What a kind makes of a good text: always one that is refused, always another good one, some of each; or nearly always one
+/* What a kind makes of a good text of the form 1 or 2: always one that is refused, always another good one, some of each; or nearly always one
    that is refused. */
 enum Spoils { SPOILS_REFUSED, SPOILS_GOOD, SPOILS_BOTH, SPOILS_MOSTLY };
-enum Spoils spoilt_gives(unsigned kind);
+enum Spoils spoilt_gives(unsigned kind, unsigned form);
+
+/* 1 if some text of this form and board has something of the kind. */
+int spoilt_applies(unsigned kind, unsigned form, unsigned channels);
 
 /* One damage of this kind, to a text of at most half the room. 0 where the text has nothing of that kind, and then it is as it was. */
 int spoilt_by(unsigned kind, struct Spoilt *t);

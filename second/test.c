@@ -1,6 +1,6 @@
 /* Tests of the arbiter's C functions: the marked examples M1 to M14, what a log cannot
    reach (refusals 1, 5 and 8, states not settled) and the sound test; then the two events, the two desks, the wall
-   display, the stereo lists and the saved texts. */
+   display, the stereo lists and the saved texts of both forms. */
 #include "arbiter.h"
 #include "saved.h"
 #include "stereo.h"
@@ -1744,6 +1744,234 @@ static void test_saved_unsettled(void)
     check(told() == 3 && b.waiting.count == 1 && b.locks.count == 0, "the first call after it settles");
 }
 
+/* ---- The second form: #112 ---- */
+
+/* The state of saved_lines in the second form: from the channels on the same, then the numbers. */
+static size_t text2_with(unsigned line, const char *other, char *text)
+{
+    static const char *const head[2] = {"D002", "D804"}, *const tail[4] = {"D9000202", "D9010102", "D9020002", "D9030102"};
+    size_t length = 0;
+
+    for (unsigned i = 1; i <= SAVED_LINES + 5; i++) {
+        const char *stands = i <= 2 ? head[i - 1] : i <= SAVED_LINES + 1 ? saved_lines[i - 2] : tail[i - SAVED_LINES - 2];
+
+        if (i != line || other != NULL)
+            length += (size_t)sprintf(text + length, "%s\n", i == line ? other : stands);
+    }
+    return length;
+}
+
+static int load_text2(unsigned channels, const char *text, size_t length, struct Arbiter *a, struct Display *d, int *untouched)
+{
+    struct Arbiter before;
+    struct Display shown_before;
+    int result;
+
+    memset(a, 0x55, sizeof *a);
+    memset(d, 0x55, sizeof *d);
+    memcpy(&before, a, sizeof before);
+    memcpy(&shown_before, d, sizeof shown_before);
+    result = saved_load2(channels, text, length, a, d);
+    *untouched = memcmp(a, &before, sizeof before) == 0 && memcmp(d, &shown_before, sizeof shown_before) == 0;
+    return result;
+}
+
+/* Refused by both boards with 9, and by to_old too, whatever the room. */
+static void refuses_text2(const char *text, size_t length, size_t fault, const char *what)
+{
+    char room[4] = "abc";
+    struct Arbiter a;
+    struct Display d;
+    size_t written = 9;
+    int four, eight, untouched, both;
+
+    four = load_text2(4, text, length, &a, &d, &untouched);
+    eight = load_text2(8, text, length, &a, &d, &both);
+    check(four == REFUSED_TEXT && eight == REFUSED_TEXT && untouched && both && saved_fault2(4, text, length) == fault
+              && saved_to_old(text, length, room, 3, &written) == REFUSED_TEXT && written == 0 && memcmp(room, "abc", 4) == 0,
+          what);
+}
+
+/* A state of eight channels with what four have not, and its text, worked out by hand. */
+static const char eight_text[] =
+    "D002\nD808\n"
+    "D10000000000000000000000\nD10000000000000000000000\nD10000000000000000000000\nD10000000000000000000000\n"
+    "D10000000000000000000000\nD10000000000000000000000\nD10000000000000000000000\nD10009010100010000000000\n"
+    "D2000000000001F0\n"                    /* id 0, key 0, precedence 0, F0 */
+    "D301000980\n"                          /* id 1, key 9, channel 7 */
+    "D402000980\n"
+    "D50704000100007C40\n"                  /* channel 7: id 4, 1 cycle, 124, 64 */
+    "D60009\nD70009\n"
+    "D9000000\nD9010000\nD9020000\nD9030000\nD9040001\nD9050001\nD9060001\nD9070101\n";
+
+static void eight_state(struct Arbiter *a)
+{
+    arbiter_fresh(a, 8);
+    a->channel[7].key = 9;
+    a->channel[7].precedence = a->channel[7].locked = a->channel[7].finish = 1;
+    ask(a, 0, 0, 0, 0, 1, 0xF0, 0);
+    hold(a, &a->locks, ADCMD_LOCK, 1, 9, 0x80);
+    hold(a, &a->cycles, ADCMD_WAITCYCLE, 2, 9, 0x80);
+    write_to(a, 7, 4, 1, 124, 64);
+    enter(a, 9);
+    a->last_key = 9;
+}
+
+static void test_second_form(void)
+{
+    static const char fresh_four[] =
+        "D002\nD804\n"
+        "D10000000000000000000000\nD10000000000000000000000\nD10000000000000000000000\nD10000000000000000000000\n"
+        "D70000\nD9000000\nD9010000\nD9020000\nD9030000\n";
+    char text[SAVED_LONGEST2 + 1], wanted[SAVED_LONGEST2];
+    struct Arbiter a, b;
+    struct Display d, e;
+    size_t written, length;
+    int untouched;
+
+    arbiter_fresh(&a, 4);
+    memset(&d, 0, sizeof d);
+    check(saved_save2(&a, &d, text, sizeof text, &written) == DONE && written == 153 && memcmp(text, fresh_four, 153) == 0,
+          "a fresh board of four, second form");
+    arbiter_fresh(&a, 8);
+    check(saved_save2(&a, &d, text, sizeof text, &written) == DONE && written == 289 && memcmp(text, "D002\nD808\nD1", 12) == 0
+              && memcmp(text + 280, "D9070000\n", 9) == 0, "a fresh board of eight");
+    saved_state(&a);
+    saved_count(&a, &d);
+    d.looks = 77;
+    length = text2_with(0, NULL, wanted);
+    check(saved_save2(&a, &d, text, sizeof text, &written) == DONE && written == length && memcmp(text, wanted, length) == 0,
+          "every kind of line in the second form, whatever the looks");
+    check(load_text2(4, wanted, length, &b, &e, &untouched) == DONE && memcmp(&a, &b, sizeof a) == 0
+              && memcmp(d.writes, e.writes, sizeof d.writes) == 0 && memcmp(d.naming, e.naming, sizeof d.naming) == 0 && e.looks == 0,
+          "and back, not settled, the looks 0");
+    check(load_text2(8, wanted, length, &b, &e, &untouched) == REFUSED_TEXT && untouched, "a text of four on the board of eight");
+    check(load_text2(0, wanted, length, &b, &e, &untouched) == REFUSED_TEXT && untouched, "no board of no channels, second form");
+    check(load_text2(5, wanted, length, &b, &e, &untouched) == REFUSED_TEXT && untouched, "no board of five, second form");
+    check(load_text(4, wanted, length, &b, &e, &untouched) == REFUSED_TEXT && untouched, "the old loader refuses D002");
+    length = text_with(0, NULL, wanted);
+    check(load_text2(4, wanted, length, &b, &e, &untouched) == REFUSED_TEXT && untouched, "the new loader refuses D001");
+    eight_state(&a);
+    saved_count(&a, &d);
+    check(arbiter_sound(&a) && saved_save2(&a, &d, text, sizeof text, &written) == DONE && written == sizeof eight_text - 1
+              && memcmp(text, eight_text, written) == 0, "a board of eight with something of every kind");
+    check(load_text2(8, eight_text, sizeof eight_text - 1, &b, &e, &untouched) == DONE && memcmp(&a, &b, sizeof a) == 0
+              && memcmp(d.naming, e.naming, sizeof d.naming) == 0 && e.writes[7] == 1, "and back");
+    check(load_text2(4, eight_text, sizeof eight_text - 1, &b, &e, &untouched) == REFUSED_TEXT && untouched,
+          "a text of eight on the board of four");
+    check(saved_save(&a, text, sizeof text, &written) == REFUSED_EIGHT, "which has no first form");
+}
+
+/* "Numbers that disagree with a count ... cannot be saved in the second form (1)." */
+static void test_second_room(void)
+{
+    char text[SAVED_LONGEST2 + 1], before[sizeof text];
+    struct Arbiter a;
+    struct Display d, e;
+    size_t written, length = sizeof eight_text - 1;
+
+    memset(before, 0x55, sizeof before);
+    memcpy(text, before, sizeof text);
+    eight_state(&a);
+    saved_count(&a, &d);
+    for (unsigned c = 0; c < MOST_CHANNELS; c++)
+        for (unsigned naming = 0; naming < 2; naming++) {
+            e = d;
+            (naming ? e.naming : e.writes)[c]++;
+            check(saved_save2(&a, &e, text, naming ? 0 : sizeof text, &written) == REFUSED_UNSOUND && written == 0
+                      && memcmp(text, before, sizeof text) == 0, "numbers that disagree: 1, before 12");
+        }
+    check(saved_save2(&a, &d, text, length - 1, &written) == REFUSED_ROOM && written == 0 && memcmp(text, before, sizeof text) == 0,
+          "a byte too little: 12");
+    check(saved_save2(&a, &d, text, length, &written) == DONE && written == length && text[length] == 0x55, "just as long fits");
+    a.channel[0].stopped = 1;
+    check(saved_save2(&a, &d, text, 0, &written) == REFUSED_UNSOUND, "not sound: 1, before 12");
+    saved_state(&a);
+    saved_count(&a, &d);
+    d.writes[4] = 1;
+    check(saved_save2(&a, &d, text, sizeof text, &written) == REFUSED_UNSOUND, "a number of a channel behind the board: 1");
+    /* The longest text of all. */
+    arbiter_fresh(&a, 8);
+    for (unsigned id = 0; id < REQUESTS; id++)
+        ask(&a, id, 65535, 0, 0, COMBINATIONS, 0xFF, 0xFF);
+    for (unsigned i = 0; i < MOST_OPENS; i++)
+        enter(&a, 65535);
+    saved_count(&a, &d);
+    check(saved_save2(&a, &d, text, SAVED_LONGEST2, &written) == DONE && written == 3521 && memcmp(text + 3512, "D9070040\n", 9) == 0,
+          "the longest text of the second form has 3,521 bytes");
+    check(saved_save2(&a, &d, text, 3520, &written) == REFUSED_ROOM, "a byte less is too small for it");
+}
+
+static void test_second_lines(void)
+{
+    static const struct {
+        unsigned line;
+        const char *other;
+        size_t fault;
+        const char *what;
+    } wrong[] = {
+        {1, "D001", 1, "D001 before a board"}, {1, "D003", 1, "D003"}, {1, "d002", 1, "d002"}, {1, NULL, 1, "no D002"},
+        {2, NULL, 2, "no number of channels"}, {2, "D804\nD804", 3, "two numbers of channels"}, {2, "D808", 2, "eight, and four channels"},
+        {2, "D805", 2, "five"}, {2, "D800", 2, "none"}, {2, "D80400", 2, "a byte more"}, {2, "D84", 2, "a digit less"},
+        {2, "d804", 2, "lower case"}, {3, NULL, 6, "three channels"}, {4, "D1000", 4, "a channel of three bytes"},
+        {3, "D10005FD0200010101000040", 3, "a mark of 02, second form"}, {10, "D340000503", 10, "an id of 64, second form"},
+        {14, "D50014000000007B40", 0, "a period of 123, second form"}, {21, NULL, 21, "no last key, second form"},
+        {22, NULL, 22, "no numbers of channel 0"}, {25, NULL, 25, "no numbers of channel 3"}, {22, "D9000302", 0, "a write too many"},
+        {22, "D9000102", 0, "a write too few"}, {24, "D9020102", 0, "a write of a free channel"}, {23, "D9010101", 0, "a name too few"},
+        {25, "D9030103", 0, "a name too many"}, {25, "D90301FF", 0, "255 who name it"}, {22, "D9010202", 22, "numbers of channel 1 first"},
+        {25, "D9040102", 25, "numbers of channel 4"}, {25, "D9030102\nD9040000", 26, "numbers of a fifth channel"},
+        {25, "D903010", 25, "numbers with a digit less"}, {25, "D903010200", 25, "numbers with a byte more"},
+        {25, "D9030102\n", 26, "an empty line behind the numbers"}, {21, "D9000202\nD71234", 21, "numbers before the last key"},
+        {9, NULL, 0, "a waiting request less, and its numbers"}, {15, NULL, 0, "a write less, and its number"}
+    };
+    char text[4096];
+    size_t length = text2_with(0, NULL, text);
+    struct Arbiter a;
+    struct Display d;
+    int untouched;
+
+    for (size_t i = 0; i < sizeof wrong / sizeof *wrong; i++)
+        refuses_text2(text, text2_with(wrong[i].line, wrong[i].other, text), wrong[i].fault, wrong[i].what);
+    length = text2_with(0, NULL, text);
+    refuses_text2(text, length - 1, 25, "no last LF, second form");
+    refuses_text2(text, 0, 1, "an empty text, second form");
+    text[length] = '\0';
+    refuses_text2(text, length + 1, 26, "a NUL behind the end, second form");
+    check(load_text2(4, text, text2_with(18, NULL, text), &a, &d, &untouched) == DONE, "an open key less is good, second form");
+}
+
+/* "There and back leaves an old text as it was, byte for byte." 9 first, then 10, then 12. */
+static void test_convert(void)
+{
+    char old[4096], new_text[4096], text[4096], bad[sizeof eight_text];
+    size_t old_length = text_with(0, NULL, old), new_length = text2_with(0, NULL, new_text), written = 9;
+
+    check(saved_to_new(old, old_length, text, sizeof text, &written) == DONE && written == new_length
+              && memcmp(text, new_text, new_length) == 0, "an old text moves to the new form");
+    check(saved_to_old(new_text, new_length, text, sizeof text, &written) == DONE && written == old_length
+              && memcmp(text, old, old_length) == 0, "and back, byte for byte");
+    check(saved_to_new(fresh_text, 112, text, 153, &written) == DONE && written == 153, "a fresh board's, in room just as long");
+    check(saved_to_old(text, 153, new_text, 112, &written) == DONE && written == 112 && memcmp(new_text, fresh_text, 112) == 0, "and back");
+    text2_with(0, NULL, new_text);
+    memset(text, 0x55, sizeof text);
+    check(saved_to_new(old, old_length, text, new_length - 1, &written) == REFUSED_ROOM && written == 0 && text[0] == 0x55, "to new: 12");
+    check(saved_to_old(new_text, new_length, text, old_length - 1, &written) == REFUSED_ROOM && written == 0 && text[0] == 0x55,
+          "to old: 12");
+    check(saved_to_new(new_text, new_length, text, sizeof text, &written) == REFUSED_TEXT && written == 0, "a new text is not moved to new");
+    check(saved_to_old(old, old_length, text, sizeof text, &written) == REFUSED_TEXT && written == 0, "an old text is not moved to old");
+    check(saved_to_new(old, old_length - 1, text, 0, &written) == REFUSED_TEXT && written == 0, "to new: 9 before 12");
+    check(saved_to_old(new_text, new_length - 1, text, 0, &written) == REFUSED_TEXT && written == 0, "to old: 9 before 12");
+    check(saved_to_old(eight_text, sizeof eight_text - 1, text, sizeof text, &written) == REFUSED_EIGHT && written == 0 && text[0] == 0x55,
+          "eight channels have no old text: 10");
+    check(saved_to_old(eight_text, sizeof eight_text - 1, text, 0, &written) == REFUSED_EIGHT && written == 0, "10 before 12, to old");
+    memcpy(bad, eight_text, sizeof bad);
+    bad[sizeof bad - 3] = '2';              /* the last number */
+    check(saved_to_old(bad, sizeof bad - 1, text, sizeof text, &written) == REFUSED_TEXT, "eight channels with a wrong number: 9 before 10");
+    bad[sizeof bad - 3] = '1';
+    bad[8] = '4';
+    check(saved_to_old(bad, sizeof bad - 1, text, sizeof text, &written) == REFUSED_TEXT, "eight channels under the number four: 9");
+}
+
 int main(void)
 {
     test_marked();
@@ -1777,6 +2005,10 @@ int main(void)
     test_saved_whole();
     test_saved_order();
     test_saved_unsettled();
+    test_second_form();
+    test_second_room();
+    test_second_lines();
+    test_convert();
     printf("test.c: %d passed, %d failed\n", passed, failed);
     return failed != 0;
 }

@@ -300,10 +300,17 @@ refuses_all "a file that is not there" --load "$work/nowhere" --save "$work/new"
 refuses_all "a folder is no file" --load "$work"
 refuses_all "a folder that is not there" --save "$work/nowhere/new"
 refuses_all "a wrong option behind a good file" --load "$work/fresh" --loud
-refuses_all "eight channels have no first form to save" --channels 8 --save "$work/new"
+refuses_all "eight channels have no first form to save" --channels 8 --form 1 --save "$work/new"
 grep -q 'four-channel board' "$work/said"
 verdict "and that is told"
-refuses_all "eight channels have no first form to load" --load "$work/fresh" --channels 8
+refuses_all "eight channels have no first form to load" --load "$work/fresh" --form 1 --channels 8
+refuses_all "nor one that is not asked for" --form 1 --channels 8
+refuses_all "left out, eight channels have the second form" --load "$work/fresh" --channels 8
+grep -q 'line 1 ' "$work/said"
+verdict "and D001 is none of its lines"
+refuses_all "no loader guesses: D001 in the second form" --load "$work/fresh" --form 2
+refuses_all "--form without a number" --load "$work/fresh" --form
+refuses_all "a form that there is not" --load "$work/fresh" --form 3
 sed 4s/D1/d1/ "$work/fresh" >"$work/bad"
 refuses_all "a refused text" --load "$work/bad" --save "$work/new"
 grep -q 'line 4 ' "$work/said"
@@ -323,13 +330,59 @@ verdict "the line behind the last is told"
 [ $? -eq 1 ] && [ ! -e "$work/new" ] && [ ! -e "$work/new.part" ]
 verdict "a log that cannot be read saves nothing"
 
+# The second form of both fresh boards.
+{ printf '%s\n' D002 D804 $free $free $free $free D70000; for c in 0 1 2 3; do echo "D90${c}0000"; done; } >"$work/fresh4"
+{ printf '%s\n' D002 D808 $free $free $free $free $free $free $free $free D70000; for c in 0 1 2 3 4 5 6 7; do echo "D90${c}0000"; done; } >"$work/fresh8"
+./arbiter2 --form 2 --save "$work/saved" </dev/null && cmp "$work/saved" "$work/fresh4" && ./convert new <"$work/fresh" | cmp - "$work/fresh4" &&
+    ./convert old <"$work/fresh4" | cmp - "$work/fresh"
+verdict "a fresh board of four in the second form, there and back"
+./arbiter2 --channels 8 --save "$work/saved" </dev/null && cmp "$work/saved" "$work/fresh8" &&
+    ./arbiter2 --channels 8 --form 2 --load "$work/fresh8" --save "$work/saved" </dev/null && cmp "$work/saved" "$work/fresh8"
+verdict "a fresh board of eight"
+refuses_all "a text of four on eight channels" --channels 8 --load "$work/fresh4"
+grep -q 'line 2 ' "$work/said"
+verdict "and the line is told"
+refuses_all "a text of eight on four channels" --form 2 --load "$work/fresh8"
+refuses_all "the old loader refuses D002" --load "$work/fresh4"
+sed 's/D9020000/D9020001/' "$work/fresh4" >"$work/bad"
+refuses_all "numbers that are not those of a count" --form 2 --load "$work/bad"
+grep -q 'a count' "$work/said"
+verdict "and that is told"
+
+# refuses_move NUMBER new|old TEXT
+refuses_move() {
+    ./convert $2 <"$3" >"$work/got" 2>"$work/said"
+    [ $? -eq 2 ] && [ ! -s "$work/got" ] && grep -q "^refused $1" "$work/said"
+    verdict "convert $2 refuses ${3##*/} with $1"
+}
+refuses_move 9 new "$work/fresh4"
+refuses_move 9 new "$work/fresh8"
+refuses_move 9 old "$work/fresh"
+refuses_move 10 old "$work/fresh8"
+refuses_move 9 old "$work/bad"
+sed s/D808/D804/ "$work/fresh8" >"$work/eight-as-four"
+refuses_move 9 old "$work/eight-as-four"
+sed s/D9070000/D9070100/ "$work/fresh8" >"$work/eight-with-a-wrong-number"
+refuses_move 9 old "$work/eight-with-a-wrong-number"
+./convert </dev/null >"$work/got" 2>"$work/said"
+[ $? -eq 2 ] && [ ! -s "$work/got" ] && grep -q usage "$work/said"
+verdict "convert without a word"
+
 # A log cut in two with a save between gives the output of the whole, and the same saved text in the end. The looks are not saved.
+# cut_in_two STYLE SEED FORM CHANNELS
 cut_in_two() {
-    ./generate $2 240 $1 >"$work/log"
-    ./arbiter2 --show --display --save "$work/end" <"$work/log" >"$work/whole" || return
-    for at in $((1 + $2 * 7 % 100)) $((100 + $2 * 31 % 139)); do
-        head -n $at "$work/log" | ./arbiter2 --show --display --save "$work/between" >"$work/one" || return
-        tail -n +$((at + 1)) "$work/log" | ./arbiter2 --show --display --load "$work/between" --save "$work/last" >>"$work/one" || return
+    ./generate $2 240 $1 $4 >"$work/log"
+    set -- "$2" --channels $4 --form $3
+    ./arbiter2 $2 $3 $4 $5 --show --display --save "$work/end" <"$work/log" >"$work/whole" || return
+    for at in $((1 + $1 * 7 % 100)) $((100 + $1 * 31 % 139)); do
+        head -n $at "$work/log" | ./arbiter2 $2 $3 $4 $5 --show --display --save "$work/between" >"$work/one" || return
+        tail -n +$((at + 1)) "$work/log" |
+            ./arbiter2 $2 $3 $4 $5 --show --display --load "$work/between" --save "$work/last" >>"$work/one" || return
+        # An old text goes to the new form and back; a new one of four channels to the old form and back.
+        case $3$5 in
+        41) ./convert new <"$work/between" >"$work/moved" && ./convert old <"$work/moved" | cmp - "$work/between" || return ;;
+        42) ./convert old <"$work/between" >"$work/moved" && ./convert new <"$work/moved" | cmp - "$work/between" || return ;;
+        esac
         cmp "$work/last" "$work/end" || return
         for out in whole one; do sed '/^E0/s/....$//' "$work/$out" >"$work/$out.seen"; done
         cmp "$work/one.seen" "$work/whole.seen" || return
@@ -337,28 +390,43 @@ cut_in_two() {
 }
 for style in mix locks nowait queues full aborts precedences lists ties cuts cycles desks opens display many-locks saved; do
     for seed in 1 2 3; do
-        cut_in_two $style $seed
+        cut_in_two $style $seed 1 4 && cut_in_two $style $seed 2 4 && cut_in_two $style $seed 2 8
         verdict "a log of $style, seed $seed, cut in two with a save between"
     done
 done
 
 # Spoilt texts: a kind that never gives a good one is refused, others are loaded or refused; what is loaded is saved as it was.
-# second/coverage.sh has many more.
-for seed in 1 2 3; do ./generate $seed 260 saved | ./arbiter2 --save "$work/good.$seed" >"$work/got"; done
+# second/coverage.sh has many more. Seeds 1 to 3 are of the first form, 4 and 5 of the second, 6 and 7 of eight channels.
+words_of() {
+    case $1 in
+    [123]) words='--form 1' ;;
+    [45]) words='--form 2' ;;
+    *) words='--channels 8' ;;
+    esac
+}
+for seed in 1 2 3 4 5 6 7; do
+    words_of $seed
+    board=4
+    [ $seed -lt 6 ] || board=8
+    ./generate $seed 260 saved $board | ./arbiter2 $words --save "$work/good.$seed" >"$work/got"
+done
 for kind in $(./spoil 2>&1 | sed -n 's/^kinds: //p'); do
     wrong=
-    for seed in 1 2 3; do
+    for seed in 1 2 3 4 5 6 7; do
+        words_of $seed
         ./spoil $seed $kind <"$work/good.$seed" >"$work/spoilt"
-        if ./arbiter2 --load "$work/spoilt" --save "$work/again" </dev/null >"$work/got" 2>"$work/said"; then
+        if ./arbiter2 $words --load "$work/spoilt" --save "$work/again" </dev/null >"$work/got" 2>"$work/said"; then
             cmp -s "$work/spoilt" "$work/again" || wrong="seed $seed"
             case " lower all-lower nul high strange cr bytes last-lf behind cut cut-line empty blank join long form channels mark id same-id \
-                period volume order free-write not-free unlocked key count none seventeen map open-zero opens-33 " in
+                period volume order free-write not-free unlocked key count none seventeen map open-zero opens-33 \
+                board shown shown-channel shown-lines " in
             *" $kind "*) cmp -s "$work/spoilt" "$work/good.$seed" || wrong="seed $seed is accepted" ;;
             esac
         elif [ $? -ne 2 ] || [ -s "$work/got" ] || [ ! -s "$work/said" ]; then
             wrong="seed $seed"
         else
-            case $kind in sixteen | list | opens-32 | last-key | numbers) wrong="seed $seed is refused" ;; esac
+            case $kind in opens-32 | last-key | numbers | counted) wrong="seed $seed is refused" ;; esac
+            case $kind-$seed in sixteen-[123] | list-[123]) wrong="seed $seed is refused" ;; esac
         fi
     done
     [ -z "$wrong" ]

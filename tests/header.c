@@ -279,6 +279,7 @@ int main(void)
     same("port", QAMHUDEER_PORT_SIZE, qamhudeer_port_size());
     same("room", QAMHUDEER_ROOM_SIZE, qamhudeer_room_size());
     same("text", QAMHUDEER_TEXT_SIZE, qamhudeer_text_size());
+    same("text of the second form", QAMHUDEER_TEXT2_SIZE, qamhudeer_text2_size());
     same("locks", QAMHUDEER_OFFSET_OF_LOCKS, qamhudeer_offset_of_locks());
     same("waiters", QAMHUDEER_OFFSET_OF_WAITERS, qamhudeer_offset_of_waiters());
     same("waiting", QAMHUDEER_OFFSET_OF_WAITING, qamhudeer_offset_of_waiting());

@@ -117,7 +117,7 @@ compared {t} {st} {tb} {ok} {z} {page} {n} r h p d =
 
 -- ---- whether there is one
 
-same-or-not {ℓ} : {R : Type ℓ} (a b : List ℕ) → (a ≡ b → R) → ((a ≡ b → ⊥) → R) → R
+pub same-or-not {ℓ} : {R : Type ℓ} (a b : List ℕ) → (a ≡ b → R) → ((a ≡ b → ⊥) → R) → R
 same-or-not [] [] y z = y refl
 same-or-not [] (x ∷ b) y z = z (λ e. let n = ap length e in omega arith)
 same-or-not (x ∷ a) [] y z = z (λ e. let n = ap length e in omega arith)

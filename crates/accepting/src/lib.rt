@@ -13,7 +13,7 @@ pub struct Found {
 }
 
 // Whether two runs of bytes are the same.
-fn same(a: &[u8], b: &[u8]) -> bool
+pub fn same(a: &[u8], b: &[u8]) -> bool
     ensures { λ r. ⌜ Decides r (now (a .entry) ≡ now (b .entry)) ⌝ }
 {
     if a.len() != b.len() {

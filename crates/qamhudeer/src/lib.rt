@@ -10,6 +10,9 @@ ghost use Rattle.boundary.specs.Boundary.{Crossed};
 ghost use Rattle.waiting_list.specs.WaitingList.{Tells};
 ghost use Rattle.saving.specs.Saving.{TEXT, Saves};
 ghost use Rattle.loading.specs.Loading.{Loads};
+ghost use Rattle.saving2.specs.Saving2.{TEXT2, Saves2};
+ghost use Rattle.loading2.specs.Loading2.{Loads2};
+ghost use Rattle.moving.specs.Moving.{MovesNew, MovesOld};
 ghost use Rattle.fragments.specs.Fragments.{Feeds};
 ghost use Rattle.last_line.specs.LastLine.{Ends};
 ghost use Rattle.machine.specs.Lists.{if_then_else_};
@@ -78,6 +81,13 @@ pub extern "C" fn qamhudeer_text_size() -> usize
     ensures { λ r. ⌜ r ≡ TEXT ⌝ }
 {
     saving::text_size()
+}
+
+#[no_mangle]
+pub extern "C" fn qamhudeer_text2_size() -> usize
+    ensures { λ r. ⌜ r ≡ TEXT2 ⌝ }
+{
+    saving2::text2_size()
 }
 
 #[no_mangle]
@@ -277,6 +287,62 @@ pub extern "C" fn qamhudeer_load(
         r (now (state .exit)) (now (table .exit)) (now (display .exit)) ⌝ }
 {
     loading::load(channels, text, state, table, display)
+}
+
+// ---- saved states, second form
+
+// The text of a state of either board: 0 and its length. Bytes that hold no sound state, or a display that disagrees with a count: 1.
+// Room that is too short: 12. After a refusal the length is 0, and nothing is written.
+#[no_mangle]
+pub extern "C" fn qamhudeer_save2(
+    state: &[u8],
+    table: &[u8],
+    display: &[u8],
+    text: &mut [u8],
+    written: &mut usize,
+) -> u8
+    ensures { λ r. ⌜ Saves2 (now (state .entry)) (now (table .entry)) (now (display .entry)) (now (text .entry)) r (now (written .exit)) (now (text .exit)) ⌝ }
+{
+    let made = saving2::save2(state, table, display, text);
+    *written = made.written;
+    made.error
+}
+
+// As `qamhudeer_load`, of a text of the second form, for 4 or 8 channels.
+#[no_mangle]
+pub extern "C" fn qamhudeer_load2(
+    channels: u8,
+    text: &[u8],
+    state: &mut [u8],
+    table: &mut [u8],
+    display: &mut [u8],
+) -> u8
+    ensures { λ r. ⌜ Loads2 channels (now (text .entry)) (now (state .entry)) (now (table .entry)) (now (display .entry))
+        r (now (state .exit)) (now (table .exit)) (now (display .exit)) ⌝ }
+{
+    loading2::load2(channels, text, state, table, display)
+}
+
+// A text of the first form in the second: 0 and its length. No such text: 9. Room that is too short: 12. After a refusal the length is
+// 0, and nothing is written.
+#[no_mangle]
+pub extern "C" fn qamhudeer_to_new(from: &[u8], text: &mut [u8], written: &mut usize) -> u8
+    ensures { λ r. ⌜ MovesNew (now (from .entry)) (now (text .entry)) r (now (written .exit)) (now (text .exit)) ⌝ }
+{
+    let made = moving::to_new(from, text);
+    *written = made.written;
+    made.error
+}
+
+// A text of the second form in the first: 0 and its length. A text that neither board's loader takes: 9. One of eight channels: 10.
+// Room that is too short: 12. After a refusal the length is 0, and nothing is written.
+#[no_mangle]
+pub extern "C" fn qamhudeer_to_old(from: &[u8], text: &mut [u8], written: &mut usize) -> u8
+    ensures { λ r. ⌜ MovesOld (now (from .entry)) (now (text .entry)) r (now (written .exit)) (now (text .exit)) ⌝ }
+{
+    let made = moving::to_old(from, text);
+    *written = made.written;
+    made.error
 }
 
 // ---- lists for stereo

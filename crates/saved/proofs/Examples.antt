@@ -32,7 +32,7 @@ fresh-length = refl
 
 -- channel 0 with two writes, of which the front one is to finish and to be retuned at its cycle's end; channel 2 stopped; two waiting
 -- requests; two locks, the later id first; a WAITCYCLE; a key that is open twice
-pub busy : State
+unfoldable pub busy : State
 busy =
     record {
       channels =

@@ -1,0 +1,2 @@
+pub mod Lengths2
+pub mod Examples2
