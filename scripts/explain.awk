@@ -1,33 +1,10 @@
 # Reads a log of two desks, and beside it the file 'output', what the program wrote for it with '--show', on a board of so many
-# channels; from the state of the text 'saved' on, if there is one. Writes the same in words. ./explain runs it, behind words.awk and
-# queues.awk. POSIX awk.
+# channels; from the state of the text 'saved' on, if there is one. Writes the same in words. ./explain runs it, behind words.awk,
+# say.awk and queues.awk. POSIX awk.
 
 BEGIN {
-    width = 98          # columns of a line, where words can be broken so
-    margin = 23         # where the words of a call and of what follows it begin
     if (saved != "")
         begin_saved(saved)
-}
-
-# ---- Words
-
-# Adds a phrase to the words of the line at hand.
-function add(phrase) {
-    words = words (words == "" ? "" : ", ") phrase
-}
-
-# Writes the words behind their head. A line that would be too long is broken after a comma or a semicolon.
-function say(head, words,    line, end, part, count, i) {
-    end = index(words, ";") ? ";" : ","
-    count = split(words, part, end " ")
-    line = sprintf("%-" margin "s%s", head, part[1])
-    for (i = 2; i <= count; i++)
-        if (length(line) + length(part[i]) + 3 > width) {
-            print line end
-            line = sprintf("%" margin "s%s", "", part[i])
-        } else
-            line = line end " " part[i]
-    print line
 }
 
 # ---- The call

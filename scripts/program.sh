@@ -3,7 +3,7 @@
 #   proved_program NAME  the program of this crate, proved and built where it is missing or older than what it is made from
 #   ready       the same of the log program. Where nothing has changed both are quick
 #   watched FILE WORDS  runs rt with these words; all that it says goes to FILE, and how far it is to standard error
-#   log_options WORDS  the log program's options, checked; in log_words as the program takes them, with log_load and log_save
+#   log_options WORDS  the log program's options, checked; in log_words as the program takes them, with log_load, log_save, log_form
 #   carry       plays the log with what log_options has read, from a saved text or to one, and ends with the status
 #   help        what a script's own head says of its use
 #   version     the version, as the header has it
@@ -27,15 +27,23 @@ version() {
 }
 
 # The program's first word is the number of channels; in a second one c shows them, d the wall display, l goes on from the text on
-# descriptor 3, and s saves to descriptor 4.
+# descriptor 3, s saves to descriptor 4, and t says that both are of the second form. log_form is the form, and log_texts is the word for
+# the program that tests texts.
 log_options() {
-    log_words=4 log_channels= log_display= log_load= log_save=
+    log_words=4 log_channels= log_display= log_load= log_save= log_form= log_two=
     while [ $# -gt 0 ]; do
         case $1 in
         --channels)
             case ${2:-} in
             4 | 8) log_words=$2 ;;
             *) complain "--channels takes 4 or 8; --help tells more"; return 2 ;;
+            esac
+            shift
+            ;;
+        --form)
+            case ${2:-} in
+            1 | 2) log_form=$2 ;;
+            *) complain "--form takes 1 or 2; --help tells more"; return 2 ;;
             esac
             shift
             ;;
@@ -52,11 +60,12 @@ log_options() {
         esac
         shift
     done
-    if [ $log_words -ne 4 ] && [ -n "$log_load$log_save" ]; then
-        complain "the first form of saved texts is the four-channel board's alone: --load and --save go with --channels 4"
-        return 2
-    fi
-    log_words="$log_words $log_channels$log_display${log_load:+l}${log_save:+s}"
+    case $log_words$log_form in
+    81) complain "the first form of saved texts is the four-channel board's alone: eight channels have the second"; return 2 ;;
+    4 | 41) log_form=1 log_texts=1 ;;
+    *) log_form=2 log_texts=$log_words log_two=t ;;
+    esac
+    log_words="$log_words $log_channels$log_display${log_load:+l}${log_save:+s}$log_two"
 }
 
 has_kit() {
@@ -175,9 +184,10 @@ play() {
 
 # ---- Saved texts
 
-# judged TEXT: what the proved program says of a text: 'accepted', 'line N' or 'no sound state'.
+# judged TEXT WORD: what the proved program says of a text: 'accepted', 'line N' or 'no sound state'. The word is 1 for the first form, or
+# the number of channels for the second.
 judged() {
-    (proved_program text_program && how= && play <"$1")
+    (proved_program text_program && how= && play "$2" <"$1")
 }
 
 # The text is copied, so that the one that is tested is the one that is loaded. No saved text is nearly as long as what is read of it.
@@ -190,7 +200,7 @@ load_text() {
         complain "$log_load cannot be read"
         return 2
     fi
-    verdict=$(judged "$carried/text") || return 2
+    verdict=$(judged "$carried/text" $log_texts) || return 2
     case $verdict in
     accepted) return ;;
     'line '*) complain "$log_load: $verdict is no frame of its kind" ;;
@@ -218,7 +228,7 @@ begin_save() {
 
 # The program saves only where all was read and written. A text that is not whole is not accepted.
 end_save() {
-    if [ "$(judged "$part")" = accepted ] && { sync "$part" 2>/dev/null || sync; } && mv -f -- "$part" "$log_save"; then
+    if [ "$(judged "$part" $log_texts)" = accepted ] && { sync "$part" 2>/dev/null || sync; } && mv -f -- "$part" "$log_save"; then
         part=
         return
     fi
@@ -234,7 +244,7 @@ carry() {
     trap 'exit 2' HUP INT TERM
     [ -z "$log_load" ] || load_text || exit 2
     : >>"$carried/text"
-    [ -z "$log_save" ] || judged "$carried/text" >/dev/null || exit 2
+    [ -z "$log_save" ] || judged "$carried/text" $log_texts >/dev/null || exit 2
     ready || exit 2
     [ -z "$log_save" ] || begin_save || exit 2
     play $log_words 3<"$carried/text" 4>"${part:-/dev/null}" || exit

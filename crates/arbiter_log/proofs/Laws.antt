@@ -25,7 +25,7 @@ use Rattle.whole_log.proofs.Whole.{fresh-held}
 use Rattle.arbiter_log.specs.declared.Desk.{Desk}
 use Rattle.accepting.specs.declared.Found.{Found}
 use Rattle.accepting.proofs.Accepting.{false-true}
-use Rattle.carrying.specs.Carrying.{Resumes}
+use Rattle.carrying.specs.Carrying.{Resumes, Resumes2}
 use Rattle.arbiter_log.specs.Desk.{Ready, Loaded, Begins}
 
 -- the room that a page of the program has is enough, whatever is shown
@@ -95,24 +95,36 @@ fresh-table w = table-wide w (freshOn 0) ∙ none-table
 fresh-begun : (w : ℕ) → T (sized w) → {s : Board} → s ≡ freshBoard w → Held s (replicate 1472 0)
 fresh-begun w t {s} e = subst (Held s) (fresh-table w) (subst (λ (x : Board). Held x (tableOf (freshOn w))) (sym (e ∙ fresh-of w t)) (fresh-held w t))
 
-module _ {load : Bool} {w : ℕ} {tb dp : List ℕ} where
-  pub begins-fresh : T (sized w) → {s : Board} → load ≡ false → s ≡ freshBoard w → tb ≡ replicate 1472 0 → dp ≡ blank → Begins load w (record { ok = true; board = s }) tb dp
+module _ {load second : Bool} {w : ℕ} {tb dp : List ℕ} where
+  pub begins-fresh : T (sized w) → {s : Board} → load ≡ false → s ≡ freshBoard w → tb ≡ replicate 1472 0 → dp ≡ blank → Begins load second w (record { ok = true; board = s }) tb dp
   begins-fresh t {s} n e a b =
       record {
         fresh = λ _. (ap (λ (x : Board). record { ok = true; board = x }) e, a, b);
-        loaded = λ y. absurd (false-true (sym n ∙ y));
+        loaded = λ y _. absurd (false-true (sym n ∙ y));
+        loaded2 = λ y _. absurd (false-true (sym n ∙ y));
         held = λ _. subst (Held s) (sym a) (fresh-begun w t e);
         shown = ap length b;
       }
 
-  pub begins-loaded : {t : List ℕ} {f : Found} → load ≡ true → Resumes t f tb dp → length dp ≡ 18 → Begins load w f tb dp
-  begins-loaded {t} y r k =
+  pub begins-loaded : {t : List ℕ} {f : Found} → load ≡ true → second ≡ false → Resumes t f tb dp → length dp ≡ 18 → Begins load second w f tb dp
+  begins-loaded {t} y z r k =
       record {
         fresh = λ n. absurd (false-true (sym n ∙ y));
-        loaded = λ _. record { text = t; resumes = r };
+        loaded = λ _ _. record { text = t; resumes = r };
+        loaded2 = λ _ m. absurd (false-true (sym z ∙ m));
         held = λ o. r .accepts .yes o .held;
         shown = k;
       }
 
-  pub begun-ready : {f : Found} {ok : Bool} {page : List ℕ} → Begins load w f tb dp → f .ok ≡ true → 65536 ≡ length page → Ready (record { state = f .board; line = 0; ok = ok }) tb dp page
+  pub begins-loaded2 : {t : List ℕ} {f : Found} → load ≡ true → second ≡ true → Resumes2 w t f tb dp → length dp ≡ 18 → Begins load second w f tb dp
+  begins-loaded2 {t} y z r k =
+      record {
+        fresh = λ n. absurd (false-true (sym n ∙ y));
+        loaded = λ _ m. absurd (false-true (sym m ∙ z));
+        loaded2 = λ _ _. record { text = t; resumes = r };
+        held = λ o. r .accepts .yes o .held;
+        shown = k;
+      }
+
+  pub begun-ready : {f : Found} {ok : Bool} {page : List ℕ} → Begins load second w f tb dp → f .ok ≡ true → 65536 ≡ length page → Ready (record { state = f .board; line = 0; ok = ok }) tb dp page
   begun-ready e o n = record { held = e .held o; shown = e .shown; within = omega arith; room = omega arith }

@@ -1,9 +1,9 @@
 // The log program: a log on standard input, its output on standard output, in constant memory. Its first argument is the number of
-// channels, 4 or 8, and 4 where it is anything else or left out. Its second is a word of four letters at most: where c is among them, the
+// channels, 4 or 8, and 4 where it is anything else or left out. Its second is a word of five letters at most: where c is among them, the
 // board's channels are told after each line, and where d is, then the wall display; where l is, it goes on from the saved text on
-// descriptor 3, and where s is, the text of the state at the end goes to descriptor 4. It reads, calls `carrying`, `paging`, `finishing`
-// and `saving`, and writes: what is read and written is the C library's to say, and that each page is passed to `write` as it was handed
-// back stands in `lump`, `last` and `keep` to be read.
+// descriptor 3, and where s is, the text of the state at the end goes to descriptor 4; where t is, these texts are of the second form. It
+// reads, calls `carrying`, `paging`, `finishing`, `saving` and `saving2`, and writes: what is read and written is the C library's to say,
+// and that each page is passed to `write` as it was handed back stands in `lump`, `last`, `keep` and `keep2` to be read.
 use accepting::Found;
 use board::Board;
 use taking::Show;
@@ -21,13 +21,14 @@ const LOADED: i32 = 3;
 const SAVED: i32 = 4;
 
 // A byte more than the longest text has, which is enough to see that a text is none.
-const MOST: usize = 3345;
+const MOST: usize = 3522;
 
 // What the second word asks for.
 struct Asked {
     show: Show,
     load: bool,
     save: bool,
+    second: bool,
 }
 
 // What is kept from lump to lump of input. `line` is how much of a line stands that has not ended; `ok` is whether all was read
@@ -185,7 +186,15 @@ fn last(
     }
 }
 
-// The text of the state at the end. Eight channels have none.
+// A text, to where it is saved.
+fn saved(text: &[u8]) {
+    let ok = io::write_all(SAVED, text);
+    if !ok {
+        os::fail(b"save");
+    }
+}
+
+// The text of the state at the end, in the first form. Eight channels have none.
 fn keep(b: Board, table: &[u8])
     requires { ⌜ Held b (now table) ⌝ }
 {
@@ -194,10 +203,16 @@ fn keep(b: Board, table: &[u8])
     }
     let mut page = [0u8; saving::LONGEST];
     let n = saving::spell(b, table, &mut page);
-    let ok = io::write_all(SAVED, &page[..n]);
-    if !ok {
-        os::fail(b"save");
-    }
+    saved(&page[..n]);
+}
+
+// The same in the second form.
+fn keep2(b: Board, table: &[u8])
+    requires { ⌜ Held b (now table) ⌝ }
+{
+    let mut page = [0u8; saving2::LONGEST];
+    let n = saving2::spell2(b, table, &mut page);
+    saved(&page[..n]);
 }
 
 // How many channels the board has.
@@ -216,13 +231,17 @@ fn width() -> u8
 }
 
 // Whether a letter is in the word.
-fn has(word: &[u8; 4], letter: u8) -> bool {
-    word[0] == letter || word[1] == letter || word[2] == letter || word[3] == letter
+fn has(word: &[u8; 5], letter: u8) -> bool {
+    word[0] == letter
+        || word[1] == letter
+        || word[2] == letter
+        || word[3] == letter
+        || word[4] == letter
 }
 
 // What the second word asks for.
 fn words() -> Asked {
-    let mut word = [0u8; 4];
+    let mut word = [0u8; 5];
     os::arg(2, &mut word);
     let c = has(&word, b'c');
     let d = has(&word, b'd');
@@ -232,17 +251,20 @@ fn words() -> Asked {
     };
     let l = has(&word, b'l');
     let s = has(&word, b's');
+    let t = has(&word, b't');
     Asked {
         show,
         load: l,
         save: s,
+        second: t,
     }
 }
 
-// What the program begins with: a fresh board of w channels; or the board of the loaded text, its table and its display.
-fn begin(load: bool, w: u8, table: &mut [u8], display: &mut [u8]) -> Found
+// What the program begins with: a fresh board of w channels; or the board of the loaded text, its table and its display. A text of the
+// second form is one of w channels.
+fn begin(load: bool, second: bool, w: u8, table: &mut [u8], display: &mut [u8]) -> Found
     requires { ⌜ (T (sized w)) × (now table ≡ replicate 1472 0) × (now display ≡ blank) ⌝ }
-    ensures { λ r. ⌜ Begins load w r (now (table .exit)) (now (display .exit)) ⌝ }
+    ensures { λ r. ⌜ Begins load second w r (now (table .exit)) (now (display .exit)) ⌝ }
 {
     if !load {
         let s = Board::fresh(w);
@@ -250,6 +272,9 @@ fn begin(load: bool, w: u8, table: &mut [u8], display: &mut [u8]) -> Found
     }
     let mut text = [0u8; MOST];
     let n = io::read_full(LOADED, &mut text);
+    if second {
+        return carrying::resume2(w, &text[..n], table, display);
+    }
     carrying::resume(&text[..n], table, display)
 }
 
@@ -258,7 +283,7 @@ fn main() {
     let w = width();
     let mut table = [0u8; 1472];
     let mut display = [0u8; 18];
-    let f = begin(a.load, w, &mut table, &mut display);
+    let f = begin(a.load, a.second, w, &mut table, &mut display);
     if !f.ok {
         io::write_all(libc::STDERR_FILENO, b"the text is refused\n");
         return;
@@ -286,7 +311,11 @@ fn main() {
     if a.save {
         if z.ok {
             let b = z.state;
-            keep(b, &table);
+            if a.second {
+                keep2(b, &table);
+            } else {
+                keep(b, &table);
+            }
         }
     }
 }

@@ -1,4 +1,4 @@
--- A text that was saved is accepted, and what is held then is the state that was saved. So a log that goes on from it comes to the
+-- A text that was saved, of either form, is accepted, and what is held then is the state that was saved. So a log that goes on from it comes to the
 -- machine's run from that state; and the text of what is held in the end is that of the state that the machine comes to. A log may be
 -- cut in two, with a save between. Assumes nothing.
 use Prim.Native.Nat.{ℕ, _+_, _≤_}
@@ -13,7 +13,6 @@ use Rattle.machine.specs.Log.{lines, feed, run}
 use Rattle.machine.proofs.Tests.{by-test, test-true, test-false}
 use Rattle.display.specs.Display.{numbers, looksBytes}
 use Rattle.display.proofs.Pinned.{numbers-length}
-use Rattle.memory.specs.Splice.{splice}
 use Rattle.board.specs.declared.Board.{Board}
 use Rattle.board.specs.Board.{stateIn, Held}
 use Rattle.board.proofs.Laws.{held-width}
@@ -25,40 +24,43 @@ use Rattle.hex_lines.specs.HexLines.{Put}
 use Rattle.whole_log.specs.Whole.{joined, Ran, boardAt, tableAt}
 use Rattle.whole_log.proofs.Whole.{none-ended, run-hidden, Ended, ran-run, ran-ends}
 use Rattle.saved.specs.Saved.{text, TextOf}
-use Rattle.saving.proofs.Laws.{front}
+use Rattle.saved2.specs.Saved2.{text2, TextOf2}
+use Rattle.saving2.proofs.Laws2.{taken-front}
+use Rattle.read_back2.proofs.ReadBack2.{one-spelling2}
 use Rattle.recounting.specs.Recounting.{counted}
 use Rattle.accepting.specs.declared.Found.{Found}
-use Rattle.accepting.specs.Accepting.{Yes, Accepts}
 use Rattle.accepting.proofs.Accepting.{one-spelling}
-use Rattle.carrying.specs.Carrying.{Resumes}
+use Rattle.carrying.specs.Carrying.{Resumes, Resumes2, Carries}
 
 -- ---- what is loaded
 
 counted-length : (s : State) → length (counted s) ≡ 18
 counted-length s = length-append (numbers s) (looksBytes 0) ∙ ap (λ (n : ℕ). n + 2) (numbers-length s)
 
-module _ {t : List ℕ} {f : Found} {tb dp : List ℕ} (r : Resumes t f tb dp) {s : State} (h : TextOf 4 s t) where
-  pub accepted : f .ok ≡ true
-  accepted = by-test (f .ok) (λ y. test-true (f .ok) y) (λ y. absurd (r .accepts .no (test-false (f .ok) y) s h))
+module _ {t : List ℕ} {f : Found} {tb dp : List ℕ} {s : State} where
+  pub carries : Resumes t f tb dp → TextOf 4 s t → Carries s f tb dp
+  carries r h =
+      let o = by-test (f .ok) (λ y. test-true (f .ok) y) (λ y. absurd (r .accepts .no (test-false (f .ok) y) s h)) in
+      let e = one-spelling (r .accepts .yes o .text) h in
+      record { accepted = o; held = r .accepts .yes o .held; state = e; display = r .counts o ∙ ap counted e }
 
-  pub held-loaded : Held (f .board) tb
-  held-loaded = r .accepts .yes accepted .held
+  pub carries2 : {w : ℕ} → Resumes2 w t f tb dp → TextOf2 w s t → Carries s f tb dp
+  carries2 r h =
+      let o = by-test (f .ok) (λ y. test-true (f .ok) y) (λ y. absurd (r .accepts .no (test-false (f .ok) y) s h)) in
+      let e = one-spelling2 (r .accepts .yes o .text) h in
+      record { accepted = o; held = r .accepts .yes o .held; state = e; display = r .counts o ∙ ap counted e }
 
-  pub state-loaded : stateIn (f .board) tb ≡ s
-  state-loaded = one-spelling (r .accepts .yes accepted .text) h
-
-  pub display-loaded : dp ≡ counted s
-  display-loaded = r .counts accepted ∙ ap counted state-loaded
-
+-- from here on nothing depends on the form
+module _ {s : State} {f : Found} {tb dp : List ℕ} (r : Carries s f tb dp) where
   shown-loaded : length dp ≡ 18
-  shown-loaded = ap length display-loaded ∙ counted-length s
+  shown-loaded = ap length (r .display) ∙ counted-length s
 
   -- the output of a log that goes on from a saved text, with what is shown, whatever the lumps
   pub log-from-shown : {show : Show} {l page : List ℕ} {bss : List (List ℕ)} {out : List ℕ} → Ran show (f .board) tb dp l 0 page 0 bss out
       → out ≡ runShown show s (counted s) (lines (joined bss))
   log-from-shown {show} {l} {bss = bss} k =
-      ran-run [] held-loaded shown-loaded (omega arith) (stands-none l) none-ended k
-      ∙ ap₂ (λ (x : State) (y : List ℕ). runShown show x y (lines (joined bss))) state-loaded display-loaded
+      ran-run [] (r .held) shown-loaded (omega arith) (stands-none l) none-ended k
+      ∙ ap₂ (λ (x : State) (y : List ℕ). runShown show x y (lines (joined bss))) (r .state) (r .display)
 
   -- where nothing is shown, it is the machine's
   pub log-from : {l page : List ℕ} {bss : List (List ℕ)} {out : List ℕ} → Ran hidden (f .board) tb dp l 0 page 0 bss out
@@ -69,20 +71,22 @@ module _ {t : List ℕ} {f : Found} {tb dp : List ℕ} (r : Resumes t f tb dp) {
   pub ends-from : {show : Show} {l page : List ℕ} {bss : List (List ℕ)} {out : List ℕ} (k : Ran show (f .board) tb dp l 0 page 0 bss out)
       → Ended s (lines (joined bss)) (boardAt k) (tableAt k)
   ends-from {l = l} {bss = bss} k =
-      let e = ran-ends [] held-loaded shown-loaded (omega arith) (stands-none l) none-ended k in
-      record { held = e .held; state = e .state ∙ ap (λ (x : State). run x (lines (joined bss)) .next) state-loaded }
+      let e = ran-ends [] (r .held) shown-loaded (omega arith) (stands-none l) none-ended k in
+      record { held = e .held; state = e .state ∙ ap (λ (x : State). run x (lines (joined bss)) .next) (r .state) }
 
 -- ---- what is saved
 
 -- the text on the page is that of the state that the machine comes to
-pub end-saved : {s : State} {ls : List (List ℕ)} {b : Board} {tb : List ℕ} → Ended s ls b tb → b .width ≡ 4 → {page page′ : List ℕ} {n : ℕ}
-    → Put page 0 (text (stateIn b tb)) n page′ → TextOf 4 (run s ls .next) (take n page′)
-end-saved {s} {ls} {b} {tb} e w {page} {page′} {n} p =
-    let u = stateIn b tb in
-    let k : n ≡ length (text u) = let m = p .next in omega arith in
-    let x : take n page′ ≡ text u = ap (take n) (p .bytes) ∙ (ap (λ (i : ℕ). take i (splice page 0 (text u))) k ∙ front page (text u)) in
-    subst (λ (v : State). TextOf 4 v (take n page′)) (e .state)
-    (record { sane = e .held .sane; width = sym (held-width (e .held)) ∙ w; saved = x })
+module _ {s : State} {ls : List (List ℕ)} {b : Board} {tb : List ℕ} (e : Ended s ls b tb) {page page′ : List ℕ} {n : ℕ} where
+  pub end-saved : b .width ≡ 4 → Put page 0 (text (stateIn b tb)) n page′ → TextOf 4 (run s ls .next) (take n page′)
+  end-saved w p =
+      subst (λ (v : State). TextOf 4 v (take n page′)) (e .state)
+      (record { sane = e .held .sane; width = sym (held-width (e .held)) ∙ w; saved = taken-front p })
+
+  pub end-saved2 : Put page 0 (text2 (stateIn b tb)) n page′ → TextOf2 (b .width) (run s ls .next) (take n page′)
+  end-saved2 p =
+      subst (λ (v : State). TextOf2 (b .width) v (take n page′)) (e .state)
+      (record { sane = e .held .sane; width = sym (held-width (e .held)); saved = taken-front p })
 
 -- ---- a log cut in two
 
@@ -97,13 +101,13 @@ unfolding run
 run-on s [] ls = refl
 run-on s (k ∷ ks) ls = run-on (feed s k .next) ks ls
 
--- from a state s the lines ks were played, and the text t saved; a second run goes on from t with the lumps bss. Together they write
--- what one run of all the lines writes, and come to its state
-pub cut-in-two : {t : List ℕ} {f : Found} {tb dp : List ℕ} (r : Resumes t f tb dp) (s : State) (ks : List (List ℕ)) → TextOf 4 (run s ks .next) t
+-- from a state s the lines ks were played, and a text saved, of either form; a second run goes on from it with the lumps bss. Together
+-- they write what one run of all the lines writes, and come to its state
+pub cut-in-two : {f : Found} {tb dp : List ℕ} (s : State) (ks : List (List ℕ)) → Carries (run s ks .next) f tb dp
     → {l page : List ℕ} {bss : List (List ℕ)} {out : List ℕ} (k : Ran hidden (f .board) tb dp l 0 page 0 bss out)
     → (run s ks .output ++ out ≡ run s (ks ++ lines (joined bss)) .output) × Ended s (ks ++ lines (joined bss)) (boardAt k) (tableAt k)
-cut-in-two r s ks h {bss = bss} k =
-    let e = ends-from r h k in (
-      ap (λ (x : List ℕ). run s ks .output ++ x) (log-from r h k) ∙ sym (run-append s ks (lines (joined bss))),
+cut-in-two s ks r {bss = bss} k =
+    let e = ends-from r k in (
+      ap (λ (x : List ℕ). run s ks .output ++ x) (log-from r k) ∙ sym (run-append s ks (lines (joined bss))),
       record { held = e .held; state = e .state ∙ sym (run-on s ks (lines (joined bss))) },
     )

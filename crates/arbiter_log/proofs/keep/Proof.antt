@@ -7,8 +7,7 @@ use Rattle.arbiter_log.proofs.keep.Statement.{statement}
 use Rattle.arbiter_log.proofs.keep.Tie as tie
 use Rattle.arbiter_log.proofs.keep.Reads as reads
 use Rattle.arbiter_log.proofs.keep.Lts as lts
-use Rattle.io.proofs.write_all.Reads as write-all-reads
-use Rattle.os.proofs.fail.Reads as fail-reads
+use Rattle.arbiter_log.proofs.saved.Reads as saved-reads
 use Rattle.saving.proofs.spell.Reads as spell-reads
 
 returns : tie.Need-returns
@@ -26,26 +25,17 @@ array-share-prefix-page c =
     let e = p .before .before in
     page-within (p .spell .ensures) (text-fits (e .before .before .before .pre) (e .if1 .left))
 
-slice-aggregate-write-all : tie.Need-slice-aggregate-write-all
-slice-aggregate-write-all c =
+slice-aggregate-saved : tie.Need-slice-aggregate-saved
+slice-aggregate-saved c =
     let p = c .before .before in
     let e = p .before .before in
     sym (length-take-le _ _ (page-within (p .spell .ensures) (text-fits (e .before .before .before .pre) (e .if1 .left))))
 
-write-all-requires : tie.Need-write-all-requires
-write-all-requires c κs = search needs
-
-slice-aggregate-fail : tie.Need-slice-aggregate-fail
-slice-aggregate-fail c = search needs
-
-fail-requires : tie.Need-fail-requires
-fail-requires c κs = search needs
+saved-requires : tie.Need-saved-requires
+saved-requires c κs = search needs
 
 returns-2 : tie.Need-returns-2
 returns-2 c = search needs
-
-returns-3 : tie.Need-returns-3
-returns-3 c = search needs
 
 pub keep-spec : {M : Type 1} → statement M
 keep-spec =
@@ -55,9 +45,6 @@ keep-spec =
     slice-aggregate-spell
     spell-requires
     array-share-prefix-page
-    slice-aggregate-write-all
-    write-all-requires
-    slice-aggregate-fail
-    fail-requires
-    returns-2
-    returns-3)
+    slice-aggregate-saved
+    saved-requires
+    returns-2)

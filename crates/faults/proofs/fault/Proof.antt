@@ -19,16 +19,16 @@ use Rattle.faults.proofs.line_of.Reads as line-of-reads
 use Rattle.gathering.proofs.end_of.Reads as end-of-reads
 
 abbrev Inv-loop : tie.InvT-loop
-Inv-loop text k₀ at₀ k at = (at ≤ length text) × (k ≤ at) × (faultFrom k [] (drop at text) ≡ fault text)
+Inv-loop form text k₀ at₀ k at = (at ≤ length text) × (k ≤ at) × (faultFrom form k [] (drop at text) ≡ fault form text)
 
 abbrev μ-loop : tie.MeasureT-loop
-μ-loop text k₀ at₀ k at = length text - at
+μ-loop form text k₀ at₀ k at = length text - at
 
 returns : tie.Need-returns Inv-loop μ-loop
-returns c = no-bytes _ (c .if1 .taken)
+returns c = no-bytes _ _ (c .if1 .taken)
 
 loop-holds : tie.Need-loop-holds Inv-loop μ-loop
-loop-holds c = (omega arith, omega arith, some-bytes _ (c .if1 .left))
+loop-holds c = (omega arith, omega arith, some-bytes _ _ (c .if1 .left))
 
 sub-end-of : tie.Need-sub-end-of Inv-loop μ-loop
 sub-end-of c = search needs
@@ -63,7 +63,7 @@ returns-2 c =
     let h : l .at < length text = q .before .before .loop-test .taken in
     let n = q .end-of in
     let w = end-within text (l .at) (n .result) h (n .ensures) in
-    sym (without-end text (l .k) (l .at) (n .result) h (n .ensures) (c .if2 .taken)) ∙ l .inv .2
+    sym (without-end _ text (l .k) (l .at) (n .result) h (n .ensures) (c .if2 .taken)) ∙ l .inv .2
 
 sub-line-of : tie.Need-sub-line-of Inv-loop μ-loop
 sub-line-of c = search needs
@@ -95,9 +95,9 @@ returns-3 c =
     let h : l .at < length text = q .before .before .loop-test .taken in
     let n = q .end-of in
     let w = end-within text (l .at) (n .result) h (n .ensures) in
-    let f : c .before .line-of .result ≡ frameOf (l .k) (octetsOf (front (drop (l .at) text))) =
-    c .before .line-of .ensures ∙ ap (λ x. frameOf (l .k) (octetsOf x)) (line-is-front text (l .at) (n .result) (l .at + n .result) (n .ensures) refl) in
-    sym (bad-line text (l .k) (l .at) (n .result) h (n .ensures) (c .before .before .before .if2 .left) (sym f ∙ not-true _ (c .if3 .taken))) ∙ l .inv .2
+    let f : c .before .line-of .result ≡ frameOf (q .before .before .before .before .before .before .args .form) (l .k) (octetsOf (front (drop (l .at) text))) =
+    c .before .line-of .ensures ∙ ap (λ x. frameOf (q .before .before .before .before .before .before .args .form) (l .k) (octetsOf x)) (line-is-front text (l .at) (n .result) (l .at + n .result) (n .ensures) refl) in
+    sym (bad-line _ text (l .k) (l .at) (n .result) h (n .ensures) (c .before .before .before .if2 .left) (sym f ∙ not-true _ (c .if3 .taken))) ∙ l .inv .2
 
 add-at : tie.Need-add-at Inv-loop μ-loop
 add-at c =
@@ -140,16 +140,16 @@ loop-again c =
     let h : l .at < length text = q .before .before .loop-test .taken in
     let n = q .end-of in
     let w = end-within text (l .at) (n .result) h (n .ensures) in
-    let f : c .before .line-of .result ≡ frameOf (l .k) (octetsOf (front (drop (l .at) text))) =
-    c .before .line-of .ensures ∙ ap (λ x. frameOf (l .k) (octetsOf x)) (line-is-front text (l .at) (n .result) (l .at + n .result) (n .ensures) refl) in
+    let f : c .before .line-of .result ≡ frameOf (q .before .before .before .before .before .before .args .form) (l .k) (octetsOf (front (drop (l .at) text))) =
+    c .before .line-of .ensures ∙ ap (λ x. frameOf (q .before .before .before .before .before .before .args .form) (l .k) (octetsOf x)) (line-is-front text (l .at) (n .result) (l .at + n .result) (n .ensures) refl) in
     let i = c .before .before .before .if2 .left in (
       omega arith,
       omega arith,
-      sym (good-line text (l .k) (l .at) (n .result) h (n .ensures) i (sym f ∙ not-false _ (c .if3 .left))) ∙ l .inv .2,
+      sym (good-line _ text (l .k) (l .at) (n .result) h (n .ensures) i (sym f ∙ not-false _ (c .if3 .left))) ∙ l .inv .2,
     )
 
 returns-4 : tie.Need-returns-4 Inv-loop μ-loop
-returns-4 c = let l = c .before .loop in all-passed _ (l .k) (l .at) (let z : length (c .before .before .before .before .args .text .now) ≤ l .at = omega arith in z) (l .inv .2)
+returns-4 c = let l = c .before .loop in all-passed _ _ (l .k) (l .at) (let z : length (c .before .before .before .before .args .text .now) ≤ l .at = omega arith in z) (l .inv .2)
 
 pub fault-spec : {M : Type 1} → statement M
 fault-spec =

@@ -50,7 +50,7 @@ returns c =
     let o = c .before .before .before .octets in
     let s = c .before .before .before .before .before .before .args in
     c .frame-of .ensures
-    ∙ ap (frameOf (s .k)) (rw (o .ensures .1) (front-put (replicate 23 0) (octetsOf (s .line .now)) (o .result) (o .ensures .0)))
+    ∙ ap (frameOf (s .form) (s .k)) (rw (o .ensures .1) (front-put (replicate 23 0) (octetsOf (s .line .now)) (o .result) (o .ensures .0)))
 
 pub line-of-spec : {M : Type 1} → statement M
 line-of-spec =

@@ -25,13 +25,13 @@ recount-requires : tie.Need-recount-requires
 recount-requires c κs = search needs
 
 slice-aggregate-same : tie.Need-slice-aggregate-same
-slice-aggregate-same c = sym (length-take-le 16 (c .before .before .before .before .before .before .before .args .display .now) (omega arith))
+slice-aggregate-same c = sym (length-take-le _ (c .before .before .before .before .before .before .before .args .display .now) (omega arith))
 
 array-share-prefix-counted : tie.Need-array-share-prefix-counted
 array-share-prefix-counted c = search needs
 
 slice-aggregate-same-2 : tie.Need-slice-aggregate-same-2
-slice-aggregate-same-2 c = sym (length-take-le 16 (c .before .before .before .recount .last .1 .1 .0) (search needs))
+slice-aggregate-same-2 c = sym (length-take-le _ (c .before .before .before .recount .last .1 .1 .0) (search needs))
 
 same-requires : tie.Need-same-requires
 same-requires c κs = search needs

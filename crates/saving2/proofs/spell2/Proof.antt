@@ -1,9 +1,8 @@
 -- `spell2` meets its contract: the two lines in front, those of the first form, and the counted numbers stand one behind the other. Assumes nothing.
 use mathlib.Core.Path.{_≡_, refl, ap, sym, subst, _∙_}
 use native.Mathlib.Omega.{arith}
-use mathlib.Core.List.{[], _∷_}
 use lib.ListN.{length}
-use Rattle.hex_lines.proofs.HexLines.{length-line}
+use Rattle.machine.specs.Log.{line}
 use Rattle.saved_lines.proofs.SavedLines.{put-as}
 use Rattle.saving2.proofs.Laws2.{counted-long, within, frames-fit, text2-parts, text2-put}
 use borrow.Author.Needs.{needs}
@@ -42,11 +41,11 @@ put-line-requires : tie.Need-put-line-requires
 put-line-requires c κs = search needs
 
 put-frames-requires : tie.Need-put-frames-requires
+unfolding line
 put-frames-requires c κs =
     let start = c .before .before .before .before .before .before .before .before .before .before .before .before .before .before .before .before .before .before in
     let f = frames-fit (start .pre .0) in
     let n = c .before .before .before .put-line .ensures .next in
-    let k = length-line (0xD8 ∷ start .args .b .width ∷ []) in
     let l = start .pre .1 in
     (start .pre .0, omega arith)
 
@@ -54,13 +53,13 @@ slice-aggregate-put-numbers : tie.Need-slice-aggregate-put-numbers
 slice-aggregate-put-numbers c = search needs
 
 put-numbers-requires : tie.Need-put-numbers-requires
+unfolding line
 put-numbers-requires c κs =
     let start = c .before .before .before .before .before .before .before .before .before .before .before .before .before .before .before .before .before .before .before .before .before .before .before in
     let f = frames-fit (start .pre .0) in
     let w = within (start .pre .0) in
     let n = c .before .before .before .before .before .before .before .before .put-line .ensures .next in
     let m = c .before .before .before .before .put-frames .ensures .next in
-    let k = length-line (0xD8 ∷ start .args .b .width ∷ []) in
     let l = start .pre .1 in
     (w, counted-long _ (c .before .before .before .before .before .before .before .before .before .before .before .before .before .before .before .before .before .before .before .recount .ensures), omega arith)
 
