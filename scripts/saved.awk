@@ -32,7 +32,7 @@ function write_words(text,    count) {
 }
 
 # D2, id, key, precedence, NOWAIT, the number of combinations, the combinations
-function say_waiting(text,    count, i, c) {
+function say_waiting(text,    count, i) {
     count = byte(text, 6)
     words = ""
     add(id_words(byte(text, 1)) " at " signed(byte(text, 4)))
