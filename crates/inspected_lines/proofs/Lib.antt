@@ -1,0 +1,3 @@
+pub mod Witness
+pub mod Lines
+pub mod Inspected

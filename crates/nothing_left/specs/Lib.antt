@@ -1,0 +1,2 @@
+pub mod NothingLeft
+pub mod Settles

@@ -1,0 +1,4 @@
+pub mod Needed
+pub mod Inserting
+pub mod Slipped
+pub mod Witness
