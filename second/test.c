@@ -1479,8 +1479,9 @@ static size_t text_with(unsigned line, const char *other, char *text)
     return length;
 }
 
-/* Loads, and tells whether all that was lent is as it was. */
-static int load_text(unsigned channels, const char *text, size_t length, struct Arbiter *a, struct Display *d, int *untouched)
+/* Loads with one of the two loaders, and tells whether all that was lent is as it was. */
+static int load_with(int (*load)(unsigned, const char *, size_t, struct Arbiter *, struct Display *), unsigned channels,
+                     const char *text, size_t length, struct Arbiter *a, struct Display *d, int *untouched)
 {
     struct Arbiter before;
     struct Display shown_before;
@@ -1490,9 +1491,14 @@ static int load_text(unsigned channels, const char *text, size_t length, struct 
     memset(d, 0x55, sizeof *d);
     memcpy(&before, a, sizeof before);
     memcpy(&shown_before, d, sizeof shown_before);
-    result = saved_load(channels, text, length, a, d);
+    result = load(channels, text, length, a, d);
     *untouched = memcmp(a, &before, sizeof before) == 0 && memcmp(d, &shown_before, sizeof shown_before) == 0;
     return result;
+}
+
+static int load_text(unsigned channels, const char *text, size_t length, struct Arbiter *a, struct Display *d, int *untouched)
+{
+    return load_with(saved_load, channels, text, length, a, d, untouched);
 }
 
 /* This text is refused with 9, nothing is touched, and the line at fault is this one; 0 where only the whole is at fault. */
@@ -1763,17 +1769,7 @@ static size_t text2_with(unsigned line, const char *other, char *text)
 
 static int load_text2(unsigned channels, const char *text, size_t length, struct Arbiter *a, struct Display *d, int *untouched)
 {
-    struct Arbiter before;
-    struct Display shown_before;
-    int result;
-
-    memset(a, 0x55, sizeof *a);
-    memset(d, 0x55, sizeof *d);
-    memcpy(&before, a, sizeof before);
-    memcpy(&shown_before, d, sizeof shown_before);
-    result = saved_load2(channels, text, length, a, d);
-    *untouched = memcmp(a, &before, sizeof before) == 0 && memcmp(d, &shown_before, sizeof shown_before) == 0;
-    return result;
+    return load_with(saved_load2, channels, text, length, a, d, untouched);
 }
 
 /* Refused by both boards with 9, and by to_old too, whatever the room. */
