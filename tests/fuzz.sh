@@ -16,6 +16,9 @@
 . "$(dirname "$0")/begin.sh"
 . tests/trial.sh
 
+what='any bytes'
+programs='generate'
+usual=150
 styles='mix locks nowait queues full aborts precedences refusals malformed lists bytes ties opens cuts cycles desks display'
 styles="$styles many-locks many-steals many-entries many-waiting"
 lines=150
@@ -163,34 +166,4 @@ play_wrong() {
     spoilt "an answer without room is written" 'if (n == 255 && answer_len > 0) answer[0] ^= 1'
 }
 
-# ---- The three ways to run it
-
-case ${1:-} in
-gate)
-    prepare "any bytes" generate
-    seed=1 count=150
-    play_logs
-    tell_counts
-    if reaches; then
-        passed=$((passed + 1))
-    else
-        failed=$((failed + 1))
-    fi
-    play_wrong
-    finish
-    ;;
-wrong)
-    prepare "any bytes" generate
-    seed=1
-    play_wrong
-    finish
-    ;;
-*)
-    seed=${1:-1} count=${2:-150}
-    case $seed$count in *[!0-9]*) die "usage: tests/fuzz.sh [SEED [COUNT]], tests/fuzz.sh gate or tests/fuzz.sh wrong" ;; esac
-    prepare "any bytes" generate
-    play_logs
-    tell_counts
-    [ $failed -eq 0 ]
-    ;;
-esac
+three_ways "$@"

@@ -4,6 +4,7 @@
 #
 #   tests/port.sh [SEED [COUNT]]   COUNT logs; 1 and 64 where not given
 #   tests/port.sh gate             the fixed set of the gate, then the wrong programs. Its last line is 'N passed, M failed'
+#   tests/port.sh wrong            only the wrong programs
 #
 # A log is made by second/generate, in each of its styles, for both boards in turn; every other one is damaged, so that lines are
 # joined, cut or too long. The output of its fragments, put together, must be what arbiter2 writes of the whole. The same words
@@ -13,6 +14,9 @@
 . "$(dirname "$0")/begin.sh"
 . tests/trial.sh
 
+what='the service port'
+programs='arbiter2 generate damage'
+usual=64
 styles='mix locks queues full malformed lists bytes cuts cycles desks display many-waiting'
 kinds='long join cut end'
 lines=60
@@ -88,26 +92,4 @@ play_wrong() {
     spoilt "what is used is told after a refusal" 'if (r != 0) *used = fragment_len'
 }
 
-case ${1:-} in
-gate)
-    prepare "the service port" arbiter2 generate damage
-    seed=1 count=64
-    play_logs
-    if tell_counts; then
-        passed=$((passed + 1))
-    else
-        failed=$((failed + 1))
-        echo "FAILED: some kind of call was never made"
-    fi
-    play_wrong
-    finish
-    ;;
-*)
-    seed=${1:-1} count=${2:-64}
-    case $seed$count in *[!0-9]*) die "usage: tests/port.sh [SEED [COUNT]] or tests/port.sh gate" ;; esac
-    prepare "the service port" arbiter2 generate damage
-    play_logs
-    tell_counts
-    [ $failed -eq 0 ]
-    ;;
-esac
+three_ways "$@"

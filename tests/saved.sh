@@ -16,6 +16,9 @@
 . "$(dirname "$0")/begin.sh"
 . tests/trial.sh
 
+what='saved texts'
+programs='generate'
+usual=48
 styles='saved display saved cuts desks saved full locks saved opens mix cycles'
 lines=100
 tries=8
@@ -140,34 +143,4 @@ play_wrong() {
     spoilt to_old "a byte behind the text to be moved is read" 'seen = from[from_len]'
 }
 
-# ---- The three ways to run it
-
-case ${1:-} in
-gate)
-    prepare "saved texts" generate
-    seed=1 count=48
-    play_logs
-    if tell_counts; then
-        passed=$((passed + 1))
-    else
-        failed=$((failed + 1))
-        echo "FAILED: some kind of call was never made"
-    fi
-    play_wrong
-    finish
-    ;;
-wrong)
-    prepare "saved texts" generate
-    seed=1
-    play_wrong
-    finish
-    ;;
-*)
-    seed=${1:-1} count=${2:-48}
-    case $seed$count in *[!0-9]*) die "usage: tests/saved.sh [SEED [COUNT]], tests/saved.sh gate or tests/saved.sh wrong" ;; esac
-    prepare "saved texts" generate
-    play_logs
-    tell_counts
-    [ $failed -eq 0 ]
-    ;;
-esac
+three_ways "$@"

@@ -1,14 +1,20 @@
 # A trial of the library beside the second program, over logs, and the wrong programs that it must find. POSIX sh; it is read by '.'
 # behind begin.sh. The test that reads it says these:
 #
+#   what           what is tried, in words
+#   programs       the programs of second/ that it needs
+#   usual          how many logs, where no number is given
 #   parts          the parts of its program in C, folder/name, its own first
+#   play_wrong     the wrong programs: prepare_wrong, then each
 #   log NUMBER     makes a log in $work/log, and says in $made how; also $chance and $board, and the test's $tries, for play
 #
-# and has these, of which it may say the first two otherwise:
+# and has these, of which it may say the first three otherwise:
 #
 #   play PROGRAM               plays the log: status 0 where there is no difference, and what the program said in $work/said
 #   tell_counts                what was tried, of $work/counts: status 1 where something was never met
-#   prepare WHAT PROGRAMS..    the library, these programs of second/, and the trial as $work/trial
+#   reaches                    status 1 where something else was never met
+#   three_ways WORDS..         the trial, by the words of the command: [SEED [COUNT]], gate or wrong
+#   prepare                    the library, the programs, and the trial as $work/trial
 #   play_logs                  $count logs of $seed; what was counted in $work/counts
 #   prepare_wrong              what the wrong programs are made from
 #   must_differ NAME WORDS..   the program made from these finds a difference in one of forty logs
@@ -33,15 +39,49 @@ tell_counts() {
         }' "$work/counts"
 }
 
+reaches() {
+    :
+}
+
+three_ways() {
+    case ${1:-} in
+    gate)
+        prepare
+        seed=1 count=$usual
+        play_logs
+        if tell_counts && reaches; then
+            passed=$((passed + 1))
+        else
+            failed=$((failed + 1))
+            echo "FAILED: some kind of call was never made"
+        fi
+        play_wrong
+        finish
+        ;;
+    wrong)
+        prepare
+        seed=1
+        play_wrong
+        finish
+        ;;
+    *)
+        seed=${1:-1} count=${2:-$usual}
+        case $seed$count in *[!0-9]*) die "usage: $0 [SEED [COUNT]], $0 gate or $0 wrong" ;; esac
+        prepare
+        play_logs
+        tell_counts
+        [ $failed -eq 0 ]
+        ;;
+    esac
+}
+
 prepare() {
-    what=$1
-    shift
     if ! linker_ready; then
         not_run "$what: the library is for x86-64, and no $linker or no emulator is here, and none could be installed"
         echo "0 passed, 0 failed"
         exit $skipped
     fi
-    library_ready && make -C second -s ${CC:+CC="$CC"} "$@" >"$work/made" 2>&1 &&
+    library_ready && make -C second -s ${CC:+CC="$CC"} $programs >"$work/made" 2>&1 &&
         link_c "$work/trial" $(printf '%s.c ' $parts) >>"$work/made" 2>&1 && return
     [ ! -f "$work/made" ] || cat "$work/made"
     echo "FAILED: the library or its trial does not build"
