@@ -35,9 +35,9 @@ fn kept(cs: [Channel; 8], table: &[u8], id: u8, kind: Kind) -> bool
 {
     match kind {
         Kind::Write(key, lead) => entries::is_write(table, id, key, id == lead),
-        Kind::Lock => entries::is_sound_lock(cs, table, id),
-        Kind::Cycle => entries::is_sound_waiter(cs, table, id),
-        Kind::Wait(top) => entries::is_sound_wait(table, id, top),
+        Kind::Lock => span_entries::is_sound_lock(cs, table, id),
+        Kind::Cycle => span_entries::is_sound_waiter(cs, table, id),
+        Kind::Wait(top) => wait_entries::is_sound_wait(table, id, top),
     }
 }
 

@@ -11,16 +11,16 @@ use mathlib.Core.List.{[]}
 use Rattle.channel.specs.declared.Channel.{Channel}
 use Rattle.channel.specs.Channel.{lowestFrom}
 use Rattle.store.specs.Store.{writeIn, lockIn}
 use Rattle.entries.specs.Entries.{waiterTest}
-use Rattle.entries.proofs.Waiters.{nowhere, other-bits, waits-at}
+use Rattle.span_entries.proofs.Waiters.{nowhere, other-bits, waits-at}
 use borrow.Author.Needs.{needs}
-use Rattle.entries.proofs.is_sound_waiter.Statement.{statement}
-use Rattle.entries.proofs.is_sound_waiter.Tie as tie
-use Rattle.entries.proofs.is_sound_waiter.Reads as reads
-use Rattle.entries.proofs.is_sound_waiter.Lts as lts
+use Rattle.span_entries.proofs.is_sound_waiter.Statement.{statement}
+use Rattle.span_entries.proofs.is_sound_waiter.Tie as tie
+use Rattle.span_entries.proofs.is_sound_waiter.Reads as reads
+use Rattle.span_entries.proofs.is_sound_waiter.Lts as lts
 use Rattle.channel.proofs.lowest.Reads as lowest-reads
-use Rattle.entries.proofs.is_span.Reads as is-span-reads
-use Rattle.entries.proofs.writes_for.Reads as writes-for-reads
+use Rattle.span_entries.proofs.is_span.Reads as is-span-reads
+use Rattle.span_entries.proofs.writes_for.Reads as writes-for-reads
 use Rattle.table.proofs.key.Reads as key-reads
 use Rattle.table.proofs.map.Reads as map-reads
 

@@ -1,8 +1,8 @@
 -- `is_span` meets its contract: the bytes that it compares with are those of the entry of the lock or WAITCYCLE that is read. Assumes nothing.
 use Rattle.table.specs.Entry.{spanEntry}
 use borrow.Author.Needs.{needs}
-use Rattle.entries.proofs.is_span.Statement.{statement}
-use Rattle.entries.proofs.is_span.Tie as tie
+use Rattle.span_entries.proofs.is_span.Statement.{statement}
+use Rattle.span_entries.proofs.is_span.Tie as tie
 
 key-requires : tie.Need-key-requires
 key-requires c κs = search needs

@@ -4,10 +4,10 @@ use lib.ListN.{length}
 use borrow.Author.Needs.{needs}
 use borrow.Author.Tests.{eq-eqb, ne-eqb}
 use Rattle.shapes.proofs.Cases.{none-written}
-use Rattle.entries.proofs.writes_for.Statement.{statement}
-use Rattle.entries.proofs.writes_for.Tie as tie
-use Rattle.entries.proofs.writes_for.Reads as reads
-use Rattle.entries.proofs.writes_for.Lts as lts
+use Rattle.span_entries.proofs.writes_for.Statement.{statement}
+use Rattle.span_entries.proofs.writes_for.Tie as tie
+use Rattle.span_entries.proofs.writes_for.Reads as reads
+use Rattle.span_entries.proofs.writes_for.Lts as lts
 
 returns : tie.Need-returns
 returns c = rw (ne-eqb _ _ (c .if1 .taken)) refl
