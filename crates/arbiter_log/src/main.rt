@@ -9,8 +9,11 @@ use taking::Show;
 ghost use lib.Dec.{T};
 ghost use Prim.Native.Nat.{_≤_};
 ghost use lib.ListN.{length};
-ghost use Rattle.board.specs.Board.{sized};
+ghost use Rattle.board.specs.Board.{sized, Held};
 ghost use Rattle.arbiter_log.specs.Desk.{Ready};
+
+// The descriptor that ./arbiter-log opens, where it has the file.
+const SAVED: i32 = 4;
 
 // What the second word asks for.
 struct Asked {
@@ -175,6 +178,32 @@ fn last(
     }
 }
 
+// A text, to where it is saved.
+fn saved(text: &[u8]) {
+    let ok = io::write_all(SAVED, text);
+    if !ok {
+        os::fail(b"save");
+    }
+}
+
+// The text of the state at the end, in the first form. Eight channels have none.
+fn keep(b: Board, table: &[u8])
+    requires { ⌜ Held b (now table) ⌝ }
+{
+    let mut page = [0u8; saving::LONGEST];
+    let n = keeping::first_form(b, table, &mut page);
+    saved(&page[..n]);
+}
+
+// The same in the second form.
+fn keep2(b: Board, table: &[u8])
+    requires { ⌜ Held b (now table) ⌝ }
+{
+    let mut page = [0u8; saving2::LONGEST];
+    let n = saving2::spell2(b, table, &mut page);
+    saved(&page[..n]);
+}
+
 // How many channels the board has.
 fn width() -> u8
     ensures { λ r. ⌜ T (sized r) ⌝ }
@@ -254,9 +283,9 @@ fn main() {
         if z.ok {
             let b = z.state;
             if a.second {
-                keeping::keep2(b, &table);
+                keep2(b, &table);
             } else {
-                keeping::keep(b, &table);
+                keep(b, &table);
             }
         }
     }

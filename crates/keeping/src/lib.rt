@@ -1,37 +1,17 @@
-// What the log program keeps at its end: the text of the state, on descriptor 4. It calls `saving` and `saving2`, and writes: what is
-// written is the C library's to say, and that each page is passed to `saved` as it was handed back stands in `keep` and `keep2` to be
-// read. Assumes nothing.
+// What the log program keeps at its end, in the first form: the text of its state. Assumes nothing.
 use board::Board;
+ghost use mathlib.Core.Path.{_≡_};
+ghost use lib.ListN.{length};
 ghost use Rattle.board.specs.Board.{Held};
+ghost use Rattle.keeping.specs.Keeping.{Kept};
 
-// The descriptor that ./arbiter-log opens, where it has the file.
-const SAVED: i32 = 4;
-
-// A text, to where it is saved.
-fn saved(text: &[u8]) {
-    let ok = io::write_all(SAVED, text);
-    if !ok {
-        os::fail(b"save");
-    }
-}
-
-// The text of the state at the end, in the first form. Eight channels have none.
-pub fn keep(b: Board, table: &[u8])
-    requires { ⌜ Held b (now table) ⌝ }
+// The text of four channels, in front of the page; how long it is. Eight have none: 0, and nothing is written.
+pub fn first_form(b: Board, table: &[u8], page: &mut [u8]) -> usize
+    requires { ⌜ Held b (now table) × (length (now page) ≡ 3344) ⌝ }
+    ensures { λ n. ⌜ Kept b (now (table .entry)) (now (page .entry)) n (now (page .exit)) ⌝ }
 {
     if b.width != Board::FOUR {
-        return;
+        return 0;
     }
-    let mut page = [0u8; saving::LONGEST];
-    let n = saving::spell(b, table, &mut page);
-    saved(&page[..n]);
-}
-
-// The same in the second form.
-pub fn keep2(b: Board, table: &[u8])
-    requires { ⌜ Held b (now table) ⌝ }
-{
-    let mut page = [0u8; saving2::LONGEST];
-    let n = saving2::spell2(b, table, &mut page);
-    saved(&page[..n]);
+    saving::spell(b, table, page)
 }

@@ -4,11 +4,11 @@ use lib.Seq.{length-take-le}
 use Rattle.saving.proofs.Laws.{page-within}
 use Rattle.saving2.proofs.Laws2.{text2-fits}
 use borrow.Author.Needs.{needs}
-use Rattle.keeping.proofs.keep2.Statement.{statement}
-use Rattle.keeping.proofs.keep2.Tie as tie
-use Rattle.keeping.proofs.keep2.Reads as reads
-use Rattle.keeping.proofs.keep2.Lts as lts
-use Rattle.keeping.proofs.saved.Reads as saved-reads
+use Rattle.arbiter_log.proofs.keep2.Statement.{statement}
+use Rattle.arbiter_log.proofs.keep2.Tie as tie
+use Rattle.arbiter_log.proofs.keep2.Reads as reads
+use Rattle.arbiter_log.proofs.keep2.Lts as lts
+use Rattle.arbiter_log.proofs.saved.Reads as saved-reads
 use Rattle.saving2.proofs.spell2.Reads as spell2-reads
 
 slice-aggregate-spell2 : tie.Need-slice-aggregate-spell2
