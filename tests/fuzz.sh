@@ -40,29 +40,17 @@ log() {
 
 # What was tried, and which numbers came back.
 tell_counts() {
-    echo "seed $seed, $count logs, $failed of them with a difference:"
-    awk '
-        { name = $0; sub(/^count [0-9]* /, "", name) }
-        !(name in sum) { order[++names] = name }
-        { sum[name] += $2 }
-        END {
-            for (i = 1; i <= names; i++) {
-                name = order[i]
-                if (name !~ /^(answer|outstanding|reply) /)
-                    printf "%9d %s\n", sum[name], name
-                else if (sum[name]) {
-                    split(name, word, " ")
-                    met[word[1]] = met[word[1]] sprintf("%s %s: %d", met[word[1]] ? "," : "", word[2], sum[name])
-                }
-            }
-            printf "answers, by error:%s\noutstanding:%s\nreplies, by error:%s\n", met["answer"], met["outstanding"], met["reply"]
-        }' "$work/counts"
+    tell_logs
+    sums | awk '
+        $2 !~ /^(answer|outstanding|reply)$/ { number = $1; sub(/^[0-9]* /, ""); printf "%9d %s\n", number, $0; next }
+        $1 { met[$2] = met[$2] sprintf("%s %s: %d", met[$2] ? "," : "", $3, $1) }
+        END { printf "answers, by error:%s\noutstanding:%s\nreplies, by error:%s\n", met["answer"], met["outstanding"], met["reply"] }'
 }
 
 # reaches: every number that a call can give back has come back, and every kind of call was made.
 reaches() {
-    awk '
-        { name = $0; sub(/^count [0-9]* /, "", name); sum[name] += $2 }
+    sums | awk '
+        { number = $1; sub(/^[0-9]* /, ""); sum[$0] = number }
         END {
             want = "answer 0,answer 1,answer 2,answer 3,answer 4,answer 5,answer 8,answer -1,answer -3,answer -4,answer -5,answer -10,answer -11"
             want = want ",outstanding 0,reply 0,reply -2,reply -3,reply -4,reply -5,reply -10,reply -11,reply -12"
@@ -78,7 +66,7 @@ reaches() {
                     missing = 1
                 }
             exit missing
-        }' "$work/counts"
+        }'
 }
 
 # ---- The wrong programs

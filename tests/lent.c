@@ -136,3 +136,10 @@ void show_bytes(const char *name, const struct Bytes *b)
         printf("%02X", b->byte[i]);
     printf("\n");
 }
+
+int same_number(const char *name, size_t is, size_t must)
+{
+    if (is != must)
+        printf("DIFFERENT: %s is %lu and must be %lu\n", name, (unsigned long)is, (unsigned long)must);
+    return is == must;
+}

@@ -38,6 +38,9 @@ int lent_same(const struct Lent *l, const struct Bytes *want, const char *name);
 void lend_bytes(struct Lent *l, const uint8_t *byte, size_t length);
 int lent_same_bytes(const struct Lent *l, const uint8_t *want, const char *name);
 
+/* The same of a number that a call gave back. */
+int same_number(const char *name, size_t is, size_t must);
+
 /* As many bytes of any kind. */
 void fill(struct Bytes *b, size_t length);
 

@@ -139,13 +139,6 @@ static void different(const struct Call *c)
     exit(1);
 }
 
-static int same_number(const char *name, size_t is, size_t must)
-{
-    if (is != must)
-        printf("DIFFERENT: %s is %lu and must be %lu\n", name, (unsigned long)is, (unsigned long)must);
-    return is == must;
-}
-
 /* Makes the call through the library and compares. The call becomes what the memory holds after it. */
 static void make_call(struct Call *c)
 {

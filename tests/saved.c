@@ -219,13 +219,6 @@ static void different(const struct Call *c)
     exit(1);
 }
 
-static int same_number(const char *name, size_t is, size_t must)
-{
-    if (is != must)
-        printf("DIFFERENT: %s is %lu and must be %lu\n", name, (unsigned long)is, (unsigned long)must);
-    return is == must;
-}
-
 static unsigned call_library(const struct Call *c, size_t *written)
 {
     const struct Lent *s = &lent[STATE], *t = &lent[TABLE], *d = &lent[DISPLAY], *from = &lent[PIECES], *room = &lent[PIECES + 1];

@@ -11,9 +11,11 @@
 # and has these, of which it may say the first three otherwise:
 #
 #   play PROGRAM               plays the log: status 0 where there is no difference, and what the program said in $work/said
-#   tell_counts                what was tried, of $work/counts: status 1 where something was never met
+#   tell_counts                what was tried, by sums: status 1 where something was never met
 #   reaches                    status 1 where something else was never met
 #   three_ways WORDS..         the trial, by the words of the command: [SEED [COUNT]], gate or wrong
+#   sums                       what was counted in $work/counts, in all
+#   tell_logs                  how many logs were played
 #   prepare                    the library, the programs, and the trial as $work/trial
 #   play_logs                  $count logs of $seed; what was counted in $work/counts
 #   prepare_wrong              what the wrong programs are made from
@@ -24,19 +26,24 @@ play() {
     run_c "$1" $chance $tries $board <"$work/log" >"$work/said" 2>&1
 }
 
-tell_counts() {
-    echo "seed $seed, $count logs, $failed of them with a difference:"
+# sums: 'NUMBER NAME' for each name that was counted, in the order in which they were met.
+sums() {
     awk '
         { name = $0; sub(/^count [0-9]* /, "", name) }
         !(name in sum) { order[++names] = name }
         { sum[name] += $2 }
-        END {
-            for (i = 1; i <= names; i++) {
-                printf "%9d %s\n", sum[order[i]], order[i]
-                missing += !sum[order[i]]
-            }
-            exit missing > 0 || names == 0
-        }' "$work/counts"
+        END { for (i = 1; i <= names; i++) print sum[order[i]], order[i] }' "$work/counts"
+}
+
+tell_logs() {
+    echo "seed $seed, $count logs, $failed of them with a difference:"
+}
+
+tell_counts() {
+    tell_logs
+    sums | awk '
+        { number = $1; sub(/^[0-9]* /, ""); printf "%9d %s\n", number, $0; missing += !number }
+        END { exit missing > 0 || NR == 0 }'
 }
 
 reaches() {

@@ -23,7 +23,7 @@ use Rattle.board.proofs.Laws.{held-of, held-width, one-state, stateIn-of}
 use Rattle.sound.specs.Sound.{Decides, boardTest}
 use Rattle.sound.proofs.Own.{decides}
 use Rattle.saved.specs.Saved.{FIRST, frames, spelt, text, TextOf}
-use Rattle.saved_frames.specs.SavedFrames.{Sheet, Took}
+use Rattle.sheet.specs.Sheet.{Sheet, Took}
 use Rattle.reading.specs.Reading.{readFrom}
 use Rattle.read_back.proofs.WholeText.{text-read}
 use Rattle.hex_lines.specs.HexLines.{Put}

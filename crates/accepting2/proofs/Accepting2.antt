@@ -17,7 +17,7 @@ use Rattle.board.specs.Board.{sized, structOf, stateIn, Held}
 use Rattle.board.proofs.Laws.{held-of, held-width, held-sized, stateIn-of}
 use Rattle.sound.specs.Sound.{Decides, boardTest}
 use Rattle.sound.proofs.Own.{decides}
-use Rattle.saved_frames.specs.SavedFrames.{Sheet, Took}
+use Rattle.sheet.specs.Sheet.{Sheet, Took}
 use Rattle.reading.specs.Reading.{readFrom}
 use Rattle.hex_lines.specs.HexLines.{Put}
 use Rattle.accepting.specs.declared.Found.{Found}

@@ -1,32 +1,23 @@
 -- What the program begins with is ready, and a call of `fill` or `finish` leaves it so. Assumes nothing.
 use Prim.Native.Nat.{ℕ, _+_, _-_, _≤_, _<_}
-use mathlib.Core.Path.{_≡_, refl, ap, sym, subst, _∙_}
+use mathlib.Core.Path.{_≡_, ap}
 use mathlib.Core.Bool.{Bool, true, false}
 use mathlib.Core.List.{List}
 use native.Mathlib.Nat.{zero-add}
 use native.Mathlib.Omega.{arith}
-use lib.Dec.{T}
-use lib.ListN.{length, take, drop, replicate, length-drop}
+use lib.ListN.{length, take, drop, length-drop}
 use lib.Seq.{take-all}
 use Rattle.machine.specs.Lists.{if_then_else_}
-use Rattle.machine.specs.State.{frees, freshOn}
-use Rattle.display.specs.Display.{blank}
-use Rattle.board.specs.declared.Board.{Board}
-use Rattle.store.specs.Store.{tableOf, entries, lookup, items, writeItems}
-use Rattle.board.specs.Board.{sized, freshBoard, Held}
-use Rattle.board.proofs.Laws.{table-wide, fresh-of}
 use Rattle.taking.specs.declared.Show.{Show}
 use Rattle.taking.specs.declared.Taken.{Taken}
 use Rattle.taking.specs.Desk.{deskOf, needed, filled}
 use Rattle.paging.specs.Paging.{Fills}
 use Rattle.finishing.specs.Finishing.{Finishes}
 use Rattle.whole_log.proofs.Progress.{Went, desk-good, fills-went, fills-on, finished-went, left-held, left-shown, left-within, left-inside, left-size, left-used}
-use Rattle.whole_log.proofs.Whole.{fresh-held}
 use Rattle.arbiter_log.specs.declared.Desk.{Desk}
 use Rattle.accepting.specs.declared.Found.{Found}
-use Rattle.accepting.proofs.Accepting.{false-true}
-use Rattle.carrying.specs.Carrying.{Resumes, Resumes2}
-use Rattle.arbiter_log.specs.Desk.{Ready, Loaded, Begins}
+use Rattle.beginning.specs.Beginning.{Begins}
+use Rattle.arbiter_log.specs.Desk.{Ready}
 
 -- the room that a page of the program has is enough, whatever is shown
 enough : (show : Show) {k : ℕ} → 1836 ≤ k → 0 + needed show ≤ k
@@ -82,49 +73,8 @@ finish-ready {show} {d} {tb} {dp} {l} {page} r w ok =
     let m = r .room in
     record { held = left-held v (w .leaves); shown = left-shown v (w .leaves); within = left-within v (w .leaves); room = omega arith }
 
--- where the program begins: the fresh device, and a table of zeros; or what was loaded
-
-none-table : tableOf (freshOn 0) ≡ replicate 1472 0
-unfolding tableOf entries lookup items writeItems frees
-none-table = refl
-
-fresh-table : (w : ℕ) → tableOf (freshOn w) ≡ replicate 1472 0
-unfolding frees
-fresh-table w = table-wide w (freshOn 0) ∙ none-table
-
-fresh-begun : (w : ℕ) → T (sized w) → {s : Board} → s ≡ freshBoard w → Held s (replicate 1472 0)
-fresh-begun w t {s} e = subst (Held s) (fresh-table w) (subst (λ (x : Board). Held x (tableOf (freshOn w))) (sym (e ∙ fresh-of w t)) (fresh-held w t))
+-- where the program begins
 
 module _ {load second : Bool} {w : ℕ} {tb dp : List ℕ} where
-  pub begins-fresh : T (sized w) → {s : Board} → load ≡ false → s ≡ freshBoard w → tb ≡ replicate 1472 0 → dp ≡ blank → Begins load second w (record { ok = true; board = s }) tb dp
-  begins-fresh t {s} n e a b =
-      record {
-        fresh = λ _. (ap (λ (x : Board). record { ok = true; board = x }) e, a, b);
-        loaded = λ y _. absurd (false-true (sym n ∙ y));
-        loaded2 = λ y _. absurd (false-true (sym n ∙ y));
-        held = λ _. subst (Held s) (sym a) (fresh-begun w t e);
-        shown = ap length b;
-      }
-
-  pub begins-loaded : {t : List ℕ} {f : Found} → load ≡ true → second ≡ false → Resumes t f tb dp → length dp ≡ 18 → Begins load second w f tb dp
-  begins-loaded {t} y z r k =
-      record {
-        fresh = λ n. absurd (false-true (sym n ∙ y));
-        loaded = λ _ _. record { text = t; resumes = r };
-        loaded2 = λ _ m. absurd (false-true (sym z ∙ m));
-        held = λ o. r .accepts .yes o .held;
-        shown = k;
-      }
-
-  pub begins-loaded2 : {t : List ℕ} {f : Found} → load ≡ true → second ≡ true → Resumes2 w t f tb dp → length dp ≡ 18 → Begins load second w f tb dp
-  begins-loaded2 {t} y z r k =
-      record {
-        fresh = λ n. absurd (false-true (sym n ∙ y));
-        loaded = λ _ m. absurd (false-true (sym m ∙ z));
-        loaded2 = λ _ _. record { text = t; resumes = r };
-        held = λ o. r .accepts .yes o .held;
-        shown = k;
-      }
-
   pub begun-ready : {f : Found} {ok : Bool} {page : List ℕ} → Begins load second w f tb dp → f .ok ≡ true → 65536 ≡ length page → Ready (record { state = f .board; line = 0; ok = ok }) tb dp page
   begun-ready e o n = record { held = e .held o; shown = e .shown; within = omega arith; room = omega arith }

@@ -2,26 +2,18 @@
 // channels, 4 or 8, and 4 where it is anything else or left out. Its second is a word of five letters at most: where c is among them, the
 // board's channels are told after each line, and where d is, then the wall display; where l is, it goes on from the saved text on
 // descriptor 3, and where s is, the text of the state at the end goes to descriptor 4; where t is, these texts are of the second form. It
-// reads, calls `carrying`, `paging`, `finishing`, `saving` and `saving2`, and writes: what is read and written is the C library's to say,
-// and that each page is passed to `write` as it was handed back stands in `lump`, `last`, `keep` and `keep2` to be read.
-use accepting::Found;
+// reads, calls `beginning`, `paging`, `finishing` and `keeping`, and writes: what is read and written is the C library's to say, and that
+// each page is passed to `write` as it was handed back stands in `lump` and `last` to be read.
 use board::Board;
 use taking::Show;
-ghost use mathlib.Core.Path.{_≡_};
 ghost use lib.Dec.{T};
 ghost use Prim.Native.Nat.{_≤_};
-ghost use lib.ListN.{length, replicate};
-ghost use Rattle.display.specs.Display.{blank};
+ghost use lib.ListN.{length};
 ghost use Rattle.board.specs.Board.{sized, Held};
-ghost use Rattle.arbiter_log.specs.Desk.{Ready, Begins};
+ghost use Rattle.arbiter_log.specs.Desk.{Ready};
 
-// The descriptors that ./arbiter-log opens, where it has the files.
-const LOADED: i32 = 3;
-
+// The descriptor that ./arbiter-log opens, where it has the file.
 const SAVED: i32 = 4;
-
-// A byte more than the longest text has, which is enough to see that a text is none.
-const MOST: usize = 3522;
 
 // What the second word asks for.
 struct Asked {
@@ -198,11 +190,8 @@ fn saved(text: &[u8]) {
 fn keep(b: Board, table: &[u8])
     requires { ⌜ Held b (now table) ⌝ }
 {
-    if b.width != Board::FOUR {
-        return;
-    }
     let mut page = [0u8; saving::LONGEST];
-    let n = saving::spell(b, table, &mut page);
+    let n = keeping::first_form(b, table, &mut page);
     saved(&page[..n]);
 }
 
@@ -260,30 +249,12 @@ fn words() -> Asked {
     }
 }
 
-// What the program begins with: a fresh board of w channels; or the board of the loaded text, its table and its display. A text of the
-// second form is one of w channels.
-fn begin(load: bool, second: bool, w: u8, table: &mut [u8], display: &mut [u8]) -> Found
-    requires { ⌜ (T (sized w)) × (now table ≡ replicate 1472 0) × (now display ≡ blank) ⌝ }
-    ensures { λ r. ⌜ Begins load second w r (now (table .exit)) (now (display .exit)) ⌝ }
-{
-    if !load {
-        let s = Board::fresh(w);
-        return Found { ok: true, board: s };
-    }
-    let mut text = [0u8; MOST];
-    let n = io::read_full(LOADED, &mut text);
-    if second {
-        return carrying::resume2(w, &text[..n], table, display);
-    }
-    carrying::resume(&text[..n], table, display)
-}
-
 fn main() {
     let a = words();
     let w = width();
     let mut table = [0u8; 1472];
     let mut display = [0u8; 18];
-    let f = begin(a.load, a.second, w, &mut table, &mut display);
+    let f = beginning::begin(a.load, a.second, w, &mut table, &mut display);
     if !f.ok {
         io::write_all(libc::STDERR_FILENO, b"the text is refused\n");
         return;

@@ -33,7 +33,8 @@ use Rattle.desk_call.proofs.Promise.{one-call, one-display, refused-unmoved, fe
 use Rattle.sizes.specs.Sizes.{TABLE, ANSWER}
 use Rattle.handed.specs.Handed.{opFor, answerBytes}
 use Rattle.starting.specs.Starting.{Fits, Started}
-use Rattle.boundary.specs.Boundary.{Room, Unanswered, Unread, Carried, Crossed}
+use Rattle.bytes_call.specs.BytesCall.{Carried}
+use Rattle.boundary.specs.Boundary.{Room, Unanswered, Unread, Crossed}
 
 -- ---- which case it is
 

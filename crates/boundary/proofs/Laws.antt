@@ -8,15 +8,14 @@ use Rattle.machine.specs.Commands.{done}
 use Rattle.machine.specs.Log.{opOf}
 use Rattle.machine.proofs.Tests.{test-true}
 use Rattle.image.specs.Image.{isWhole, Whole}
-use Rattle.board.specs.declared.Board.{Board}
 use Rattle.answers.specs.declared.Request.{Request}
 use Rattle.answers.specs.declared.Answer.{Answer}
 use Rattle.answers.specs.Answers.{answerOf}
 use Rattle.refusals.specs.declared.Op.{Op}
 use Rattle.refusing.proofs.Laws.{false-true}
-use Rattle.arbiter.specs.Arbiter.{Shows}
 use Rattle.handed.specs.Handed.{opFor, requestOf, answerBytes}
-use Rattle.boundary.specs.Boundary.{Room, Carried, Crossed}
+use Rattle.bytes_call.specs.BytesCall.{Carried}
+use Rattle.boundary.specs.Boundary.{Room, Crossed}
 
 -- ---- the request
 
@@ -52,9 +51,3 @@ module _ {op : ℕ} {r : Request} {ms st tb dp l an : List ℕ} where
         unread = λ _ y. absurd (y w);
         carried = λ _ _. subst (λ (o : Op). Carried o r ms st tb dp l n st′ tb′ dp′ l′ an′) e (subst (λ (y : Request). Carried o y ms st tb dp l n st′ tb′ dp′ l′ an′) f c);
       }
-
--- ---- the display in an array of the code's own
-
-pub shown-as : {o : Op} {r : Request} {b : Board} {ms tb l xs ys dp dp′ : List ℕ} → xs ≡ dp → dp′ ≡ ys → Shows o r b ms tb l xs ys → Shows o r b ms tb l dp dp′
-shown-as {o} {r} {b} {ms} {tb} {l} {xs} {ys} {dp} e f c =
-    subst (λ (x : List ℕ). Shows o r b ms tb l dp x) (sym f) (subst (λ (x : List ℕ). Shows o r b ms tb l x ys) e c)

@@ -5,26 +5,21 @@
 --   Room an dp                 the answer is lent its eight bytes and the display its 18
 --   Unanswered ..              they are not: 255, and nothing moved
 --   Unread key ..              the state's bytes hold no struct: no replies, the answer 1 with map 0 and the key given, and nothing else moved
---   Carried o r ..             a desk's call on the struct that the state's bytes hold: its outcome, whose state is saved in their
---                              place; the display that it shows; the result is the number of replies in both halves, the answer has each
 --   Crossed op r ..            the promise of `call`
-use Prim.Native.Nat.{ℕ, _+_}
+use Prim.Native.Nat.{ℕ}
 use mathlib.Core.Path.{_≡_}
 use mathlib.Core.List.{List}
 use lib.ListN.{length}
 use Rattle.machine.specs.Numbers.{UNSOUND, NONE}
 use Rattle.machine.specs.Commands.{done}
 use Rattle.machine.specs.Log.{opOf}
-use Rattle.image.specs.Image.{stateOf, Whole, Saved}
+use Rattle.image.specs.Image.{Whole}
 use Rattle.answers.specs.declared.Request.{Request}
 use Rattle.answers.specs.Answers.{answerOf}
-use Rattle.refusals.specs.declared.Op.{Op}
 use Rattle.display.specs.Display.{DISPLAY}
-use Rattle.arbiter.specs.Arbiter.{Shows}
-use Rattle.desk_call.specs.declared.Outcome.{Outcome}
-use Rattle.desk_call.specs.DeskCall.{Called}
 use Rattle.sizes.specs.Sizes.{ANSWER}
 use Rattle.handed.specs.Handed.{opFor, answerBytes}
+use Rattle.bytes_call.specs.BytesCall.{Carried}
 
 abbrev pub UNANSWERED : ℕ
 UNANSWERED = 255
@@ -47,14 +42,6 @@ pub record Unread (key : ℕ) (st tb dp l : List ℕ) (n : ℕ) (st′ tb′ dp�
   pub display : dp′ ≡ dp
   pub list : l′ ≡ l
   pub answer : an′ ≡ answerBytes (answerOf (done UNSOUND 0 key NONE)) 0 0
-
-pub record Carried (o : Op) (r : Request) (ms st tb dp l : List ℕ) (n : ℕ) (st′ tb′ dp′ l′ an′ : List ℕ) : Type 0 where
-  pub outcome : Outcome
-  pub called : Called o r (stateOf st) ms tb l outcome tb′ l′
-  pub shown : Shows o r (stateOf st) ms tb l dp dp′
-  pub count : n ≡ outcome .a + outcome .b
-  pub state : Saved (outcome .state) st′
-  pub answer : an′ ≡ answerBytes (outcome .answer) (outcome .a) (outcome .b)
 
 pub record Crossed (op : ℕ) (r : Request) (ms st tb dp l an : List ℕ) (n : ℕ) (st′ tb′ dp′ l′ an′ : List ℕ) : Type 0 where
   pub unanswered : (Room an dp → ⊥) → Unanswered st tb dp l an n st′ tb′ dp′ l′ an′

@@ -30,7 +30,7 @@ use Rattle.image.specs.Image.{stateOf, Whole, channelBytes}
 use Rattle.answers.specs.Answers.{answerOf}
 use Rattle.desk_call.specs.DeskCall.{Told}
 use Rattle.handed.specs.Handed.{opFor, answerBytes}
-use Rattle.boundary.specs.Boundary.{Carried}
+use Rattle.bytes_call.specs.BytesCall.{Carried}
 use Rattle.boundary.proofs.Crossing.{sound-after}
 use Rattle.two_runs.specs.TwoRuns.{Party, Start, Step, our, their, Keeps as KeepsM, Run as RunM, calls, counted, inBytes, lends, own, said, view, waitersOf, ownReplies, Seen, answered, received, owning, seen}
 use Rattle.two_runs.specs.Core.{Goes}

@@ -25,8 +25,8 @@ use Rattle.store.specs.declared.State.{State}
 use Rattle.store.specs.Store.{writeItem, stateIn, Held, Small}
 use Rattle.store.specs.Work.{Ready, Did}
 use Rattle.store.proofs.Store.{held-parts, held-eight, write-ids}
-use Rattle.granting.specs.declared.Dropped.{Dropped}
-use Rattle.granting.specs.Granting.{writesIn, Writables, heldIn, Dropping, Drops}
+use Rattle.dropped_writes.specs.declared.Dropped.{Dropped}
+use Rattle.dropped_writes.specs.DroppedWrites.{writesIn, Writables, heldIn, Dropping, Drops}
 use Rattle.granting.proofs.Laws.{Splits, Cuts, aborted-of, writes-of, aborted-changed, writes-changed, writables-of, held-channels, held-changed, dropping, cuts}
 use Rattle.answers.specs.declared.Request.{Request}
 use Rattle.answers.specs.declared.Answer.{Answer}

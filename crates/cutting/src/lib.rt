@@ -32,7 +32,7 @@ pub fn cut_fronts(s: State, table: &mut [u8], replies: &mut [u8], n: usize, map:
     let cs = s.channels;
     let fronts = channel::change_named(cs, map, Change::FrontOnly);
     let q = s.waiters;
-    let d = granting::drop_named(table, replies, n, fronts, q, map);
+    let d = dropped_writes::drop_named(table, replies, n, fronts, q, map);
     let ds = channel::change_named(cs, map, Change::FrontGone);
     let left = d.waiters;
     let mut t = s;

@@ -2,8 +2,7 @@
 -- looks never exceed 2,080.
 -- Assumes nothing.
 --
---   afterCalls s cs, shownAfter s cs d   the state and the display after calls
---   Orderly cs                           each call's numbers fit their bytes
+--   Orderly cs   each call's numbers fit their bytes
 use Prim.Native.Nat.{ℕ, _≤_}
 use mathlib.Core.Path.{_≡_, refl}
 use mathlib.Core.List.{List, [], _∷_}
@@ -15,16 +14,9 @@ use Rattle.machine.specs.Sound.{sound}
 use Rattle.machine.specs.Call.{call, inRange}
 use Rattle.machine_laws.proofs.KeepingCalls.{Counted, call-sound}
 use Rattle.display.specs.Display.{NUMBERS, DISPLAY, blank, numbers, looksOf, displayed}
+use Rattle.display.specs.Runs.{afterCalls, shownAfter}
 use Rattle.display.proofs.Looks.{looked-few}
 use Rattle.display.proofs.Display.{displayed-length, displayed-agrees, displayed-looks, blank-agrees}
-
-unfoldable pub afterCalls : State → List Call → State
-afterCalls s [] = s
-afterCalls s (c ∷ cs) = afterCalls (call s c .next) cs
-
-unfoldable pub shownAfter : State → List Call → List ℕ → List ℕ
-shownAfter s [] d = d
-shownAfter s (c ∷ cs) d = shownAfter (call s c .next) cs (displayed s c d)
 
 abbrev pub Orderly : List Call → Type 0
 Orderly [] = Unit {0}

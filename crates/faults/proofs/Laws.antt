@@ -14,7 +14,7 @@ use Rattle.machine.proofs.Tests.{by-test, test-true, test-false}
 use Rattle.gathering.specs.Lumps.{front, ended, used}
 use Rattle.gathering.proofs.Lumps.{front-open, front-used, used-within}
 use Rattle.hex_lines.specs.HexLines.{octetsOf}
-use Rattle.saved_frames.proofs.Taking.{rest-is-drop}
+use Rattle.sheet.proofs.Taking.{rest-is-drop}
 use Rattle.faults.specs.Faults.{lengthOf, lengthIn, frameOf, lacking, faultFrom, fault}
 
 -- ---- kinds

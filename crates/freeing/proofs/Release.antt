@@ -24,8 +24,8 @@ use Rattle.store.specs.declared.State.{State}
 use Rattle.store.specs.Store.{Item, lockItem, waiterItem, waitItem, writeItems, items, entries, tableOf, stateIn, Held, Good}
 use Rattle.store.specs.Work.{Ready, Did}
 use Rattle.store.proofs.Store.{held-parts, held-eight, good-of, held-opens, opens-count}
-use Rattle.granting.specs.declared.Dropped.{Dropped}
-use Rattle.granting.specs.Granting.{Dropping, Drops}
+use Rattle.dropped_writes.specs.declared.Dropped.{Dropped}
+use Rattle.dropped_writes.specs.DroppedWrites.{Dropping, Drops}
 use Rattle.granting.proofs.Laws.{held-changed, good-cut, Cuts, dropping-all, cuts-all}
 use Rattle.fates.specs.declared.End.the-variants.{Freed}
 use Rattle.locks.specs.declared.Sifted.{Sifted}

@@ -28,7 +28,7 @@ pub fn freeing(s: State, map: u8, table: &mut [u8], replies: &mut [u8]) -> Freed
 {
     let cs = s.channels;
     let w = s.waiters;
-    let d = granting::drop_named(table, replies, 0, cs, w, map);
+    let d = dropped_writes::drop_named(table, replies, 0, cs, w, map);
     let q = s.locks;
     let f = locks::sift(q, table, replies, d.n, map, End::Freed);
     let ds = channel::change_named(cs, map, Change::Free);

@@ -15,7 +15,7 @@ use Rattle.machine.specs.Desks.{DESK·A, DESK·B, HALF, deskOf, repliesTo, halv
 use Rattle.machine.specs.Call.{call}
 use Rattle.machine_laws.proofs.Lists.{all-append, all-any, all-keep, keep-each}
 use Rattle.display.specs.Display.{NUMBERS, blank}
-use Rattle.display.proofs.Runs.{afterCalls, shownAfter}
+use Rattle.display.specs.Runs.{afterCalls, shownAfter}
 use Rattle.reply.specs.Replies.{encode}
 use Rattle.board.specs.Board.{Held}
 use Rattle.image.specs.Image.{stateOf, Whole}

@@ -20,7 +20,7 @@ use Rattle.machine_laws.proofs.Sound.{parts}
 use Rattle.widening.proofs.Maps.{length-frees}
 use Rattle.display.specs.Display.{DISPLAY, blank, displayed}
 use Rattle.display.proofs.Display.{displayed-length}
-use Rattle.display.proofs.Runs.{afterCalls, shownAfter}
+use Rattle.display.specs.Runs.{afterCalls, shownAfter}
 use Rattle.halves.specs.Halves.{laid}
 use Rattle.store.specs.Store.{tableOf}
 use Rattle.board.specs.Board.{sized, structOf}

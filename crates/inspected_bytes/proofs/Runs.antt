@@ -12,7 +12,7 @@ use native.Mathlib.Nat.{mod-lt}
 use Rattle.machine.specs.State.{Call, State as StateM}
 use Rattle.machine.specs.Call.{call}
 use Rattle.display.specs.Display.{displayed}
-use Rattle.display.proofs.Runs.{afterCalls, shownAfter}
+use Rattle.display.specs.Runs.{afterCalls, shownAfter}
 use Rattle.store.specs.Store.{tableOf}
 use Rattle.board.specs.Board.{structOf, Held}
 use Rattle.image.specs.Image.{imageOf, stateOf, Whole}

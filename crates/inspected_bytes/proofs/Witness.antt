@@ -9,7 +9,7 @@ use Rattle.machine.specs.State.{State as StateM, freshOn, frees}
 use Rattle.machine.specs.Call.{call}
 use Rattle.machine.specs.Machine.{machine}
 use Rattle.display.specs.Display.{blank, displayed}
-use Rattle.display.proofs.Runs.{afterCalls, shownAfter}
+use Rattle.display.specs.Runs.{afterCalls, shownAfter}
 use Rattle.store.specs.Store.{tableOf}
 use Rattle.two_runs.specs.TwoRuns.{counted, inBytes}
 use Rattle.c_runs.specs.CRuns.{Turn}

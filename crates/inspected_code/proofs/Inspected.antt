@@ -14,7 +14,7 @@ use Rattle.machine.specs.Lists.{all}
 use Rattle.machine.specs.State.{Call, Reply, State as StateM, freshOn}
 use Rattle.machine.specs.Call.{call}
 use Rattle.display.specs.Display.{NUMBERS, blank}
-use Rattle.display.proofs.Runs.{afterCalls, shownAfter}
+use Rattle.display.specs.Runs.{afterCalls, shownAfter}
 use Rattle.memory.specs.Splice.{splice}
 use Rattle.reply.specs.Replies.{encode, encodes, sent}
 use Rattle.store.specs.Store.{tableOf}

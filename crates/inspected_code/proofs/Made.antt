@@ -16,7 +16,7 @@ use Rattle.machine.specs.Call.{call, inRange}
 use Rattle.machine.proofs.Tests.{and-left, and-right}
 use Rattle.widening.proofs.Maps.{length-frees}
 use Rattle.display.specs.Display.{blank, displayed}
-use Rattle.display.proofs.Runs.{afterCalls, shownAfter}
+use Rattle.display.specs.Runs.{afterCalls, shownAfter}
 use Rattle.reply.specs.Replies.{sent}
 use Rattle.store.specs.Store.{tableOf}
 use Rattle.board.specs.declared.Board.{Board}

@@ -12,7 +12,7 @@ use lib.Dec.{T}
 use Rattle.machine.specs.State.{State as StateM, freshOn}
 use Rattle.machine_laws.proofs.Sound.{parts}
 use Rattle.widening.proofs.Maps.{length-frees}
-use Rattle.display.proofs.Runs.{afterCalls, shownAfter}
+use Rattle.display.specs.Runs.{afterCalls, shownAfter}
 use Rattle.store.specs.Store.{tableOf}
 use Rattle.board.specs.declared.Board.{Board}
 use Rattle.board.specs.declared.Outcome.{Outcome}

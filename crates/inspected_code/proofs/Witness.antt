@@ -12,7 +12,7 @@ use Rattle.machine.specs.Lists.{all}
 use Rattle.machine.specs.Call.{call}
 use Rattle.machine.specs.Machine.{machine}
 use Rattle.display.specs.Display.{blank, displayed}
-use Rattle.display.proofs.Runs.{afterCalls, shownAfter}
+use Rattle.display.specs.Runs.{afterCalls, shownAfter}
 use Rattle.board.specs.Board.{sized}
 use Rattle.code_runs.proofs.Made.{made as turnOf}
 use Rattle.two_runs.specs.TwoRuns.{counted, inBytes}

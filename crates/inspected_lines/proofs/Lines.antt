@@ -12,7 +12,7 @@ use Rattle.machine.specs.State.{State, Call, freshOn}
 use Rattle.machine.specs.Commands.{silent}
 use Rattle.machine.specs.Log.{outcomeOf, feed, run}
 use Rattle.display.specs.Display.{NUMBERS, blank, displayedBy}
-use Rattle.display.proofs.Runs.{afterCalls, shownAfter}
+use Rattle.display.specs.Runs.{afterCalls, shownAfter}
 use Rattle.nothing_left.specs.NothingLeft.{NothingLeft}
 use Rattle.nothing_left.proofs.NothingLeft.{nothing-left-standing}
 use Rattle.slipped.specs.Slipped.{mild, leavingOut, settlesOne}

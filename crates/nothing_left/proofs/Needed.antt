@@ -14,7 +14,7 @@ use Rattle.machine.specs.State.{State, Call, OPEN, CLOSE, ABORT, EVENT, CYCLE·
 use Rattle.machine.specs.Machine.{machine}
 use Rattle.machine.specs.Sound.{sound}
 use Rattle.machine.specs.Walks.{chan, lock, wait, stands, asks, asksFrom, unrested}
-use Rattle.display.proofs.Runs.{afterCalls}
+use Rattle.display.specs.Runs.{afterCalls}
 use Rattle.nothing_left.specs.Settles.{opens, settles}
 use Rattle.nothing_left.specs.NothingLeft.{noneGoes, noneFails, noneInTheWay, left}
 

@@ -14,7 +14,7 @@ use Rattle.machine.proofs.Tests.{and-left, and-right, and-both}
 use Rattle.machine_laws.proofs.Lists.{all-any}
 use Rattle.machine_laws.proofs.Settling.{Still, AllStill, AtRest}
 use Rattle.machine_laws.proofs.Resting.{call-rests}
-use Rattle.display.proofs.Runs.{afterCalls}
+use Rattle.display.specs.Runs.{afterCalls}
 use Rattle.nothing_left.specs.Settles.{settles}
 use Rattle.nothing_left.specs.NothingLeft.{finds, wouldGo, wouldFail, inTheWay, noneGoes, noneFails, noneInTheWay, NothingLeft, NothingLeftStanding}
 use Rattle.nothing_left.proofs.Settles.{settles-rests}

@@ -16,7 +16,7 @@ use Rattle.machine.specs.Choosing.{Look, fails, held, grants}
 use Rattle.machine.proofs.Tests.{and-left, and-right}
 use Rattle.machine.specs.Rule.{Names}
 use Rattle.machine_laws.proofs.Maps.{meets-iff}
-use Rattle.display.proofs.Runs.{afterCalls}
+use Rattle.display.specs.Runs.{afterCalls}
 use Rattle.nothing_left.specs.NothingLeft.{finds, wouldGo, wouldFail, inTheWay, noneGoes, noneFails, noneInTheWay, NothingLeft}
 use Rattle.nothing_left.proofs.NothingLeft.{nothing-left-standing}
 

@@ -13,7 +13,7 @@ use Rattle.machine.specs.State.{State, Call, OPEN, COMMAND, free, freshOn, free
 use Rattle.machine.specs.Machine.{machine}
 use Rattle.machine.specs.Call.{call}
 use Rattle.machine.specs.Walks.{chan, lock, wait, stands, asks, reply}
-use Rattle.display.proofs.Runs.{afterCalls}
+use Rattle.display.specs.Runs.{afterCalls}
 use Rattle.nothing_left.specs.NothingLeft.{finds, NothingLeft, left}
 use Rattle.nothing_left.proofs.NothingLeft.{nothing-left-standing}
 use Rattle.machine.specs.Choosing.{fails, held}

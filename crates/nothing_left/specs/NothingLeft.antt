@@ -22,7 +22,7 @@ use Rattle.machine.specs.Lists.{all}
 use Rattle.machine.specs.State.{Lock, Request, State, Call, freshOn}
 use Rattle.machine.specs.Maps.{meets}
 use Rattle.machine.specs.Choosing.{Look, fails, held, grants, look}
-use Rattle.display.proofs.Runs.{afterCalls}
+use Rattle.display.specs.Runs.{afterCalls}
 
 unfoldable pub finds : State → Request → Look
 finds s r = look (r .prec) (r .combos) (s .channels)

@@ -10,7 +10,7 @@ use Rattle.machine.specs.Log.{line}
 use Rattle.display.specs.Display.{number, numbersFrom, numbers}
 use Rattle.display.proofs.Pinned.{number-even, number-odd, numbers-at}
 use Rattle.saved.specs.Saved.{spelt}
-use Rattle.saved_lines.proofs.SavedLines.{spelt-append}
+use Rattle.frame_lines.proofs.FrameLines.{spelt-append}
 use Rattle.saved2.specs.Saved2.{numberFrame, numberFrames}
 use Rattle.number_lines.specs.NumberLines.{numberLine, numberLines}
 

@@ -6,19 +6,18 @@ ghost use lib.ListN.{take, drop};
 ghost use Rattle.machine.specs.Lists.{all};
 ghost use Rattle.open_shape.specs.OpenShape.{isKey, isNone, soundKeys};
 
-// From `from` on every place is 0.
+// From `from` on every place is 0. All are gathered in one number, which is looked at once: so the compiler reads many at a time.
 fn zeros(keys: [u16; Keys::ROOM], from: usize) -> bool
     requires { ⌜ from ≤ 32 ⌝ }
     ensures { λ r. ⌜ r ≡ all isNone (drop from keys) ⌝ }
 {
+    let mut all: u16 = 0;
     let mut i = from;
     while i < Keys::ROOM {
-        if keys[i] != 0 {
-            return false;
-        }
+        all = all | keys[i];
         i += 1;
     }
-    true
+    all == 0
 }
 
 // A key fits its two bytes, so it is one unless it is 0.

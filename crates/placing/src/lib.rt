@@ -6,12 +6,12 @@ use store::State;
 ghost use mathlib.Core.Path.{_≡_};
 ghost use mathlib.Core.Bool.{_&&_};
 ghost use Prim.Native.Nat.{_+_, _≤_, _<_};
-ghost use lib.Dec.{T};
+ghost use lib.Dec.{T, eqb};
 ghost use lib.ListN.{length, replicate};
 ghost use Rattle.queue.specs.Queue.{listOf};
 ghost use Rattle.machine.specs.Lists.{all};
 ghost use Rattle.shapes.specs.Shapes.{good as goodM, shaped as shapedM};
-ghost use Rattle.placing.specs.Placing.{spare as spareM, placed, kindTest, placedWrites, placedAll};
+ghost use Rattle.placing.specs.Placing.{placed, kindTest, placedWrites, placedAll};
 
 // Whether a walk found all in order, and the ids seen so far: 1 at each.
 pub struct Marks {
@@ -35,28 +35,18 @@ fn kept(cs: [Channel; 8], table: &[u8], id: u8, kind: Kind) -> bool
 {
     match kind {
         Kind::Write(key, lead) => entries::is_write(table, id, key, id == lead),
-        Kind::Lock => entries::is_sound_lock(cs, table, id),
-        Kind::Cycle => entries::is_sound_waiter(cs, table, id),
-        Kind::Wait(top) => entries::is_sound_wait(table, id, top),
+        Kind::Lock => span_entries::is_sound_lock(cs, table, id),
+        Kind::Cycle => span_entries::is_sound_waiter(cs, table, id),
+        Kind::Wait(top) => wait_entries::is_sound_wait(table, id, top),
     }
 }
 
-// Whether the table has the id, and it was not seen.
-fn spare(seen: [u8; Queue::ROOM], id: u8) -> bool
-    ensures { λ r. ⌜ r ≡ spareM seen id ⌝ }
+// Whether the id was not seen, which its mark says, and its entry is what its place asks for.
+fn fits(cs: [Channel; 8], table: &[u8], kind: Kind, mark: u8, id: u8) -> bool
+    requires { ⌜ (id < 64) × (length (now table) ≡ 1472) ⌝ }
+    ensures { λ r. ⌜ r ≡ (eqb mark 0 && kindTest kind cs (now (table .entry)) id) ⌝ }
 {
-    if id >= State::REQUESTS {
-        return false;
-    }
-    let at = id as usize;
-    seen[at] == 0
-}
-
-fn fits(cs: [Channel; 8], table: &[u8], kind: Kind, seen: [u8; Queue::ROOM], id: u8) -> bool
-    requires { ⌜ length (now table) ≡ 1472 ⌝ }
-    ensures { λ r. ⌜ r ≡ (spareM seen id && kindTest kind cs (now (table .entry)) id) ⌝ }
-{
-    spare(seen, id) && kept(cs, table, id, kind)
+    mark == 0 && kept(cs, table, id, kind)
 }
 
 // The ids of a queue, each with its entry.
@@ -70,13 +60,20 @@ fn place(cs: [Channel; 8], table: &[u8], kind: Kind, seen: [u8; Queue::ROOM], q:
     let mut k: usize = 0;
     while k < n {
         let id = ids[k];
-        if !fits(cs, table, kind, marks, id) {
+        if id >= State::REQUESTS {
             return Marks {
                 ok: false,
                 seen: marks,
             };
         }
         let at = id as usize;
+        let mark = marks[at];
+        if !fits(cs, table, kind, mark, id) {
+            return Marks {
+                ok: false,
+                seen: marks,
+            };
+        }
         marks[at] = 1;
         k += 1;
     }
@@ -86,7 +83,7 @@ fn place(cs: [Channel; 8], table: &[u8], kind: Kind, seen: [u8; Queue::ROOM], q:
     }
 }
 
-// The writes of every channel.
+// The writes of every channel. Where there are none, nothing is copied for a walk.
 fn place_writes(cs: [Channel; 8], table: &[u8]) -> Marks
     requires { ⌜ T (all goodM cs) × (length (now table) ≡ 1472) ⌝ }
     ensures { λ r. ⌜ r ≡ placedWrites (now (table .entry)) (replicate 64 0) cs ⌝ }
@@ -96,11 +93,13 @@ fn place_writes(cs: [Channel; 8], table: &[u8]) -> Marks
     while i < 8 {
         let c = cs[i];
         let q = c.writes;
-        let m = place(cs, table, Kind::Write(c.key, q.at(0)), marks, q);
-        if !m.ok {
-            return m;
+        if q.n > 0 {
+            let m = place(cs, table, Kind::Write(c.key, q.at(0)), marks, q);
+            if !m.ok {
+                return m;
+            }
+            marks = m.seen;
         }
-        marks = m.seen;
         i += 1;
     }
     Marks {

@@ -20,7 +20,7 @@ use Rattle.channel.specs.Channel.{channelOf, withWrites}
 use Rattle.table.specs.Entry.{waitEntry, spanEntry, lockEntry, waiterEntry, writeEntry, numberBytes, pervolBytes}
 use Rattle.store.specs.declared.State.{State}
 use Rattle.saved.specs.Saved.{channelFrame, requestFrame, spanFrame, writeFrame, keyFrame, kept, signed, markOf, LOCK, WAITCYCLE, OPEN, LAST}
-use Rattle.saved_frames.specs.SavedFrames.{sheet, stored, channelFrom, numbersFrom, tookChannel, tookRequest, tookLock, tookWaiter, tookWrite, tookOpen, tookLast, requestEntry, spanOf, writeOf, addedKey, hasChannel, hasRequest, hasSpan, hasWrite, hasOpen, channelTaken, requestTaken, lockTaken, waiterTaken, writeTaken, openTaken, lastTaken, partTaken, taken, withChannels, withLocks, withWaiters, withWaiting, withOpens, withLast}
+use Rattle.sheet.specs.Sheet.{sheet, stored, channelFrom, numbersFrom, tookChannel, tookRequest, tookLock, tookWaiter, tookWrite, tookOpen, tookLast, requestEntry, spanOf, writeOf, addedKey, hasChannel, hasRequest, hasSpan, hasWrite, hasOpen, channelTaken, requestTaken, lockTaken, waiterTaken, writeTaken, openTaken, lastTaken, partTaken, taken, withChannels, withLocks, withWaiters, withWaiting, withOpens, withLast}
 
 -- ---- numbers
 

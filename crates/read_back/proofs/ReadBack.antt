@@ -34,7 +34,7 @@ use Rattle.store.proofs.Table.{ins-at, entry-added, good-sub, ins-small}
 use Rattle.store.proofs.Store.{good-of}
 use Rattle.widening.specs.Widening.{widen}
 use Rattle.saved.specs.Saved.{channelFrame, requestFrame, spanFrame, writeFrame, writeFrames, keyFrame, frames, kept, markOf, LOCK, WAITCYCLE, OPEN, LAST}
-use Rattle.saved_frames.specs.SavedFrames.{Sheet, sheet, taken, takenAll, blank, addedKey, withChannels, withLocks, withWaiters, withWaiting, withOpens}
+use Rattle.sheet.specs.Sheet.{Sheet, sheet, taken, takenAll, blank, addedKey, withChannels, withLocks, withWaiters, withWaiting, withOpens}
 use Rattle.read_back.proofs.Fits.{each-all, ChannelFits, channel-fits, RequestFits, request-fits}
 use Rattle.read_back.proofs.OneFrame.{bare, kept-six, channel-frame, request-frame, lock-frame, waiter-frame, rememberedAt, remembered, write-frame, open-frame, last-frame}
 

@@ -10,7 +10,7 @@ use Rattle.store.specs.Store.{tableOf}
 use Rattle.board.specs.Board.{structOf}
 use Rattle.machine.specs.Log.{line}
 use Rattle.saved.specs.Saved.{frames, spelt, text}
-use Rattle.saved_frames.specs.SavedFrames.{Sheet, takenAll}
+use Rattle.sheet.specs.Sheet.{Sheet, takenAll}
 use Rattle.reading.specs.Reading.{readFrom}
 use Rattle.read_back.proofs.Spelt.{lines-spelt}
 use Rattle.read_back.proofs.FrameBytes.{frames-bytes}

@@ -20,7 +20,7 @@ use Rattle.store.specs.Store.{Each, tableOf}
 use Rattle.board.specs.Board.{structOf}
 use Rattle.board.proofs.Laws.{one-state}
 use Rattle.saved.specs.Saved.{FIRST, frames, spelt, text, TextOf}
-use Rattle.saved_frames.specs.SavedFrames.{Sheet, blank, partTaken, taken, takenAll}
+use Rattle.sheet.specs.Sheet.{Sheet, blank, partTaken, taken, takenAll}
 use Rattle.reading.specs.Reading.{framesIn, readFrom}
 use Rattle.read_back.proofs.Fits.{Bytes}
 use Rattle.read_back.proofs.Spelt.{Frame, digit-hexDigit, lines-spelt}

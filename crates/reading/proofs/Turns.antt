@@ -19,9 +19,9 @@ use Rattle.hex_lines.specs.HexLines.{octetsOf}
 use Rattle.machine.specs.State.{frees, freshOn}
 use Rattle.store.specs.declared.State.{State}
 use Rattle.store.specs.Store.{structOf}
-use Rattle.saved_frames.specs.declared.Draft.{Draft}
-use Rattle.saved_frames.specs.SavedFrames.{Sheet, sheet, taken, takenAll, Takes}
-use Rattle.saved_frames.proofs.Taking.{rest-is-drop, taken-as-many}
+use Rattle.sheet.specs.declared.Draft.{Draft}
+use Rattle.sheet.specs.Sheet.{Sheet, sheet, taken, takenAll, Takes}
+use Rattle.sheet.proofs.Taking.{rest-is-drop, taken-as-many}
 use Rattle.reading.specs.Reading.{framesIn, readFrom}
 
 -- ---- a line

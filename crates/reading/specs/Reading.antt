@@ -6,7 +6,7 @@ use Prim.Native.Nat.{ℕ}
 use mathlib.Core.List.{List, map}
 use Rattle.machine.specs.Log.{lines}
 use Rattle.hex_lines.specs.HexLines.{octetsOf}
-use Rattle.saved_frames.specs.SavedFrames.{Sheet, blank, takenAll}
+use Rattle.sheet.specs.Sheet.{Sheet, blank, takenAll}
 
 unfoldable pub framesIn : List ℕ → List (List ℕ)
 framesIn t = map octetsOf (lines t)

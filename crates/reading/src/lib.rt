@@ -1,11 +1,11 @@
 // The lines of a saved text, one after another, taken into a fresh state and a lent table. Assumes nothing.
-use saved_frames::Draft;
+use sheet::Draft;
 use store::State;
 ghost use Prim.Native.Nat.{_+_, _≤_, min};
 ghost use mathlib.Core.Path.{_≡_};
 ghost use lib.ListN.{length, drop};
 ghost use Rattle.reading.specs.Reading.{readFrom};
-ghost use Rattle.saved_frames.specs.SavedFrames.{Took};
+ghost use Rattle.sheet.specs.Sheet.{Took};
 
 // The place behind a line that ends at `e`, in a text of n bytes: behind its LF, or the end where it has none.
 fn behind(e: usize, n: usize) -> usize

@@ -21,7 +21,7 @@ use Rattle.waiting_list.proofs.Laws.{sound-or-not}
 use Rattle.hex_lines.specs.HexLines.{Put}
 use Rattle.saved.specs.Saved.{FIRST, frames, spelt, text}
 use Rattle.saved.proofs.Lengths.{frames-most, text-most}
-use Rattle.saved_lines.proofs.SavedLines.{put-then}
+use Rattle.frame_lines.proofs.FrameLines.{put-then}
 use Rattle.saving.specs.Saving.{heldBy, Unwritten, Full, Saves}
 
 -- ---- the text on a page

@@ -23,7 +23,7 @@ use Rattle.waiting_list.proofs.Laws.{sound-or-not}
 use Rattle.hex_lines.specs.HexLines.{Put}
 use Rattle.saved.specs.Saved.{frames, spelt}
 use Rattle.saved.proofs.Lengths.{frames-most}
-use Rattle.saved_lines.proofs.SavedLines.{spelt-append, put-then, put-as}
+use Rattle.frame_lines.proofs.FrameLines.{spelt-append, put-then, put-as}
 use Rattle.saved2.specs.Saved2.{SECOND, boardFrame, numberFrames, frames2, text2}
 use Rattle.saved2.proofs.Lengths2.{text2-most}
 use Rattle.recounting.specs.Recounting.{counted}

@@ -21,7 +21,7 @@ use Rattle.machine_laws.proofs.Refusals.{refuse-mute}
 use Rattle.machine_laws.proofs.Replies.{heard, own, call-counts}
 use Rattle.display.specs.Display.{NUMBERS, DISPLAY, blank, corrected, looksOf, looksBytes, displayed}
 use Rattle.display.proofs.Display.{Bytes, displayed-length, displayed-numbers, displayed-bytes, displayed-refused}
-use Rattle.display.proofs.Runs.{afterCalls, shownAfter}
+use Rattle.display.specs.Runs.{afterCalls, shownAfter}
 use Rattle.nothing_left.specs.Settles.{settles}
 use Rattle.nothing_left.proofs.Settles.{settles-looks}
 use Rattle.slipped.specs.Slipped.{outcomes, leavingOut, settlesOne, Inserted}

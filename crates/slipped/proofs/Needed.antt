@@ -20,7 +20,7 @@ use Rattle.machine.specs.Sound.{sound, ids}
 use Rattle.machine.specs.Call.{call}
 use Rattle.machine.specs.Machine.{machine}
 use Rattle.machine.specs.Walks.{asks, asksFrom, unrested}
-use Rattle.display.proofs.Runs.{afterCalls}
+use Rattle.display.specs.Runs.{afterCalls}
 use Rattle.nothing_left.specs.Settles.{opens, settles}
 use Rattle.nothing_left.specs.NothingLeft.{noneGoes, noneFails, noneInTheWay, left}
 use Rattle.slipped.specs.Slipped.{otherCommand, onNoChannel, slips, outcomes, leavingOut, settlesOne, slip}

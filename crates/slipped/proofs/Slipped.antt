@@ -20,7 +20,7 @@ use Rattle.machine.proofs.Tests.{and-left, and-right, by-test}
 use Rattle.machine.proofs.Known.{allocates-alone}
 use Rattle.display.specs.Display.{blank}
 use Rattle.display.proofs.Display.{refused-stays}
-use Rattle.display.proofs.Runs.{afterCalls, shownAfter}
+use Rattle.display.specs.Runs.{afterCalls, shownAfter}
 use Rattle.two_runs.proofs.OnNoChannel.{Harmless, moves-nothing}
 use Rattle.nothing_left.specs.NothingLeft.{NothingLeft}
 use Rattle.nothing_left.proofs.NothingLeft.{left-rest, rest-left, fresh-rests, nothing-left-behind}

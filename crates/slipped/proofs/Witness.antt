@@ -17,7 +17,7 @@ use Rattle.machine.specs.Machine.{machine}
 use Rattle.machine.specs.Walks.{asks, reply, says}
 use Rattle.display.specs.Looks.{beyond, reached, lookOn, looksIn, looks, acting, looksAfter, lookedBy, looked}
 use Rattle.display.specs.Display.{blank, names, writesOn, naming, number, corrected, displayed}
-use Rattle.display.proofs.Runs.{afterCalls, shownAfter}
+use Rattle.display.specs.Runs.{afterCalls, shownAfter}
 use Rattle.nothing_left.specs.Settles.{opens, settles}
 use Rattle.nothing_left.proofs.Witness.{run}
 use Rattle.slipped.specs.Slipped.{slips, settlesOne, Inserted, slip}

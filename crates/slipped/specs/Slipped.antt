@@ -28,7 +28,7 @@ use Rattle.machine.specs.Commands.{matches}
 use Rattle.machine.specs.Sound.{ids}
 use Rattle.machine.specs.Call.{call}
 use Rattle.display.specs.Display.{NUMBERS, blank}
-use Rattle.display.proofs.Runs.{afterCalls, shownAfter}
+use Rattle.display.specs.Runs.{afterCalls, shownAfter}
 use Rattle.nothing_left.specs.Settles.{settles}
 
 -- ---- what is inserted

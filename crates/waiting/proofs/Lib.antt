@@ -1,4 +1,2 @@
-pub mod Stealing
-pub mod Steps
 pub mod Waiting
 pub mod Finding

@@ -9,13 +9,14 @@ use lib.Seq.{length-take-le}
 use Rattle.memory.specs.Splice.{splice}
 use Rattle.store.specs.Store.{stateIn}
 use Rattle.display.specs.Display.{corrected}
-use Rattle.correcting.proofs.Laws.{length-corrected, whole-display}
+use Rattle.channel_numbers.proofs.Laws.{length-corrected}
+use Rattle.correcting.proofs.Laws.{whole-display}
 use borrow.Author.Needs.{needs}
 use Rattle.correcting.proofs.show.Statement.{statement}
 use Rattle.correcting.proofs.show.Tie as tie
 use Rattle.correcting.proofs.show.Reads as reads
 use Rattle.correcting.proofs.show.Lts as lts
-use Rattle.correcting.proofs.correct.Reads as correct-reads
+use Rattle.channel_numbers.proofs.correct.Reads as correct-reads
 use Rattle.memory.proofs.put_key.Reads as put-key-reads
 
 correct-requires : tie.Need-correct-requires

@@ -5,7 +5,7 @@ use native.Mathlib.Omega.{arith}
 use lib.ListN.{length}
 use Rattle.hex_lines.specs.HexLines.{Put}
 use Rattle.saved.specs.Saved.{spelt}
-use Rattle.saved_lines.proofs.SavedLines.{put-none, put-then, put-as}
+use Rattle.frame_lines.proofs.FrameLines.{put-none, put-then, put-as}
 use Rattle.number_lines.specs.NumberLines.{numberLines}
 use Rattle.number_lines.proofs.NumberLines.{lines-nine, lines-more}
 use borrow.Author.Needs.{needs}

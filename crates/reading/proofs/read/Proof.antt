@@ -8,7 +8,7 @@ use lib.Seq.{length-take-le}
 use Rattle.memory.proofs.Splice.{length-splice}
 use Rattle.gathering.specs.Lumps.{front}
 use Rattle.hex_lines.specs.HexLines.{octetsOf}
-use Rattle.saved_frames.specs.SavedFrames.{Sheet, sheet, taken, takenAll}
+use Rattle.sheet.specs.Sheet.{Sheet, sheet, taken, takenAll}
 use Rattle.reading.specs.Reading.{framesIn, readFrom}
 use Rattle.reading.proofs.Turns.{octets-most, front-put, end-within, line-is-front, sheet-turn, after, still-eight, fresh-eight, from-fresh, at-end}
 use borrow.Author.Needs.{needs}

@@ -1,6 +1,6 @@
 -- `add` meets its contract: the code does to the table of keys what `addedKey` says. Assumes nothing.
 use mathlib.Core.Path.{refl}
-use Rattle.saved_frames.specs.SavedFrames.{addedKey}
+use Rattle.sheet.specs.Sheet.{addedKey}
 use borrow.Author.Needs.{needs}
 use Rattle.saved_frames.proofs.add.Statement.{statement}
 use Rattle.saved_frames.proofs.add.Tie as tie

@@ -3,13 +3,13 @@
 use mathlib.Core.Path.{_≡_}
 use native.Mathlib.Omega.{arith}
 use lib.ListN.{length, getD}
-use Rattle.saved_frames.proofs.Taking.{empty-passed, taken-channel, taken-part}
+use Rattle.sheet.proofs.Taking.{empty-passed, taken-channel, taken-part}
 use borrow.Author.Needs.{needs}
 use Rattle.saved_frames.proofs.take.Statement.{statement}
 use Rattle.saved_frames.proofs.take.Tie as tie
 use Rattle.saved_frames.proofs.take.Reads as reads
 use Rattle.saved_frames.proofs.take.Lts as lts
-use Rattle.saved_frames.proofs.take_channel.Reads as take-channel-reads
+use Rattle.channel_frames.proofs.take_channel.Reads as take-channel-reads
 use Rattle.saved_frames.proofs.take_part.Reads as take-part-reads
 
 returns : tie.Need-returns

@@ -2,7 +2,7 @@
 use mathlib.Core.Path.{_≡_}
 use native.Mathlib.Omega.{arith}
 use lib.ListN.{length}
-use Rattle.saved_frames.proofs.Taking.{last-passed, last-took}
+use Rattle.sheet.proofs.Taking.{last-passed, last-took}
 use borrow.Author.Needs.{needs}
 use Rattle.saved_frames.proofs.take_last.Statement.{statement}
 use Rattle.saved_frames.proofs.take_last.Tie as tie

@@ -3,8 +3,8 @@ use Prim.Native.Nat.{_<_}
 use mathlib.Core.Path.{_≡_, ap, _∙_}
 use native.Mathlib.Omega.{arith}
 use lib.ListN.{length}
-use Rattle.saved_frames.specs.SavedFrames.{addedKey}
-use Rattle.saved_frames.proofs.Taking.{has-open, open-passed, open-took}
+use Rattle.sheet.specs.Sheet.{addedKey}
+use Rattle.sheet.proofs.Taking.{has-open, open-passed, open-took}
 use borrow.Author.Needs.{needs}
 use Rattle.saved_frames.proofs.take_open.Statement.{statement}
 use Rattle.saved_frames.proofs.take_open.Tie as tie

@@ -1,18 +1,18 @@
 -- `take_part` meets its contract: by the first byte it is the step of that kind, and a frame of no kind is passed over. Assumes nothing.
 use mathlib.Core.Path.{_≡_}
 use native.Mathlib.Omega.{arith}
-use Rattle.saved_frames.proofs.Taking.{part-request, part-lock, part-waiter, part-write, part-open, part-last, part-none}
+use Rattle.sheet.proofs.Taking.{part-request, part-lock, part-waiter, part-write, part-open, part-last, part-none}
 use borrow.Author.Needs.{needs}
 use Rattle.saved_frames.proofs.take_part.Statement.{statement}
 use Rattle.saved_frames.proofs.take_part.Tie as tie
 use Rattle.saved_frames.proofs.take_part.Reads as reads
 use Rattle.saved_frames.proofs.take_part.Lts as lts
 use Rattle.saved_frames.proofs.take_last.Reads as take-last-reads
-use Rattle.saved_frames.proofs.take_lock.Reads as take-lock-reads
+use Rattle.span_frames.proofs.take_lock.Reads as take-lock-reads
 use Rattle.saved_frames.proofs.take_open.Reads as take-open-reads
 use Rattle.saved_frames.proofs.take_request.Reads as take-request-reads
-use Rattle.saved_frames.proofs.take_waiter.Reads as take-waiter-reads
-use Rattle.saved_frames.proofs.take_write.Reads as take-write-reads
+use Rattle.span_frames.proofs.take_waiter.Reads as take-waiter-reads
+use Rattle.write_frames.proofs.take_write.Reads as take-write-reads
 
 take-request-requires : tie.Need-take-request-requires
 take-request-requires c κs = search needs

@@ -4,8 +4,8 @@ use Prim.Native.Nat.{_≤_, _<_}
 use mathlib.Core.Path.{_∙_}
 use native.Mathlib.Omega.{arith}
 use lib.ListN.{length, getD}
-use Rattle.saved_frames.specs.SavedFrames.{requestEntry}
-use Rattle.saved_frames.proofs.Taking.{rest-is-drop, has-request, request-passed, request-took}
+use Rattle.sheet.specs.Sheet.{requestEntry}
+use Rattle.sheet.proofs.Taking.{rest-is-drop, has-request, request-passed, request-took}
 use borrow.Author.Needs.{needs}
 use Rattle.saved_frames.proofs.take_request.Statement.{statement}
 use Rattle.saved_frames.proofs.take_request.Tie as tie
@@ -13,7 +13,7 @@ use Rattle.saved_frames.proofs.take_request.Reads as reads
 use Rattle.saved_frames.proofs.take_request.Lts as lts
 use Rattle.memory.proofs.key_at.Reads as key-at-reads
 use Rattle.queue.proofs.Queue.push.Reads as push-reads
-use Rattle.saved_frames.proofs.stored.Reads as stored-reads
+use Rattle.sheet.proofs.stored.Reads as stored-reads
 use Rattle.table.proofs.put_all.Reads as put-all-reads
 
 returns : tie.Need-returns

@@ -5,17 +5,17 @@ use mathlib.Core.List.{map, _++_}
 use native.Mathlib.Omega.{arith}
 use lib.ListN.{length, length-append}
 use Rattle.board.proofs.Laws.{sized-within, held-sized, held-wide, held-opens-count}
-use Rattle.saved_lines.proofs.SavedLines.{put-then, put-as}
-use Rattle.saved_lines.proofs.FramesIn.{all-listed, opens-length, pieces, pieces-length}
+use Rattle.frame_lines.proofs.FrameLines.{put-then, put-as}
+use Rattle.frame_lines.proofs.FramesIn.{all-listed, opens-length, pieces, pieces-length}
 use borrow.Author.Needs.{needs}
 use Rattle.saved_lines.proofs.put_frames.Statement.{statement}
 use Rattle.saved_lines.proofs.put_frames.Tie as tie
 use Rattle.saved_lines.proofs.put_frames.Reads as reads
 use Rattle.saved_lines.proofs.put_frames.Lts as lts
-use Rattle.saved_lines.proofs.put_channels.Reads as put-channels-reads
+use Rattle.saved_channels.proofs.put_channels.Reads as put-channels-reads
 use Rattle.saved_lines.proofs.put_keys.Reads as put-keys-reads
-use Rattle.saved_lines.proofs.put_requests.Reads as put-requests-reads
-use Rattle.saved_lines.proofs.put_writes.Reads as put-writes-reads
+use Rattle.saved_requests.proofs.put_requests.Reads as put-requests-reads
+use Rattle.saved_requests.proofs.put_writes.Reads as put-writes-reads
 
 cast-w : tie.Need-cast-w
 cast-w c = search needs

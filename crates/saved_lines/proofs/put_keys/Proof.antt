@@ -4,8 +4,8 @@ use mathlib.Core.Path.{_≡_}
 use mathlib.Core.List.{map, _++_}
 use native.Mathlib.Omega.{arith}
 use lib.ListN.{length, length-append}
-use Rattle.saved_lines.proofs.SavedLines.{put-then}
-use Rattle.saved_lines.proofs.FramesIn.{keys-length}
+use Rattle.frame_lines.proofs.FrameLines.{put-then}
+use Rattle.frame_lines.proofs.FramesIn.{keys-length}
 use borrow.Author.Needs.{needs}
 use Rattle.saved_lines.proofs.put_keys.Statement.{statement}
 use Rattle.saved_lines.proofs.put_keys.Tie as tie

@@ -9,9 +9,9 @@ use Rattle.machine.specs.Log.{line}
 use Rattle.hex_lines.specs.HexLines.{Put}
 use Rattle.saved.specs.Saved.{OPEN, keyFrame, spelt}
 use Rattle.waiting.specs.Waiting.{Readable}
-use Rattle.saved_lines.specs.SavedLines.{entryFrame, channelLine, writesIn}
+use Rattle.frame_lines.specs.FrameLines.{entryFrame, channelLine, writesIn}
 use Rattle.hex_lines.proofs.HexLines.{length-line}
-use Rattle.saved_lines.proofs.SavedLines.{spelt-more, room-more, put-none, put-then, put-as}
+use Rattle.frame_lines.proofs.FrameLines.{spelt-more, room-more, put-none, put-then, put-as}
 use Rattle.saved_lines.proofs.put_opens.Statement.{statement}
 use Rattle.saved_lines.proofs.put_opens.Tie as tie
 use Rattle.saved_lines.proofs.put_opens.Reads as reads

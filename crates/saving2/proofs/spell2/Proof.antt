@@ -3,7 +3,7 @@ use mathlib.Core.Path.{_≡_, refl, ap, sym, subst, _∙_}
 use native.Mathlib.Omega.{arith}
 use lib.ListN.{length}
 use Rattle.machine.specs.Log.{line}
-use Rattle.saved_lines.proofs.SavedLines.{put-as}
+use Rattle.frame_lines.proofs.FrameLines.{put-as}
 use Rattle.saving2.proofs.Laws2.{counted-long, within, frames-fit, text2-parts, text2-put}
 use borrow.Author.Needs.{needs}
 use Rattle.saving2.proofs.spell2.Statement.{statement}

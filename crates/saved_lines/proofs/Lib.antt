@@ -1,2 +1,0 @@
-pub mod SavedLines
-pub mod FramesIn

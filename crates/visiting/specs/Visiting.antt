@@ -1,0 +1,73 @@
+-- The words in which a turn of settling is promised.
+-- Assumes nothing.
+--
+--   onward i s    what settling comes to from place i on, those before it looked at and staying
+--   toLook i s    how many looks it then still takes
+--   Same ..       what was to come, before and after a step: the same state and the same replies in the list
+--   Looked ..     what a turn asks once it has looked
+--   Visits ..     the same of a look at which the walk stopped
+--   Turned ..     the promise of a turn: after a grant settling starts again, else it goes on at the next place and no channel
+--                 has changed; and one look is done
+use Prim.Native.Nat.{ℕ, suc, _+_, _-_, _≤_, _<_}
+use mathlib.Core.Path.{_≡_}
+use mathlib.Core.Bool.{Bool, true, false}
+use mathlib.Core.List.{List}
+use lib.ListN.{length, take, drop}
+use Rattle.machine.specs.State.{State}
+use Rattle.machine.specs.Choosing.{Look}
+use Rattle.machine.specs.Settling.{Settled, settle}
+use Rattle.machine_laws.proofs.Looking.{resume}
+use Rattle.display.specs.Looks.{looks as looksM}
+use Rattle.display.proofs.Looking.{further}
+use Rattle.reply.specs.Replies.{sent}
+use Rattle.choosing.specs.declared.Look.{Look as LookC}
+use Rattle.choosing.specs.Choosing.{lookOf}
+use Rattle.store.specs.declared.State.{State as Struct}
+use Rattle.store.specs.Store.{stateIn, Held}
+use Rattle.store.specs.Work.{Ready}
+use Rattle.waiting.specs.Waiting.{comes, waiter, lookAt}
+use Rattle.visiting.specs.declared.Turn.{Turn}
+
+unfoldable pub onward : ℕ → State → Settled
+onward i s = resume (take i (s .waiting)) (drop i (s .waiting)) s
+
+unfoldable pub toLook : ℕ → State → ℕ
+toLook i s = further (take i (s .waiting)) (drop i (s .waiting)) s
+
+pub record Same (x : Settled) (l : List ℕ) (n : ℕ) (y : Settled) (l′ : List ℕ) (n′ : ℕ) : Type 0 where
+  pub state : y .state ≡ x .state
+  pub list : sent l′ n′ (y .replies) ≡ sent l n (x .replies)
+  pub count : n′ + length (y .replies) ≡ n + length (x .replies)
+  pub long : length l′ ≡ length l
+
+-- what is to come after a turn, and what has become less
+abbrev pub ahead : Bool → ℕ → State → Settled
+ahead true next s = settle s
+ahead false next s = onward next s
+
+abbrev pub looksAhead : Bool → ℕ → State → ℕ
+looksAhead true next s = looksM s
+looksAhead false next s = toLook next s
+
+abbrev pub Less : Bool → ℕ → ℕ → ℕ → ℕ → Type 0
+Less true next k′ i k = k′ < k
+Less false next k′ i k = (next ≤ k′) × (k′ ≤ k) × (k′ - next < k - i)
+
+pub record Turned (st : Struct) (tb l : List ℕ) (n i : ℕ) (r : Turn) (tb′ l′ : List ℕ) : Type 0 where
+  pub held : Held (r .state) tb′
+  pub same : Same (onward i (stateIn st tb)) l n (ahead (r .granted) (r .next) (stateIn (r .state) tb′)) l′ (r .n)
+  pub less : Less (r .granted) (r .next) (r .state .waiting .n) i (st .waiting .n)
+  pub still : r .granted ≡ false → stateIn (r .state) tb′ .channels ≡ stateIn st tb .channels
+  pub look : toLook i (stateIn st tb) ≡ suc (looksAhead (r .granted) (r .next) (stateIn (r .state) tb′))
+
+-- the request at place i was looked at, and came to this
+pub record Looked (st : Struct) (tb l : List ℕ) (n i : ℕ) (k : Look) : Type 0 where
+  pub ready : Ready st tb l n (length (onward i (stateIn st tb) .replies))
+  pub inside : i < st .waiting .n
+  pub seen : lookAt i (stateIn st tb) ≡ k
+
+pub record Visits (st : Struct) (tb l : List ℕ) (n i : ℕ) (k : LookC) : Type 0 where
+  pub ready : Ready st tb l n (length (onward i (stateIn st tb) .replies))
+  pub inside : i < st .waiting .n
+  pub seen : k ≡ lookOf (lookAt i (stateIn st tb))
+  pub stops : comes (lookAt i (stateIn st tb)) (waiter i (stateIn st tb) .impatient) ≡ true
