@@ -26,7 +26,7 @@ extern "C" {
 /* ---- the version: the first number moves where a desk's source may have to change (CHANGELOG.md says what). It stands here
  * alone; the package and the programs take it from this line. */
 
-#define QAMHUDEER_VERSION "7.2.1"
+#define QAMHUDEER_VERSION "7.2.2"
 
 /* ---- sizes in bytes */
 
