@@ -1,4 +1,4 @@
--- Any calls, one after another.
+-- Any calls, one after another: document 02, #113, "over any calls from a fresh device".
 -- Assumes nothing.
 --
 --   afterCalls s cs, shownAfter s cs d   the state after calls; the display after them, where it was d before
