@@ -8,7 +8,7 @@
 set -u
 LC_ALL=C
 export LC_ALL
-root=$(cd "$(dirname "$0")/.." && pwd -P) || exit 2
+root=$(CDPATH= cd "$(dirname "$0")/.." && pwd -P) || exit 2
 . "$root/scripts/program.sh"
 . "$root/scripts/library.sh"
 work=$(mktemp -d) || exit 2
@@ -43,6 +43,7 @@ leave() {
 
 finish() {
     echo "$passed passed, $failed failed"
-    [ $failed -eq 0 ]
-    exit
+    [ $failed -eq 0 ] || exit 1
+    [ $left -eq 0 ] || exit $skipped
+    exit 0
 }

@@ -22,19 +22,20 @@ use Rattle.board.specs.declared.Board.{Board}
 use Rattle.board.specs.Board.{sized, structOf, stateIn, Held}
 use Rattle.board.proofs.Laws.{held-next, fresh-sane, table-wide}
 use Rattle.widening.proofs.Maps.{length-frees}
-use Rattle.image.specs.Image.{STATE, imageOf, stateOf, isWhole, Whole}
+use Rattle.image.specs.Image.{STATE, imageOf, stateOf, Whole}
 use Rattle.image.proofs.Round.{imageOf-stateOf, stateOf-imageOf}
 use Rattle.display.specs.Display.{DISPLAY}
 use Rattle.answers.specs.declared.Request.{Request}
 use Rattle.refusals.specs.declared.Op.{Op}
 use Rattle.refusals.specs.Refusals.{opIn, askedOf}
-use Rattle.desk_call.specs.declared.Outcome.{Outcome}
+use Rattle.arbiter.proofs.Lent.{whole-or-not}
+use Rattle.desk_call.specs.DeskCall.{Outcome}
 use Rattle.desk_call.proofs.Promise.{one-call, one-display, refused-unmoved, few-each-half as few-laid, sound-after as sound-call}
 use Rattle.sizes.specs.Sizes.{TABLE, ANSWER}
 use Rattle.handed.specs.Handed.{opFor, answerBytes}
 use Rattle.starting.specs.Starting.{Fits, Started}
-use Rattle.bytes_call.specs.BytesCall.{Carried}
-use Rattle.boundary.specs.Boundary.{Room, Unanswered, Unread, Crossed}
+use Rattle.bytes_call.specs.BytesCall.{Carried, Unread}
+use Rattle.boundary.specs.Boundary.{Room, Unanswered, Crossed}
 
 -- ---- which case it is
 
@@ -49,13 +50,6 @@ same-or-not {R = R} m n y z = go (eqb m n) refl
 room-or-not {ℓ} : {R : Type ℓ} (an dp : List ℕ) → (Room an dp → R) → ((Room an dp → ⊥) → R) → R
 room-or-not an dp y z =
     same-or-not (length an) ANSWER (λ a. same-or-not (length dp) DISPLAY (λ d. y (a, d)) (λ d. z (λ h. d (h .1)))) (λ a. z (λ h. a (h .0)))
-
-whole-or-not {ℓ} : {R : Type ℓ} (bs : List ℕ) → (Whole bs → R) → ((Whole bs → ⊥) → R) → R
-whole-or-not {R = R} bs y z = go (isWhole bs) refl
-  where
-    go : (b : Bool) → isWhole bs ≡ b → R
-    go true e = y (subst (λ (b : Bool). T b) (sym e) tt)
-    go false e = z (λ w. subst (λ (b : Bool). T b) e w)
 
 -- ---- no second crossing fits
 

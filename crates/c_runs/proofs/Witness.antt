@@ -26,8 +26,7 @@ use Rattle.images.proofs.Images.{saved-of, sized-of}
 use Rattle.answers.specs.Answers.{answerOf}
 use Rattle.refusals.specs.Refusals.{askedOf}
 use Rattle.arbiter.specs.Arbiter.{Shows}
-use Rattle.desk_call.specs.declared.Outcome.{Outcome}
-use Rattle.desk_call.specs.DeskCall.{Told, Called}
+use Rattle.desk_call.specs.DeskCall.{Outcome, Told, Called}
 use Rattle.sizes.specs.Sizes.{REPLIES}
 use Rattle.handed.specs.Handed.{opFor, requestOf, answerBytes}
 use Rattle.two_runs.specs.TwoRuns.{Party, Start, Step, our, their, Keeps as KeepsM, Run as RunM, calls, claim, counted, inBytes, own, said}

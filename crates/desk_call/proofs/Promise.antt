@@ -29,8 +29,7 @@ use Rattle.refusals.specs.declared.Op.{Op}
 use Rattle.refusals.specs.Refusals.{opIn, askedOf}
 use Rattle.arbiter.specs.Arbiter.{Called as CalledI, Shows}
 use Rattle.arbiter.proofs.Outcome.{held-or-not, held-after}
-use Rattle.desk_call.specs.declared.Outcome.{Outcome}
-use Rattle.desk_call.specs.DeskCall.{Told, Unmoved, Called}
+use Rattle.desk_call.specs.DeskCall.{Outcome, Told, Unmoved, Called}
 
 -- ---- the inner call that it stands for
 

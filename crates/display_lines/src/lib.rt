@@ -48,8 +48,8 @@ fn put_records(out: &mut [u8], at: usize, bs: &[u8], n: usize)
 // The lines of a display on a board of `width` channels, with the records of the n that wait; how many bytes they are.
 pub fn spell(
     width: u8,
-    display: &[u8; 18],
-    records: &[u8; 256],
+    display: &[u8; audio::DISPLAY_SIZE],
+    records: &[u8; audio::RECORDS_SIZE],
     n: usize,
     out: &mut [u8; 743],
 ) -> usize

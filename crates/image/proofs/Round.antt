@@ -7,8 +7,8 @@ use native.Mathlib.Omega.{arith}
 use native.Mathlib.Nat.{div-add-mod'}
 use native.Mathlib.Numerals.{add-one}
 use lib.Dec.{T, eqb, ltb→lt}
-use lib.ListN.{length, getD, take, drop, length-append}
-use lib.Seq.{take-at, take-all, take-add, drop-drop, drop-cons, drop-append-add, getD-append-add}
+use lib.ListN.{length, getD, take, drop, length-append, length-drop}
+use lib.Seq.{length-take-le, take-at, take-all, take-add, drop-drop, drop-cons, drop-append-add, getD-append-add}
 use borrow.Author.Tests.{eq-eqb}
 use Rattle.machine.specs.Lists.{all}
 use Rattle.machine.proofs.Tests.{and-left, and-right}
@@ -312,7 +312,7 @@ channels-part bs y (suc n) at h t =
     let e : 70 + n * 70 ≡ suc n * 70 = omega arith in
     ap₂ _++_ a b ∙ (part-add bs at 70 (n * 70) ∙ ap (λ (k : ℕ). take k (drop at bs)) e)
 
-keys-part : (bs : List ℕ) → ((i : ℕ) → getD bs i 0 < 256) → (n at : ℕ) → at + n * 2 ≤ length bs → keysBytes (keysFrom n bs at) ≡ take (n * 2) (drop at bs)
+pub keys-part : (bs : List ℕ) → ((i : ℕ) → getD bs i 0 < 256) → (n at : ℕ) → at + n * 2 ≤ length bs → keysBytes (keysFrom n bs at) ≡ take (n * 2) (drop at bs)
 unfolding keysBytes keysFrom
 keys-part bs y zero at h = let e : 0 * 2 ≡ 0 = omega arith in sym (ap (λ (n : ℕ). take n (drop at bs)) e)
 keys-part bs y (suc n) at h =
@@ -340,3 +340,52 @@ imageOf-stateOf bs w =
     let v : getD bs 822 0 ∷ [] ≡ take 1 (drop 822 bs) = sym (part-cons bs 822 0 (omega arith)) in
     ap₂ _++_ cs (ap₂ _++_ q (ap₂ _++_ u (ap₂ _++_ r (ap₂ _++_ m (ap₂ _++_ n v ∙ part-add bs 820 2 1) ∙ part-add bs 755 65 3) ∙ part-add bs 690 65 68) ∙ part-add bs 625 65 133) ∙ part-add bs 560 65 198)
     ∙ part-add bs 0 560 263 ∙ take-all 823 bs (omega arith)
+
+-- ---- bytes that a caller lends: the board that they hold is all that they have
+
+-- what was saved is what the bytes hold
+pub saved-state : {b : Board} {l : List ℕ} → Saved b l → b ≡ stateOf l
+saved-state v = sym (ap stateOf (v .bytes) ∙ stateOf-imageOf _ (v .sized))
+
+-- those that hold the same board are the same
+pub one-state : {l l₂ : List ℕ} → Whole l → Whole l₂ → stateOf l ≡ stateOf l₂ → l ≡ l₂
+one-state {l} {l₂} w v e = sym (imageOf-stateOf l w) ∙ ap imageOf e ∙ imageOf-stateOf l₂ v
+
+module _ (bs : List ℕ) where
+  queue-sized : (at : ℕ) → at + 65 ≤ length bs → Filled (queueAt bs at)
+  unfolding queueAt
+  queue-sized at h = let n = length-drop (at + 1) bs in length-take-le 64 (drop (at + 1) bs) (omega arith)
+
+  channels-sized : (n at : ℕ) → at + n * 70 ≤ length bs → AllFilled (channelsAt n bs at)
+  unfolding channelsAt channelAt
+  channels-sized zero at h = tt
+  channels-sized (suc n) at h = (queue-sized (at + 5) (omega arith), channels-sized n (at + 70) (omega arith))
+
+  channels-many : (n at : ℕ) → length (channelsAt n bs at) ≡ n
+  unfolding channelsAt
+  channels-many zero at = refl
+  channels-many (suc n) at = ap suc (channels-many n (at + 70))
+
+  keys-many : (n at : ℕ) → length (keysFrom n bs at) ≡ n
+  unfolding keysFrom
+  keys-many zero at = refl
+  keys-many (suc n) at = ap suc (keys-many n (at + 2))
+
+  -- whole bytes are what is saved of the board that they hold
+  pub whole-saved : Whole bs → Saved (stateOf bs) bs
+  unfolding stateOf openAt
+  whole-saved w =
+      let h = whole-long bs w in
+      record {
+        bytes = sym (imageOf-stateOf bs w);
+        sized =
+            record {
+              eight = channels-many 8 0;
+              channels = channels-sized 8 0 (omega arith);
+              locks = queue-sized 560 (omega arith);
+              waiters = queue-sized 625 (omega arith);
+              waiting = queue-sized 690 (omega arith);
+              opens = keys-many 32 756;
+            };
+        whole = w;
+      }

@@ -29,8 +29,7 @@ use Rattle.image.specs.Image.{STATE}
 use Rattle.images.proofs.Images.{saved-of}
 use Rattle.answers.specs.Answers.{answerOf}
 use Rattle.arbiter.specs.Arbiter.{Shows}
-use Rattle.desk_call.specs.declared.Outcome.{Outcome}
-use Rattle.desk_call.specs.DeskCall.{Told, Called}
+use Rattle.desk_call.specs.DeskCall.{Outcome, Told, Called}
 use Rattle.sizes.specs.Sizes.{TABLE}
 use Rattle.starting.specs.Starting.{Fits, Started}
 use Rattle.handed.specs.Handed.{opFor, answerBytes}

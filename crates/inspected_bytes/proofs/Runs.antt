@@ -17,7 +17,7 @@ use Rattle.store.specs.Store.{tableOf}
 use Rattle.board.specs.Board.{structOf, Held}
 use Rattle.image.specs.Image.{imageOf, stateOf, Whole}
 use Rattle.image.proofs.Round.{imageOf-stateOf}
-use Rattle.desk_call.specs.declared.Outcome.{Outcome}
+use Rattle.desk_call.specs.DeskCall.{Outcome}
 use Rattle.desk_call.proofs.Promise.{one-call}
 use Rattle.handed.specs.Handed.{answerBytes}
 use Rattle.boundary.proofs.Crossing.{sound-after}

@@ -30,8 +30,7 @@ use Rattle.lines.proofs.Laws.{length-told}
 use Rattle.gathering.specs.Lumps.{used}
 use Rattle.serving.proofs.Laws.{feed-few}
 use Rattle.taking.specs.declared.Show.{Show}
-use Rattle.taking.specs.declared.Taken.{Taken}
-use Rattle.taking.specs.Desk.{hidden, shownOf, fed, answered, needed, Leaves}
+use Rattle.taking.specs.Desk.{Taken, hidden, shownOf, fed, answered, needed, Leaves}
 use Rattle.taking.proofs.Kept.{Fine, fed-next, answered-fine, leaves-state}
 use Rattle.taking.proofs.Laws.{fed-hidden}
 use Rattle.putting.specs.Putting.{Adds, textOf, Puts}

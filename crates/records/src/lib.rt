@@ -80,7 +80,7 @@ pub fn fill_front(b: Board, table: &[u8], out: &mut [u8]) -> usize
     q.n as usize
 }
 
-pub fn fill(b: Board, table: &[u8], out: &mut [u8; 256]) -> usize
+pub fn fill(b: Board, table: &[u8], out: &mut [u8; audio::RECORDS_SIZE]) -> usize
     requires { ⌜ Held b (now table) ⌝ }
     ensures { λ r. ⌜ Lists b (now (table .entry)) (now (out .entry)) r (now (out .exit)) ⌝ }
 {

@@ -35,8 +35,7 @@ use Rattle.frames.specs.Frames.{combosAfter, Reads}
 use Rattle.frames.proofs.Laws.{Asked, asked-frame}
 use Rattle.lines.specs.Lines.{Tells}
 use Rattle.lines.proofs.Laws.{length-told, ordered-replies, tells-outcome}
-use Rattle.unheard.specs.declared.Fed.{Fed}
-use Rattle.unheard.specs.Unheard.{dull, Dull}
+use Rattle.unheard.specs.Unheard.{Fed, dull, Dull}
 use Rattle.unheard.proofs.Laws.{fed-parts}
 use Rattle.serving.specs.Serving.{Feeds, FeedsDisplay}
 

@@ -13,7 +13,7 @@ use Rattle.memory.specs.Splice.{splice}
 use Rattle.board.specs.declared.Board.{Board}
 use Rattle.store.specs.Store.{tableOf}
 use Rattle.board.specs.Board.{structOf, stateIn, Held}
-use Rattle.unheard.specs.declared.Fed.{Fed}
+use Rattle.unheard.specs.Unheard.{Fed}
 
 pub record Feeds (s : Board) (tb l out : List ℕ) (f : Fed) (tb′ out′ : List ℕ) : Type 0 where
   pub struct : f .state ≡ structOf (feed (stateIn s tb) l .next)

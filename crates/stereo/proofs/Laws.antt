@@ -194,3 +194,8 @@ ascending (m ∷ ms) = all (ltb m) ms && ascending ms
 pub wished-ascends : (l r : ℕ) → l ≤ 2 → r ≤ 2 → T (ascending (wished l r))
 unfolding ascending wished meets lefts rights named below keep all
 wished-ascends l r h g = nine (λ a b. ascending (wished a b)) tt l r h g
+
+-- #108: "One left and one right gives 03, 05, 0A and 0C. None and none gives 00 alone."; "channels 0 and 3 sound left, 1 and 2 right"
+pub sides : (wished 1 1 ≡ 3 ∷ 5 ∷ 10 ∷ 12 ∷ []) × (wished 0 0 ≡ 0 ∷ []) × (wished 2 0 ≡ 9 ∷ []) × (wished 0 2 ≡ 6 ∷ [])
+unfolding wished meets lefts rights named below keep
+sides = (refl, refl, refl, refl)

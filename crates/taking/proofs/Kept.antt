@@ -26,8 +26,7 @@ use Rattle.board.proofs.Laws.{held-next}
 use Rattle.gathering.specs.Lumps.{ended, used}
 use Rattle.digits.proofs.Laws.{Small, small-digit}
 use Rattle.taking.specs.declared.Show.{Show}
-use Rattle.taking.specs.declared.Taken.{Taken}
-use Rattle.taking.specs.Desk.{fed, Desk, gathered, answered, taken, fits, takes, filled, closed, finished, Leaves}
+use Rattle.taking.specs.Desk.{Taken, fed, Desk, gathered, answered, taken, fits, takes, filled, closed, finished, Leaves}
 
 -- ---- a frame's numbers fit their bytes
 

@@ -18,11 +18,10 @@ use Rattle.store.specs.Store.{tableOf}
 use Rattle.board.specs.Board.{structOf, stateIn, Held}
 use Rattle.gathering.specs.declared.Gathered.{Gathered}
 use Rattle.gathering.specs.Lumps.{LINE, front, ended, used, kept, Gathers}
-use Rattle.unheard.specs.declared.Fed.{Fed}
+use Rattle.unheard.specs.Unheard.{Fed}
 use Rattle.serving.specs.Serving.{Feeds, FeedsDisplay}
 use Rattle.taking.specs.declared.Show.{Show}
-use Rattle.taking.specs.declared.Taken.{Taken}
-use Rattle.taking.specs.Desk.{hidden, shownOf, fed, Desk, deskOf, gathered, answered, taken, closed, Leaves, Takes, Ends}
+use Rattle.taking.specs.Desk.{Taken, hidden, shownOf, fed, Desk, deskOf, gathered, answered, taken, closed, Leaves, Takes, Ends}
 
 -- ---- fed
 

@@ -22,6 +22,8 @@
 --   filled show d bs       a whole lump, as far as the page has room: a lump has no more lines than bytes
 --   closed show d          the log has ended: what stands of a last line is answered; nothing where nothing stands
 --   finished show d        the same, where the page has room
+--   Taken                  what a call leaves beside the lent bytes: the state, how much stands of a line that has not ended, how much of
+--                          the fragment is used, and how much output stands; takenIn st t: of a call that leaves the state in bytes
 --   Leaves t l tb dp p d   what a call leaves, beside the lent bytes, is the desk d: every field and every byte
 --   Takes, Ends            what `take` and `take_end` promise: on an empty page, and nothing shown
 use Prim.Native.Nat.{ℕ, zero, suc, _+_}
@@ -38,10 +40,11 @@ use Rattle.memory.specs.Splice.{splice}
 use Rattle.board.specs.declared.Board.{Board}
 use Rattle.store.specs.Store.{tableOf}
 use Rattle.board.specs.Board.{structOf, stateIn}
+use Rattle.image.specs.Image.{stateOf}
 use Rattle.channel_lines.specs.ChannelLines.{boardLines}
 use Rattle.gathering.specs.Lumps.{ended, used, kept}
 use Rattle.taking.specs.declared.Show.{Show}
-use Rattle.taking.specs.declared.Taken.{Taken}
+use Rattle.taking.specs.declared.Left.{Left}
 
 -- ---- the log with what is shown
 
@@ -130,6 +133,15 @@ closed show d = if eqb (d .n) 0 then d else answered show d
 
 unfoldable pub finished : Show → Desk → Desk
 finished show d = if fits show d then closed show d else d
+
+pub record Taken : Type 0 where
+  pub state : Board
+  pub line : ℕ
+  pub used : ℕ
+  pub at : ℕ
+
+abbrev pub takenIn : List ℕ → Left → Taken
+takenIn st t = record { state = stateOf st; line = t .line; used = t .used; at = t .at }
 
 pub record Leaves (t : Taken) (l tb dp p : List ℕ) (d : Desk) : Type 0 where
   pub struct : t .state ≡ structOf (d .state)

@@ -6,15 +6,15 @@ use mathlib.Core.Path.{_≡_, refl, subst}
 use mathlib.Core.Bool.{Bool, true, false, not, _&&_, _||_}
 use mathlib.Core.List.{List, [], _∷_}
 use lib.Dec.{T, T-not, not-T, eqb, eqb→eq}
-use lib.ListN.{length}
-use Rattle.machine.specs.State.{State, Call, Op, OPEN, CLOSE, ABORT, EVENT, GAVE·UP, COMMAND, free}
+use lib.ListN.{length, take}
+use Rattle.machine.specs.State.{State, Call, Op, OPEN, CLOSE, ABORT, EVENT, CYCLE·ENDED, GAVE·UP, COMMAND, free}
 use Rattle.machine.specs.Desks.{deskOf, foreign}
 use Rattle.machine.specs.Kinds.{kind}
 use Rattle.machine.specs.Call.{call}
 use Rattle.machine.specs.Machine.{machine}
 use Rattle.machine.specs.Walks.{plays, asksFrom}
 use Rattle.machine.proofs.Tests.{and-both, by-test, test-true, test-false}
-use Rattle.two_runs.specs.TwoRuns.{Start, Step, our, their, own, seen, claim, peeks, avoids, Keeps, Run}
+use Rattle.two_runs.specs.TwoRuns.{Start, Step, our, their, own, seen, reached, claim, peeks, avoids, Keeps, Run}
 use Rattle.two_runs.specs.Desk.{ofDesk, fromOther, spares, ByOtherDesk, KeepsApart, RunOfDesk, Demand3·desk}
 use Rattle.two_runs.proofs.TwoRuns.{K-sees-the-same}
 use Rattle.two_runs.proofs.Premises.{premises, starts-all}
@@ -32,23 +32,16 @@ unfolding fromOther spares avoids
 avoids-of d k f OPEN c s n t = t
 avoids-of d k f CLOSE c s n t = t
 avoids-of d k f ABORT c s n t =
-    by-test (eqb (deskOf (c .id)) d) (λ u. rw (test-true (foreign c) (apart-or-foreign d c n u)) tt)
-    (λ u. rw (test-false (eqb (deskOf (c .id)) d) u) (go (foreign c)))
-  where
-    go : (b : Bool) → T (b || true)
-    go true = tt
-    go false = tt
+    by-test (foreign c) (λ g. rw (test-true (foreign c) g) tt)
+    (λ g. rw (test-false (foreign c) g) (not-T (eqb (deskOf (c .id)) d)
+    (λ u. T-not (foreign c) g (apart-or-foreign d c (rw (test-false (foreign c) g) at n) u))))
 avoids-of d k f (EVENT v) c s n t = t
 avoids-of d k f (COMMAND m) c s n t =
-    by-test (eqb (deskOf (c .id)) d) (λ u. rw (test-true (foreign c) (apart-or-foreign d c n u)) tt)
-    (λ u. go (foreign c) (and-both (peeks (kind m) || not (eqb (c .key) k)) (not (eqb (deskOf (c .id)) d)) t u))
-  where
-    a : Bool
-    a = (peeks (kind m) || not (eqb (c .key) k)) && not (eqb (deskOf (c .id)) d)
-
-    go : (b : Bool) → T a → T (b || a)
-    go true h = tt
-    go false h = h
+    by-test (foreign c) (λ g. rw (test-true (foreign c) g) tt)
+    (λ g. rw (test-false (foreign c) g)
+    (and-both (peeks (kind m) || not (eqb (c .key) k)) (not (eqb (deskOf (c .id)) d)) (rw (test-false (foreign c) g) at t)
+    (not-T (eqb (deskOf (c .id)) d)
+    (λ u. T-not (foreign c) g (apart-or-foreign d c (rw (test-false (foreign c) g) at n) u)))))
 
 keeps-of : (d k f : ℕ) (s : State) (xs : List Step) → KeepsApart d (ofDesk d k f) s xs → Keeps (ofDesk d k f) s xs
 keeps-of d k f s [] h = tt
@@ -145,3 +138,51 @@ how-many = refl
 pub kept-off : (call begun (asksFrom 0 ABORT 34 0 0 0 1 [] 64) .answer .error ≡ 8) × (call begun (asksFrom 0 (COMMAND 3) 41 0 2 128 7 [] 64) .answer .error ≡ 8)
 unfolding machine
 kept-off = (refl, refl)
+
+-- ---- two runs for desk A, in the same state: it has key 7 on channel 1
+
+-- desk A writes, a cycle ends, it reads
+abbrev alone-A : List Step
+alone-A =
+    our (asksFrom 0 (COMMAND 3) 3 0 2 128 7 [] 64)
+    ∷ our (asksFrom 0 (EVENT CYCLE·ENDED) 0 0 2 0 0 [] 64)
+    ∷ our (asksFrom 0 (COMMAND 2) 31 0 2 128 7 [] 64)
+    ∷ []
+
+-- each desk opens with a key of its own and closes it again, desk B before and behind desk A's calls; desk B names desk A's ids, and desk A
+-- desk B's under its own key: both get 8
+abbrev beside-A : List Step
+beside-A =
+    their (asksFrom 1 OPEN 0 0 0 138 0 (4 ∷ []) 64)
+    ∷ their (asksFrom 0 OPEN 0 0 0 138 0 [] 64)
+    ∷ our (asksFrom 0 (COMMAND 3) 3 0 2 128 7 [] 64)
+    ∷ their (asksFrom 1 ABORT 2 0 0 0 7 [] 64)
+    ∷ their (asksFrom 0 (COMMAND 8) 40 0 2 128 7 [] 64)
+    ∷ their (asksFrom 0 ABORT 33 0 0 0 7 [] 64)
+    ∷ their (asksFrom 1 (COMMAND 3) 40 0 4 128 8 [] 64)
+    ∷ their (asksFrom 1 CLOSE 0 0 0 0 8 [] 64)
+    ∷ our (asksFrom 1 (EVENT CYCLE·ENDED) 9 0 14 0 0 [] 64)
+    ∷ their (asksFrom 0 CLOSE 0 0 0 0 9 [] 64)
+    ∷ our (asksFrom 0 (COMMAND 2) 31 0 2 128 7 [] 64)
+    ∷ []
+
+begins-A : Start (ofDesk 0 7 138) begun
+begins-A = starts-all (ofDesk 0 7 138) begun (unfold machine claim premises in tt)
+
+alone-A-keeps : RunOfDesk 0 (ofDesk 0 7 138) begun alone-A
+unfolding machine claim fromOther spares
+alone-A-keeps =
+    record { keeps = (record { party = tt; sends = tt; high = tt }, (record { party = tt; sends = tt; high = tt }, (record { party = tt; sends = tt; high = tt }, tt))); full = tt; fits = tt }
+
+beside-A-keeps : RunOfDesk 0 (ofDesk 0 7 138) begun beside-A
+unfolding machine claim fromOther spares
+beside-A-keeps =
+    record { keeps = (record { other = tt; apart = tt; low = tt }, (record { other = tt; apart = tt; low = tt }, (record { party = tt; sends = tt; high = tt }, (record { other = tt; apart = tt; low = tt }, (record { other = tt; apart = tt; low = tt }, (record { other = tt; apart = tt; low = tt }, (record { other = tt; apart = tt; low = tt }, (record { other = tt; apart = tt; low = tt }, (record { party = tt; sends = tt; high = tt }, (record { other = tt; apart = tt; low = tt }, (record { party = tt; sends = tt; high = tt }, tt))))))))))); full = tt; fits = tt }
+
+pub alike-A : seen (ofDesk 0 7 138) begun alone-A ≡ seen (ofDesk 0 7 138) begun beside-A
+alike-A = desk-sees-the-same 0 7 138 begun alone-A beside-A begins-A alone-A-keeps beside-A-keeps (unfold machine claim in refl)
+
+-- the keys that stand open at the end: those of desk A's and desk B's openings are gone again
+pub closed-again : (reached begun (take 2 beside-A) .opens ≡ 1 ∷ 7 ∷ 8 ∷ 9 ∷ []) × (reached begun beside-A .opens ≡ 1 ∷ 7 ∷ [])
+unfolding machine claim
+closed-again = (refl, refl)

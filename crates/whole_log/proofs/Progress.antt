@@ -31,8 +31,7 @@ use Rattle.gathering.specs.Lumps.{LINE, ended, used}
 use Rattle.gathering.proofs.Lumps.{used-within}
 use Rattle.serving.proofs.Laws.{feed-few}
 use Rattle.taking.specs.declared.Show.{Show}
-use Rattle.taking.specs.declared.Taken.{Taken}
-use Rattle.taking.specs.Desk.{shownOf, displayAfter, fed, Desk, deskOf, gathered, answered, taken, needed, fits, takes, filled, closed, finished, Leaves}
+use Rattle.taking.specs.Desk.{Taken, shownOf, displayAfter, fed, Desk, deskOf, gathered, answered, taken, needed, fits, takes, filled, closed, finished, Leaves}
 use Rattle.taking.proofs.Kept.{Fine, held-fine, feed-fine, answered-fine, leaves-held}
 use Rattle.taking.proofs.Laws.{kept-few, taken-used, used-some}
 use Rattle.paging.specs.Paging.{Fills}

@@ -16,8 +16,7 @@ use Rattle.store.specs.Store.{tableOf}
 use Rattle.board.specs.Board.{sized, structOf, stateIn, Held}
 use Rattle.gathering.specs.Lumps.{LINE}
 use Rattle.taking.specs.declared.Show.{Show}
-use Rattle.taking.specs.declared.Taken.{Taken}
-use Rattle.taking.specs.Desk.{Desk, deskOf, needed, fits, filled, closed, finished, Leaves}
+use Rattle.taking.specs.Desk.{Taken, Desk, deskOf, needed, fits, filled, closed, finished, Leaves}
 use Rattle.taking.proofs.Kept.{held-fine}
 use Rattle.paging.specs.Paging.{Fills}
 use Rattle.finishing.specs.Finishing.{Finishes}

@@ -25,8 +25,7 @@ use Rattle.board.proofs.Laws.{held-of, stateIn-of, fresh-sane}
 use Rattle.gathering.specs.Lumps.{LINE, front, ended, used, kept, gatheredOf, Gathers}
 use Rattle.gathering.proofs.Lumps.{Stands, stands-none, stands-more, stands-frame, stands-feed, stands-within, front-open, used-open, lines-none, lines-last, lines-step, lines-on}
 use Rattle.taking.specs.declared.Show.{Show}
-use Rattle.taking.specs.declared.Taken.{Taken}
-use Rattle.taking.specs.Desk.{hidden, shownOf, displayAfter, fed, runShown, logShown, Desk, deskOf, gathered, answered, taken, fits, takes, filled, closed, finished, Leaves}
+use Rattle.taking.specs.Desk.{Taken, hidden, shownOf, displayAfter, fed, runShown, logShown, Desk, deskOf, gathered, answered, taken, fits, takes, filled, closed, finished, Leaves}
 use Rattle.taking.proofs.Kept.{leaves-state}
 use Rattle.taking.proofs.Laws.{fed-hidden, taken-open, taken-ended, taken-used, closed-none, closed-some}
 use Rattle.paging.specs.Paging.{Fills}

@@ -17,7 +17,7 @@ use mathlib.Core.List.{List, [], _∷_, _++_}
 use lib.ListN.{take, drop}
 use Rattle.board.specs.declared.Board.{Board}
 use Rattle.taking.specs.declared.Show.{Show}
-use Rattle.taking.specs.declared.Taken.{Taken}
+use Rattle.taking.specs.Desk.{Taken}
 use Rattle.paging.specs.Paging.{Fills}
 use Rattle.finishing.specs.Finishing.{Finishes}
 
