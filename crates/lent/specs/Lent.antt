@@ -1,12 +1,9 @@
--- What a store into the lent bytes of a state makes of the board that they hold, and of which bytes it is one.
+-- What a store into the lent bytes of a state makes of the board that they hold, and of which bytes it is one. Channels have their own file,
+-- in crates/lent_channels.
 -- Assumes nothing.
 --
 --   Tidy q                  zeros stand behind the ids of a queue
 --   without i q             the queue without the first of an id; as it was where the id is not among them
---   headIn c                a channel by value: all but the ids of its writes
---   resetHead .. takenHead  what the methods do
---   kept n q                the queue when its number of writes is stored again: 0 leaves no id, another number leaves the ids
---   stored h c              the channel when its head is stored again
 --   channelOn i b           channel i of a board
 --   withChannel .. withLast a board with one part replaced
 --   Place at                `at` is the place of one of the eleven queues
@@ -15,16 +12,15 @@
 --   structIn l              the struct that the bytes of a state hold: what the promises of commands speak of
 --   Kept l l′               the bytes are whole, and the board has as many channels as before
 --   PutQueue l at f l′      the queue at `at` became f of what it was, and every other byte is as before
---   PutHead l i h l′        the same of the head of channel i; PutOpens l f l′ of the open keys; PutLast l k l′ of the last key
+--   PutOpens l f l′         the same of the open keys; PutLast l k l′ of the last key
 --   PutFresh w l′           a fresh board
 use Prim.Native.Nat.{ℕ, _+_, _*_, _<_}
 use mathlib.Core.Path.{_≡_}
-use mathlib.Core.Bool.{Bool, true, false, not, _&&_, cond}
-use mathlib.Core.List.{List, [], _∷_}
-use lib.Dec.{eqb, ltb}
+use mathlib.Core.Bool.{cond}
+use mathlib.Core.List.{List}
+use lib.Dec.{ltb}
 use lib.ListN.{length, getD, set}
 use Rattle.memory.specs.Splice.{splice}
-use Rattle.machine.specs.Lists.{if_then_else_}
 use Rattle.machine.specs.State.{free}
 use Rattle.queue.specs.declared.Queue.{Queue}
 use Rattle.queue.specs.Queue.{queueOf, listOf, removed, indexOf}
@@ -34,8 +30,7 @@ use Rattle.channel.specs.Channel.{channelOf, withWrites}
 use Rattle.store.specs.declared.State.{State}
 use Rattle.board.specs.declared.Board.{Board}
 use Rattle.board.specs.Board.{freshBoard}
-use Rattle.image.specs.Image.{keyBytes, queueBytes, openBytes, channelBytes, imageOf, queueAt, openAt, channelAt, stateOf, Whole}
-use Rattle.lent.specs.declared.Channel.{Channel as Head}
+use Rattle.image.specs.Image.{keyBytes, queueBytes, openBytes, imageOf, queueAt, openAt, stateOf, Whole}
 
 -- ---- queues
 
@@ -46,38 +41,6 @@ abbrev pub without : ℕ → Queue → Queue
 without i q =
     let k = indexOf i (listOf q) in
     cond (ltb k (q .n)) (removed q k) q
-
--- ---- a channel by value
-
-abbrev pub headIn : Channel → Head
-headIn c = record { key = c .key; prec = c .prec; locked = c .locked; stopped = c .stopped; writes = c .writes .n }
-
-abbrev pub unusedHead : Head
-unusedHead = headIn (channelOf free)
-
-abbrev pub resetHead : Head → Head
-resetHead h = record { key = h .key; prec = h .prec; locked = h .locked; stopped = false; writes = 0 }
-
-abbrev pub precHead : ℕ → Head → Head
-precHead p h = record { key = h .key; prec = p; locked = h .locked; stopped = h .stopped; writes = h .writes }
-
-abbrev pub flushHead : Head → Head
-flushHead h = record { key = h .key; prec = h .prec; locked = h .locked; stopped = h .stopped; writes = 0 }
-
-abbrev pub stopHead : Bool → Head → Head
-stopHead b h = record { key = h .key; prec = h .prec; locked = h .locked; stopped = b; writes = h .writes }
-
-abbrev pub lockHead : Head → Head
-lockHead h = record { key = h .key; prec = h .prec; locked = true; stopped = h .stopped; writes = h .writes }
-
-abbrev pub takenHead : ℕ → ℕ → Head → Head
-takenHead k p h = record { key = k; prec = p; locked = h .locked; stopped = false; writes = 0 }
-
-abbrev pub kept : ℕ → Queue → Queue
-kept n q = if eqb n 0 then queueOf [] else (record { n = n; ids = q .ids })
-
-abbrev pub stored : Head → Channel → Channel
-stored h c = record { key = h .key; prec = h .prec; locked = h .locked; stopped = h .stopped; writes = kept (h .writes) (c .writes) }
 
 -- ---- a board with one part replaced
 
@@ -175,11 +138,6 @@ pub record PutQueue (l : List ℕ) (at : ℕ) (f : Queue → Queue) (l′ : List
   pub bytes : l′ ≡ splice l at (queueBytes (f (queueAt l at)))
   pub long : length l′ ≡ length l
   pub holds : (p : Place at) → Whole l → Holds (withQueue p (f (queueIn p (stateOf l))) (stateOf l)) l′
-
-pub record PutHead (l : List ℕ) (i : ℕ) (h : Head) (l′ : List ℕ) : Type 0 where
-  pub bytes : l′ ≡ splice l (i * 70) (channelBytes (stored h (channelAt l (i * 70))))
-  pub long : length l′ ≡ length l
-  pub holds : Whole l → Holds (withChannel i (stored h (channelOn i (stateOf l))) (stateOf l)) l′
 
 pub record PutOpens (l : List ℕ) (f : Keys → Keys) (l′ : List ℕ) : Type 0 where
   pub bytes : l′ ≡ splice l 755 (openBytes (f (openAt l 755)))
