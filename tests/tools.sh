@@ -67,8 +67,19 @@ helps() {
     done
 }
 
-# plain_page: the page on saved texts calls the commands by name too.
-plain_page() { ! grep -e '\./arbiter-log' "$place/$documents/saved.md" && grep -q -e ' arbiter-log --save FILE' "$place/$documents/saved.md"; }
+# plain_pages: the pages for who runs the tools call the commands by name too, and the logs that they speak of stand beside them.
+plain_pages() {
+    (cd "$place/$documents" && ! grep -E '\./(arbiter-log|explain|wall|saved|stereo)|(second|examples)/[a-z]+\.' tools.md log.md wall.md saved.md) &&
+        grep -q -e ' arbiter-log --save FILE' "$place/$documents/saved.md"
+}
+
+# draws_ferry: what the wall's page says is done as it says it, in the folder of the pages.
+draws_ferry() {
+    line=$(sed -n 's/^    wall --html \(.*\) > wall.html$/\1/p' "$place/$documents/wall.md")
+    [ "$line" = '--names ferry.names < ferry.log' ] &&
+        (cd "$place/$documents" && env -i PATH="$work/usual" "$place/bin/wall" --html --names ferry.names <ferry.log) >"$work/out" &&
+        ./wall --html --names examples/ferry.names <examples/ferry.log | sed 's,\./explain,explain,' | cmp - "$work/out"
+}
 
 # man_reads: where there is a man, it reads the pages without a warning.
 man_reads() {
@@ -140,7 +151,8 @@ check "it moves and tells a text" moves
 check "it makes a list for stereo" makes_list
 check "it has the version" has_version
 check "every command explains itself, and has a page for man" helps
-check "the page on saved texts calls them by name" plain_page
+check "the pages call them by name" plain_pages
+check "the wall of the page on it is drawn as it says" draws_ferry
 ! command -v man >/dev/null || check "man reads the pages" man_reads
 check "by a link to a link, and by the PATH" by_link
 check "with CDPATH set" by_cdpath
@@ -181,7 +193,10 @@ wrong makes_list rm libexec/qamhudeer/programs/stereo_program
 wrong has_version rm libexec/qamhudeer/include/qamhudeer.h
 wrong helps sed -i '/load FILE/d' share/man/man1/explain.1
 wrong helps sed -i 's,  stereo LEFT,  ./stereo LEFT,' libexec/qamhudeer/stereo
-wrong plain_page cp "$root/docs/saved.md" $documents/saved.md
+wrong plain_pages cp "$root/docs/saved.md" $documents/saved.md
+wrong plain_pages cp "$root/docs/log.md" $documents/log.md
+wrong draws_ferry rm $documents/ferry.names
+wrong draws_ferry rm $documents/wall.md
 wrong by_link sed -i 's/readlink -f --/printf %s/' bin/arbiter-log
 wrong by_cdpath sed -i 's/^self=.*/self=$(cd "$(dirname "$0")" \&\& pwd)\/${0##*\/}/' bin/arbiter-log
 [ "$(id -u)" -ne 0 ] || ! command -v setpriv >/dev/null || wrong as_nobody chmod 700 libexec/qamhudeer/scripts/words.awk
