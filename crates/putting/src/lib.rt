@@ -1,4 +1,5 @@
 // A line's output put on a lent page, behind what stands there, then what is shown of the board. Assumes nothing.
+use record_structs::Waiter;
 use taking::Left;
 use taking::Show;
 ghost use Prim.Native.Nat.{_+_, _≤_};
@@ -47,11 +48,18 @@ fn put_display(
     if !show {
         return at;
     }
-    let s = decoding::load(state);
-    let mut waiting = [0u8; audio::RECORDS_SIZE];
-    let n = records::fill(s, table, &mut waiting);
+    let width = lent::width(state);
+    let none = Waiter {
+        id: 0,
+        prec: 0,
+        held: false,
+        desk: 0,
+    };
+    let w = record_structs::in_array(state, table, [none; 64]);
+    let listed = w.listed;
+    let list = w.list;
     let mut text = [0u8; 743];
-    let k = display_lines::spell(s.width, display, &waiting, n, &mut text);
+    let k = display_lines::spell(width, display, list, listed.count, &mut text);
     memory::copy(page, at, &text[..k]);
     at + k
 }

@@ -2,8 +2,10 @@
 use mathlib.Core.Path.{_≡_, refl, sym}
 use native.Mathlib.Omega.{arith}
 use borrow.Author.Tests.{not-true, not-false}
+use lib.Dec.{lit≤}
 use lib.ListN.{length}
 use lib.Seq.{length-take-le}
+use Rattle.image.proofs.Laws.{whole-long}
 use Rattle.putting.proofs.Laws.{shown-room, few-within, wide-eight, listed-few, spelt-long, display-hidden, display-shown}
 use borrow.Author.Needs.{needs}
 use Rattle.putting.proofs.put_display.Statement.{statement}
@@ -11,77 +13,74 @@ use Rattle.putting.proofs.put_display.Tie as tie
 use Rattle.putting.proofs.put_display.Reads as reads
 use Rattle.putting.proofs.put_display.Lts as lts
 use Rattle.display_lines.proofs.spell.Reads as spell-reads
+use Rattle.lent.proofs.width.Reads as width-reads
 use Rattle.memory.proofs.copy.Reads as copy-reads
-use Rattle.records.proofs.fill.Reads as fill-reads
+use Rattle.record_structs.proofs.in_array.Reads as in-array-reads
 
 returns : tie.Need-returns
 returns c = display-hidden _ _ _ _ (not-true (c .before .before .before .before .args .show) (c .if1 .taken))
 
-load-requires : tie.Need-load-requires
-load-requires c κs = c .before .before .before .before .pre .0
+width-requires : tie.Need-width-requires
+width-requires c κs = whole-long _ (c .before .before .before .before .pre .0)
 
-fill-requires : tie.Need-fill-requires
-fill-requires c κs = rw (c .before .load .ensures) (c .before .before .before .before .before .before .pre .1)
+in-array-requires : tie.Need-in-array-requires
+in-array-requires c κs = search needs
 
 spell-requires : tie.Need-spell-requires
 spell-requires c κs =
-    let f = c .before .before in
-    let held = f .before .before .before .before .before .before .before .pre .1 in
-    let b = f .before .before .load .ensures in
-    rw b (wide-eight held, listed-few held (rw b at (f .fill .ensures)))
+    let told = c .before .before .before in
+    let board = told .before in
+    let start = board .before .before .before .before .before in
+    rw (board .width .ensures) (wide-eight (start .pre .1), listed-few (start .pre .0, start .pre .1) (lit≤ tt) (told .in-array .ensures))
 
 array-share-prefix-text : tie.Need-array-share-prefix-text
 array-share-prefix-text c =
     let shown = c .before in
-    let listed = shown .before .before .before in
-    let start = listed .before .before .before .before .before .before .before in
-    let held = start .pre .1 in
-    let b = listed .before .before .load .ensures in
-    let q = rw b at (listed .fill .ensures) in
-    let v = rw b at (shown .spell .ensures) in
+    let told = shown .before .before .before .before in
+    let board = told .before in
+    let start = board .before .before .before .before .before in
+    let v = rw (board .width .ensures) at (shown .spell .ensures) in
     let few = shown .spell .ensures .few in
-    let n : length (shown .spell .last .1 .1 .1 .1 .0) ≡ 743 = spelt-long held q v refl in
+    let n : length (shown .spell .last .1 .1 .1 .1 .0) ≡ 743 =
+    spelt-long (start .pre .0, start .pre .1) (lit≤ tt) (told .in-array .ensures) v refl in
     omega arith
 
 slice-aggregate-copy : tie.Need-slice-aggregate-copy
 slice-aggregate-copy c =
     let shown = c .before .before in
-    let listed = shown .before .before .before in
-    let start = listed .before .before .before .before .before .before .before in
-    let held = start .pre .1 in
-    let b = listed .before .before .load .ensures in
-    let q = rw b at (listed .fill .ensures) in
-    let v = rw b at (shown .spell .ensures) in
+    let told = shown .before .before .before .before in
+    let board = told .before in
+    let start = board .before .before .before .before .before in
+    let v = rw (board .width .ensures) at (shown .spell .ensures) in
     let few = shown .spell .ensures .few in
-    let n : length (shown .spell .last .1 .1 .1 .1 .0) ≡ 743 = spelt-long held q v refl in
+    let n : length (shown .spell .last .1 .1 .1 .1 .0) ≡ 743 =
+    spelt-long (start .pre .0, start .pre .1) (lit≤ tt) (told .in-array .ensures) v refl in
     sym (length-take-le _ _ (few-within few n))
 
 copy-requires : tie.Need-copy-requires
 copy-requires c κs =
     let shown = c .before .before in
-    let listed = shown .before .before .before in
-    let start = listed .before .before .before .before .before .before .before in
-    let held = start .pre .1 in
-    let b = listed .before .before .load .ensures in
-    let q = rw b at (listed .fill .ensures) in
-    let v = rw b at (shown .spell .ensures) in
+    let told = shown .before .before .before .before in
+    let board = told .before in
+    let start = board .before .before .before .before .before in
+    let v = rw (board .width .ensures) at (shown .spell .ensures) in
     let few = shown .spell .ensures .few in
-    let n : length (shown .spell .last .1 .1 .1 .1 .0) ≡ 743 = spelt-long held q v refl in
-    let r = shown-room 743 _ (not-false (start .args .show) (listed .before .before .before .if1 .left)) (start .pre .2) in
+    let n : length (shown .spell .last .1 .1 .1 .1 .0) ≡ 743 =
+    spelt-long (start .pre .0, start .pre .1) (lit≤ tt) (told .in-array .ensures) v refl in
+    let r = shown-room 743 _ (not-false (start .args .show) (board .before .if1 .left)) (start .pre .2) in
     rw (length-take-le _ _ (few-within few n)) (omega arith)
 
 add-result : tie.Need-add-result
 add-result c =
     let shown = c .before .before .before .before .before in
-    let listed = shown .before .before .before in
-    let start = listed .before .before .before .before .before .before .before in
-    let held = start .pre .1 in
-    let b = listed .before .before .load .ensures in
-    let q = rw b at (listed .fill .ensures) in
-    let v = rw b at (shown .spell .ensures) in
+    let told = shown .before .before .before .before in
+    let board = told .before in
+    let start = board .before .before .before .before .before in
+    let v = rw (board .width .ensures) at (shown .spell .ensures) in
     let few = shown .spell .ensures .few in
-    let n : length (shown .spell .last .1 .1 .1 .1 .0) ≡ 743 = spelt-long held q v refl in
-    let r = shown-room 743 _ (not-false (start .args .show) (listed .before .before .before .if1 .left)) (start .pre .2) in
+    let n : length (shown .spell .last .1 .1 .1 .1 .0) ≡ 743 =
+    spelt-long (start .pre .0, start .pre .1) (lit≤ tt) (told .in-array .ensures) v refl in
+    let r = shown-room 743 _ (not-false (start .args .show) (board .before .if1 .left)) (start .pre .2) in
     search needs
 
 same-length : tie.Need-same-length
@@ -91,11 +90,11 @@ returns-2 : tie.Need-returns-2
 returns-2 c =
     let copied = c .before .before in
     let shown = copied .before .before .before in
-    let listed = shown .before .before .before in
-    let test = listed .before .before .before in
+    let told = shown .before .before .before .before in
+    let board = told .before in
+    let test = board .before in
     let start = test .before .before .before .before in
-    let b = listed .before .before .load .ensures in
-    display-shown (start .pre .1) (rw b at (listed .fill .ensures)) (rw b at (shown .spell .ensures))
+    display-shown (start .pre .0, start .pre .1) (lit≤ tt) (told .in-array .ensures) (rw (board .width .ensures) at (shown .spell .ensures))
     (not-false (start .args .show) (test .if1 .left)) (copied .copy .ensures)
 
 pub put-display-spec : {M : Type 1} → statement M
@@ -103,8 +102,8 @@ put-display-spec =
     tie.close
     (tie.spec
     returns
-    load-requires
-    fill-requires
+    width-requires
+    in-array-requires
     spell-requires
     array-share-prefix-text
     slice-aggregate-copy
