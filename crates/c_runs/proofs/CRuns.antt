@@ -126,7 +126,7 @@ front-splice xs ys vs at h =
     ap (λ (z : List ℕ). z ++ (vs ++ drop (at + length vs) (xs ++ ys))) (ap (λ (n : ℕ). take n (xs ++ ys)) e ∙ take-append-add xs ys (at - length xs))
     ∙ append-assoc xs (take (at - length xs) ys) (vs ++ drop (at + length vs) (xs ++ ys))
 
-module _ (p : Party) (l : List ℕ) (rs : List Reply) (g : 384 ≤ length l) (a : length (repliesTo DESK·A rs) ≤ HALF) where
+module _ (l : List ℕ) (rs : List Reply) (g : 384 ≤ length l) (a : length (repliesTo DESK·A rs) ≤ HALF) where
   abbrev xs : List ℕ
   xs = encodes (repliesTo DESK·A rs)
 
@@ -148,11 +148,12 @@ module _ (p : Party) (l : List ℕ) (rs : List Reply) (g : 384 ≤ length l) (a 
       let n = length-splice l 0 xs (omega arith) in
       drop-splice (splice l 0 xs) 192 ys (omega arith)
 
-  first-half : recordsTo p (length (repliesTo DESK·A rs)) (laid l rs) ≡ map encode (ownReplies p (repliesTo DESK·A rs))
-  first-half = ap (recordsTo p (length (repliesTo DESK·A rs))) first-bytes ∙ recordsTo-encodes p (repliesTo DESK·A rs) _
+  first-half : (p : Party) → recordsTo p (length (repliesTo DESK·A rs)) (laid l rs) ≡ map encode (ownReplies p (repliesTo DESK·A rs))
+  first-half p = ap (recordsTo p (length (repliesTo DESK·A rs))) first-bytes ∙ recordsTo-encodes p (repliesTo DESK·A rs) _
 
-  second-half : recordsTo p (length (repliesTo DESK·B rs)) (drop 192 (laid l rs)) ≡ map encode (ownReplies p (repliesTo DESK·B rs))
-  second-half = ap (recordsTo p (length (repliesTo DESK·B rs))) second-bytes ∙ recordsTo-encodes p (repliesTo DESK·B rs) _
+  second-half : (p : Party)
+      → recordsTo p (length (repliesTo DESK·B rs)) (drop 192 (laid l rs)) ≡ map encode (ownReplies p (repliesTo DESK·B rs))
+  second-half p = ap (recordsTo p (length (repliesTo DESK·B rs))) second-bytes ∙ recordsTo-encodes p (repliesTo DESK·B rs) _
 
 -- the party's of a desk's replies are the desk's of the party's
 own-to : (p : Party) (d : ℕ) (rs : List Reply) → ownReplies p (repliesTo d rs) ≡ repliesTo d (ownReplies p rs)
@@ -177,17 +178,19 @@ took-records {st} {tb} {t} p w h k g =
     let f = call-halves (stateIn (stateOf st) tb) (asked t) (h .sane) in
     let m = took-numbers w h k in
     ap₂ _++_
-    (ap₂ (recordsTo p) (m .0) (u .list) ∙ first-half p (t .lent) rs g (f .0) ∙ ap (map encode) (own-to p DESK·A rs))
-    (ap₂ (λ (i : ℕ) (x : List ℕ). recordsTo p i (drop 192 x)) (m .1) (u .list) ∙ second-half p (t .lent) rs g (f .0) ∙ ap (map encode) (own-to p DESK·B rs))
+    (ap₂ (recordsTo p) (m .0) (u .list) ∙ first-half (t .lent) rs g (f .0) p ∙ ap (map encode) (own-to p DESK·A rs))
+    (ap₂ (λ (i : ℕ) (x : List ℕ). recordsTo p i (drop 192 x)) (m .1) (u .list)
+    ∙ second-half (t .lent) rs g (f .0) p ∙ ap (map encode) (own-to p DESK·B rs))
     ∙ sym (map-append encode (repliesTo DESK·A (ownReplies p rs)) (repliesTo DESK·B (ownReplies p rs)))
 
 -- ---- what the K party sees is what it sees of the machine's run
 
 -- an answer's six bytes
-abbrev six : Answer → List ℕ
+abbrev pub six : Answer → List ℕ
 six a = take 6 (answerBytes (answerOf a) 0 0)
 
-took-answer : {st tb : List ℕ} {t : Turn} (w : Whole st) (h : Held (stateOf st) tb) (k : Took st tb t) → spoken t ≡ six (call (stateIn (stateOf st) tb) (asked t) .answer)
+pub took-answer : {st tb : List ℕ} {t : Turn} (w : Whole st) (h : Held (stateOf st) tb) (k : Took st tb t)
+    → spoken t ≡ six (call (stateIn (stateOf st) tb) (asked t) .answer)
 unfolding spoken answerBytes
 took-answer w h k =
     ap (take 6) (over w h k .answer) ∙ ap (λ (a : _). take 6 (answerBytes a 0 0)) (tells w h k .answer)

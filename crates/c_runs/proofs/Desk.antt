@@ -69,25 +69,30 @@ own-b : (k f : ℕ) (rs : List Reply) → halves (ownReplies (ofDesk DESK·B k f
 unfolding halves ownReplies repliesTo
 own-b k f rs = ap₂ _++_ (none-of DESK·B DESK·A (λ q. omega arith) rs) (to-twice DESK·B rs)
 
-module _ {st tb : List ℕ} {t : Turn} (k f : ℕ) (w : Whole st) (h : Held (stateOf st) tb) (x : Took st tb t) (g : 384 ≤ length (t .lent)) where
+module _ {st tb : List ℕ} {t : Turn} (w : Whole st) (h : Held (stateOf st) tb) (x : Took st tb t) (g : 384 ≤ length (t .lent)) where
   abbrev rs₀ : List Reply
   rs₀ = call (stateIn (stateOf st) tb) (asked t) .replies
 
   few : length (repliesTo DESK·A rs₀) ≤ 32
   few = call-halves (stateIn (stateOf st) tb) (asked t) (h .sane) .0
 
-  pub a-reads-its-half : ownRecords (ofDesk DESK·A k f) t ≡ half DESK·A t
+  -- desk A's half of the list is the bytes of its replies
+  pub half-a : half DESK·A t ≡ map encode (repliesTo DESK·A rs₀)
   unfolding half
-  a-reads-its-half =
-      took-records (ofDesk DESK·A k f) w h x g ∙ ap (map encode) (own-a k f rs₀)
-      ∙ sym
-      (ap₂ (λ (n : ℕ) (l : List ℕ). records n (drop 0 l)) (took-numbers w h x .0) (tells w h x .list ∙ first-bytes (ofDesk DESK·A k f) (t .lent) rs₀ g few)
-      ∙ records-encodes (repliesTo DESK·A rs₀) _)
+  half-a =
+      ap₂ (λ (n : ℕ) (l : List ℕ). records n (drop 0 l)) (took-numbers w h x .0) (tells w h x .list ∙ first-bytes (t .lent) rs₀ g few)
+      ∙ records-encodes (repliesTo DESK·A rs₀) _
 
-  pub b-reads-its-half : ownRecords (ofDesk DESK·B k f) t ≡ half DESK·B t
+  -- and so is desk B's
+  pub half-b : half DESK·B t ≡ map encode (repliesTo DESK·B rs₀)
   unfolding half
-  b-reads-its-half =
-      took-records (ofDesk DESK·B k f) w h x g ∙ ap (map encode) (own-b k f rs₀)
-      ∙ sym
-      (ap₂ (λ (n : ℕ) (l : List ℕ). records n l) (took-numbers w h x .1) (ap (drop 192) (tells w h x .list) ∙ second-bytes (ofDesk DESK·B k f) (t .lent) rs₀ g few)
-      ∙ records-encodes (repliesTo DESK·B rs₀) _)
+  half-b =
+      ap₂ (λ (n : ℕ) (l : List ℕ). records n l) (took-numbers w h x .1)
+      (ap (drop 192) (tells w h x .list) ∙ second-bytes (t .lent) rs₀ g few)
+      ∙ records-encodes (repliesTo DESK·B rs₀) _
+
+  pub a-reads-its-half : (k f : ℕ) → ownRecords (ofDesk DESK·A k f) t ≡ half DESK·A t
+  a-reads-its-half k f = took-records (ofDesk DESK·A k f) w h x g ∙ ap (map encode) (own-a k f rs₀) ∙ sym half-a
+
+  pub b-reads-its-half : (k f : ℕ) → ownRecords (ofDesk DESK·B k f) t ≡ half DESK·B t
+  b-reads-its-half k f = took-records (ofDesk DESK·B k f) w h x g ∙ ap (map encode) (own-b k f rs₀) ∙ sym half-b

@@ -134,7 +134,7 @@ module _ {s : StateM} (b : OnBoard s) where
     made-shown : Shows (opFor (opOf (a .op))) (request (made s a)) (structOf s) (a .combos) (tableOf s) records blank (displayed s (spelt a) blank)
     made-shown = record { sound = λ _. rw (board-state b); unsound = λ n. absurd (n (board-held b)) }
 
-    made-took : Took (bytesOf s) (tableOf s) (made s a)
+    pub made-took : Took (bytesOf s) (tableOf s) (made s a)
     unfolding inRange
     made-took =
         let o = call s (spelt a) in
