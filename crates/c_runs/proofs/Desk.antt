@@ -20,7 +20,7 @@ use Rattle.two_runs.specs.TwoRuns.{ownReplies}
 use Rattle.two_runs.specs.Desk.{ofDesk}
 use Rattle.two_runs.proofs.Desk.{avoids-of}
 use Rattle.code_runs.specs.CodeRuns.{records}
-use Rattle.c_runs.specs.CRuns.{Turn, asked, Took, Move, ours, others, Keeps, Run, ownRecords}
+use Rattle.c_runs.specs.CRuns.{Turn, asked, roomy, Took, Move, ours, others, Keeps, Run, ownRecords}
 use Rattle.c_runs.specs.Desk.{KeepsApart, RunOfDesk, half, Demand3·desk·bytes}
 use Rattle.c_runs.proofs.CRuns.{K-sees-the-same-bytes, first-bytes, second-bytes, tells, took-numbers, took-records}
 
@@ -30,7 +30,8 @@ keeps-of : (d k f : ℕ) (st tb : List ℕ) (ms : List Move) → KeepsApart d (o
 keeps-of d k f st tb [] h = tt
 keeps-of d k f st tb (ours t ∷ ms) h = (h .0, keeps-of d k f (t .state) (t .table) ms (h .1))
 keeps-of d k f st tb (others t ∷ ms) h = (
-  record { apart = avoids-of d k f (asked t .op) (asked t) (stateIn (stateOf st) tb) (h .0 .other) (h .0 .apart); low = h .0 .low },
+  λ o. let b = h .0 o in
+      record { apart = avoids-of d k f (asked t .op) (asked t) (stateIn (stateOf st) tb) (b .other) (b .apart); low = b .low },
   keeps-of d k f (t .state) (t .table) ms (h .1),
 )
 
@@ -69,7 +70,8 @@ own-b : (k f : ℕ) (rs : List Reply) → halves (ownReplies (ofDesk DESK·B k f
 unfolding halves ownReplies repliesTo
 own-b k f rs = ap₂ _++_ (none-of DESK·B DESK·A (λ q. omega arith) rs) (to-twice DESK·B rs)
 
-module _ {st tb : List ℕ} {t : Turn} (w : Whole st) (h : Held (stateOf st) tb) (x : Took st tb t) (g : 384 ≤ length (t .lent)) where
+module _ {st tb : List ℕ} {t : Turn} (w : Whole st) (h : Held (stateOf st) tb) (x : Took st tb t) (o : T (roomy t))
+    (g : 384 ≤ length (t .lent)) where
   abbrev rs₀ : List Reply
   rs₀ = call (stateIn (stateOf st) tb) (asked t) .replies
 
@@ -80,19 +82,19 @@ module _ {st tb : List ℕ} {t : Turn} (w : Whole st) (h : Held (stateOf st) tb)
   pub half-a : half DESK·A t ≡ map encode (repliesTo DESK·A rs₀)
   unfolding half
   half-a =
-      ap₂ (λ (n : ℕ) (l : List ℕ). records n (drop 0 l)) (took-numbers w h x .0) (tells w h x .list ∙ first-bytes (t .lent) rs₀ g few)
+      ap₂ (λ (n : ℕ) (l : List ℕ). records n (drop 0 l)) (took-numbers w h x o .0) (tells w h x o .list ∙ first-bytes (t .lent) rs₀ g few)
       ∙ records-encodes (repliesTo DESK·A rs₀) _
 
   -- and so is desk B's
   pub half-b : half DESK·B t ≡ map encode (repliesTo DESK·B rs₀)
   unfolding half
   half-b =
-      ap₂ (λ (n : ℕ) (l : List ℕ). records n l) (took-numbers w h x .1)
-      (ap (drop 192) (tells w h x .list) ∙ second-bytes (t .lent) rs₀ g few)
+      ap₂ (λ (n : ℕ) (l : List ℕ). records n l) (took-numbers w h x o .1)
+      (ap (drop 192) (tells w h x o .list) ∙ second-bytes (t .lent) rs₀ g few)
       ∙ records-encodes (repliesTo DESK·B rs₀) _
 
   pub a-reads-its-half : (k f : ℕ) → ownRecords (ofDesk DESK·A k f) t ≡ half DESK·A t
-  a-reads-its-half k f = took-records (ofDesk DESK·A k f) w h x g ∙ ap (map encode) (own-a k f rs₀) ∙ sym half-a
+  a-reads-its-half k f = took-records (ofDesk DESK·A k f) w h x o g ∙ ap (map encode) (own-a k f rs₀) ∙ sym half-a
 
   pub b-reads-its-half : (k f : ℕ) → ownRecords (ofDesk DESK·B k f) t ≡ half DESK·B t
-  b-reads-its-half k f = took-records (ofDesk DESK·B k f) w h x g ∙ ap (map encode) (own-b k f rs₀) ∙ sym half-b
+  b-reads-its-half k f = took-records (ofDesk DESK·B k f) w h x o g ∙ ap (map encode) (own-b k f rs₀) ∙ sym half-b

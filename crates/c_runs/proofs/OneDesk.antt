@@ -7,7 +7,7 @@ use mathlib.Core.Bool.{Bool, true, false}
 use mathlib.Core.List.{List, [], _∷_, map}
 use native.Mathlib.Omega.{arith}
 use borrow.Author.Tests.{ltb-true, ltb-false}
-use lib.Dec.{ltb}
+use lib.Dec.{T, ltb}
 use lib.ListN.{length, getD}
 use Rattle.machine.specs.State.{Answer, Call, Reply, State as StateM}
 use Rattle.machine.specs.Lists.{if_then_else_, keep}
@@ -21,7 +21,7 @@ use Rattle.image.specs.Image.{stateOf, Whole}
 use Rattle.handed.specs.Handed.{answerBytes}
 use Rattle.code_runs.specs.CodeRuns.{records}
 use Rattle.one_desk.proofs.OneDesk.{one-desk}
-use Rattle.c_runs.specs.CRuns.{Turn, asked, Took, spoken}
+use Rattle.c_runs.specs.CRuns.{Turn, asked, roomy, Took, spoken}
 use Rattle.c_runs.specs.Desk.{half}
 use Rattle.c_runs.specs.OneDesk.{Gets, gets, OneDesk·bytes}
 use Rattle.c_runs.proofs.CRuns.{over, six, took-answer, took-numbers}
@@ -50,7 +50,7 @@ none-to : (d : ℕ) → repliesTo d [] ≡ []
 unfolding repliesTo keep
 none-to d = refl
 
-module _ {st tb : List ℕ} {t : Turn} (w : Whole st) (h : Held (stateOf st) tb) (k : Took st tb t) where
+module _ {st tb : List ℕ} {t : Turn} (w : Whole st) (h : Held (stateOf st) tb) (k : Took st tb t) (o : T (roomy t)) where
   abbrev s₀ : StateM
   s₀ = stateIn (stateOf st) tb
 
@@ -60,11 +60,11 @@ module _ {st tb : List ℕ} {t : Turn} (w : Whole st) (h : Held (stateOf st) tb)
   -- its own number
   number-told : (d : ℕ) → getD (t .answer) (6 + d) 0 ≡ length (repliesTo d rs₀)
   unfolding answerBytes
-  number-told zero = took-numbers w h k .0
-  number-told (suc zero) = took-numbers w h k .1
+  number-told zero = took-numbers w h k o .0
+  number-told (suc zero) = took-numbers w h k o .1
   number-told (suc (suc d)) =
       let e : 6 + suc (suc d) ≡ suc (suc (suc (suc (suc (suc (suc (suc d))))))) = omega arith in
-      ap₂ (λ (l : List ℕ) (i : ℕ). getD l i 0) (over w h k .answer) e ∙ sym (ap (λ (rs : List Reply). length rs) (no-third d rs₀))
+      ap₂ (λ (l : List ℕ) (i : ℕ). getD l i 0) (over w h k o .answer) e ∙ sym (ap (λ (rs : List Reply). length rs) (no-third d rs₀))
 
   -- no replies, no records
   none-told : (d : ℕ) → repliesTo d rs₀ ≡ [] → half d t ≡ map encode (repliesTo d rs₀)
@@ -79,25 +79,25 @@ module _ {st tb : List ℕ} {t : Turn} (w : Whole st) (h : Held (stateOf st) tb)
       go true e d =
           let g = ltb-true (length (t .lent)) 384 e in
           none-told d (ap (repliesTo d) (short-mute s₀ (asked t) (omega arith)) ∙ none-to d)
-      go false e zero = half-a w h k (ltb-false (length (t .lent)) 384 e)
-      go false e (suc zero) = half-b w h k (ltb-false (length (t .lent)) 384 e)
+      go false e zero = half-a w h k o (ltb-false (length (t .lent)) 384 e)
+      go false e (suc zero) = half-b w h k o (ltb-false (length (t .lent)) 384 e)
       go false e (suc (suc d)) = none-told (suc (suc d)) (no-third d rs₀)
 
   gets-told : (d : ℕ) → gets d t ≡ toldIn (call s₀ (asked t) .answer) (repliesTo d rs₀)
   unfolding gets spoken
   gets-told d =
-      let a = took-answer w h k in
+      let a = took-answer w h k o in
       let n = number-told d in
       let r = half-told d in
       λ i. record { answer = a i; number = n i; records = r i }
 
 -- "give that desk's next call .. the same answer and replies in its half"
 pub one-desk-bytes : OneDesk·bytes
-one-desk-bytes d st tb st₂ tb₂ t u w h w₂ h₂ k j e p =
+one-desk-bytes d st tb st₂ tb₂ t u w h w₂ h₂ k j m n e p =
     let same : asked t ≡ asked u = cc in
     let s₂ = stateIn (stateOf st₂) tb₂ in
     let o = one-desk d (asked t) (stateIn (stateOf st) tb) s₂ p in
-    gets-told w h k d
+    gets-told w h k m d
     ∙ ap₂ toldIn (o .answer) (o .replies)
     ∙ ap (λ (c : Call). toldIn (call s₂ c .answer) (repliesTo d (call s₂ c .replies))) same
-    ∙ sym (gets-told w₂ h₂ j d)
+    ∙ sym (gets-told w₂ h₂ j n d)

@@ -10,7 +10,7 @@ use Rattle.two_runs.specs.TwoRuns.{claim}
 use Rattle.code_runs.proofs.Made.{OnBoard, board-state}
 use Rattle.one_desk.proofs.Witness.{busy, quiet, other, premises-met, premises-met-by-B}
 use Rattle.c_runs.specs.OneDesk.{gets}
-use Rattle.c_runs.proofs.Witness.{Ask, made, made-took, bytesOf, bytes-whole, bytes-state, bytes-held}
+use Rattle.c_runs.proofs.Witness.{Ask, made, made-took, made-roomy, bytesOf, bytes-whole, bytes-state, bytes-held}
 use Rattle.c_runs.proofs.OneDeskExamples.{steals}
 use Rattle.c_runs.proofs.OneDesk.{one-desk-bytes}
 
@@ -28,7 +28,8 @@ unfolding opOf
 A-gets-the-same =
     one-desk-bytes DESK·A (bytesOf busy) (tableOf busy) (bytesOf quiet) (tableOf quiet) (made busy steals) (made quiet steals)
     (bytes-whole on-busy) (bytes-held on-busy) (bytes-whole on-quiet) (bytes-held on-quiet)
-    (made-took on-busy steals (unfold machine claim in tt)) (made-took on-quiet steals (unfold machine claim in tt)) refl
+    (made-took on-busy steals (unfold machine claim in tt)) (made-took on-quiet steals (unfold machine claim in tt))
+    (made-roomy busy steals) (made-roomy quiet steals) refl
     (rw (bytes-state on-busy, board-state on-busy, bytes-state on-quiet, board-state on-quiet) premises-met)
 
 -- CLOSE key 2
@@ -40,5 +41,6 @@ unfolding opOf
 B-gets-the-same =
     one-desk-bytes DESK·B (bytesOf busy) (tableOf busy) (bytesOf other) (tableOf other) (made busy closes) (made other closes)
     (bytes-whole on-busy) (bytes-held on-busy) (bytes-whole on-other) (bytes-held on-other)
-    (made-took on-busy closes (unfold machine claim in tt)) (made-took on-other closes (unfold machine claim in tt)) refl
+    (made-took on-busy closes (unfold machine claim in tt)) (made-took on-other closes (unfold machine claim in tt))
+    (made-roomy busy closes) (made-roomy other closes) refl
     (rw (bytes-state on-busy, board-state on-busy, bytes-state on-other, board-state on-other) premises-met-by-B)

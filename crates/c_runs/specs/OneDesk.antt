@@ -6,15 +6,17 @@
 --
 --   Gets, gets d t       what desk d gets of a call: the answer's six bytes, its own number of replies, the records of its half. The
 --                        other number, and the result, which is the sum of both, count the other desk's replies too: they are not its own
---   OneDesk·bytes        two calls with the same numbers, combinations and number of records lent give it the same
+--   OneDesk·bytes        two calls with room for their answers, and with the same numbers, combinations and number of records lent,
+--                        give it the same
 use Prim.Native.Nat.{ℕ, _+_}
 use mathlib.Core.Path.{_≡_}
 use mathlib.Core.List.{List}
+use lib.Dec.{T}
 use lib.ListN.{getD}
 use Rattle.board.specs.Board.{stateIn, Held}
 use Rattle.image.specs.Image.{stateOf, Whole}
 use Rattle.one_desk.specs.OneDesk.{Premises}
-use Rattle.c_runs.specs.CRuns.{Turn, asked, Took, spoken}
+use Rattle.c_runs.specs.CRuns.{Turn, asked, roomy, Took, spoken}
 use Rattle.c_runs.specs.Desk.{half}
 
 pub record Gets : Type 0 where
@@ -29,5 +31,5 @@ gets d t = record { answer = spoken t; number = getD (t .answer) (6 + d) 0; reco
 abbrev pub OneDesk·bytes : Type 0
 OneDesk·bytes =
     (d : ℕ) (st tb st₂ tb₂ : List ℕ) (t u : Turn) → Whole st → Held (stateOf st) tb → Whole st₂ → Held (stateOf st₂) tb₂
-    → Took st tb t → Took st₂ tb₂ u → asked t ≡ asked u
+    → Took st tb t → Took st₂ tb₂ u → T (roomy t) → T (roomy u) → asked t ≡ asked u
     → Premises d (asked t) (stateIn (stateOf st) tb) (stateIn (stateOf st₂) tb₂) → gets d t ≡ gets d u

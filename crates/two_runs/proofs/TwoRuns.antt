@@ -141,6 +141,10 @@ ours-fits p s c t full (COMMAND n) u = tt
 own-same : (p : Party) (s : State) (c : Call) → Ready p s → OfK p s c → call (project p s) (said c) ≡ call (project p s) c
 own-same p s c r k = said-same c (k .full) (project p s) (ours-fits p s c (r .sane) (k .full) (c .op) (k .party))
 
+-- a call of the K party's does to its part of the state what it does to the state
+pub ours-alone : (p : Party) (s : State) (c : Call) → Ready p s → OfK p s c → call (project p s) (said c) ≡ projectOut p (call s c)
+ours-alone p s c r k = own-same p s c r k ∙ ours-same p s r c (ours-of p s c k)
+
 -- ---- every state of a run is one between two calls
 
 locks-ready : (p : Party) (cs : List Channel) (ls : List Lock) → T (all (ownLock p cs) ls) → T (all (fittingLock p) ls)
@@ -193,8 +197,7 @@ unfolding seen own projectOut
 alone p s [] r k = rw (view-part p s, waiters-part p s)
 alone p s (our c ∷ xs) r k =
     rw (
-      own-same p s c r (k .0),
-      ours-same p s r c (ours-of p s c (k .0)),
+      ours-alone p s c r (k .0),
       ownReplies-twice p (call s c .replies),
       view-part p (call s c .next),
       waiters-part p (call s c .next),
@@ -276,7 +279,7 @@ part-after p s [] r k = refl
 part-after p s (our c ∷ xs) r k =
     part-after p (call s c .next) xs (ours-ready p s c r (k .0)) (k .1)
     ∙ ap (λ (u : State). reached u (map our (own xs)))
-    (sym (ap (λ (o : Rattle.machine.specs.State.Outcome). o .next) (own-same p s c r (k .0) ∙ ours-same p s r c (ours-of p s c (k .0)))))
+    (sym (ap (λ (o : Rattle.machine.specs.State.Outcome). o .next) (ours-alone p s c r (k .0))))
 part-after p s (their c ∷ xs) r k =
     part-after p (call s c .next) xs (theirs-ready p s c r (k .0)) (k .1)
     ∙ ap (λ (u : State). reached u (map our (own xs))) (theirs-mild p s c r (theirs-of p s c (k .0)) .still)
