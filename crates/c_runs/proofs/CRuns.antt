@@ -5,8 +5,9 @@
 -- Assumes nothing.
 use Prim.Native.Nat.{ℕ, _+_, _-_, _*_, _/_, _%_, _≤_, _<_}
 use mathlib.Core.Path.{_≡_, refl, ap, ap₂, sym, subst, _∙_}
-use mathlib.Core.Bool.{true, not, _&&_}
+use mathlib.Core.Bool.{not, _&&_}
 use mathlib.Core.List.{List, [], _∷_, _++_, map, map-append, append-assoc}
+use mathlib.Core.Logic.{_⊎_, inl}
 use mathlib.Core.Option.{Option, none, some}
 use native.Mathlib.Omega.{arith}
 use native.Mathlib.Nat.{mod-lt}
@@ -15,7 +16,7 @@ use lib.ListN.{length, getD, take, drop}
 use lib.Seq.{length-take-le, take-append-add, drop-at}
 use Rattle.memory.specs.Splice.{splice}
 use Rattle.memory.proofs.Splice.{length-splice}
-use Rattle.machine.specs.Lists.{if_then_else_, all, keep}
+use Rattle.machine.specs.Lists.{if_then_else_, keep}
 use Rattle.machine.specs.State.{Answer, Call, Reply, State as StateM}
 use Rattle.machine.specs.Desks.{DESK·A, DESK·B, HALF, repliesTo, halves}
 use Rattle.machine.specs.Log.{opOf}
@@ -37,13 +38,14 @@ use Rattle.handed.specs.Handed.{opFor, answerBytes}
 use Rattle.bytes_call.specs.BytesCall.{Carried}
 use Rattle.boundary.specs.Boundary.{UNANSWERED, Room, Unanswered}
 use Rattle.boundary.proofs.Crossing.{sound-after}
-use Rattle.two_runs.specs.TwoRuns.{Party, ByK, ByOthers, our, their, calls, counted, inBytes, lends, view, waitersOf, ownReplies}
-use Rattle.two_runs.specs.Core.{OfK, OfOthers}
+use Rattle.two_runs.specs.TwoRuns.{Party, Start, ByK, ByOthers, counted, inBytes, lends, view, waitersOf, ownReplies}
+use Rattle.two_runs.specs.Core.{Missing, OfK, OfOthers, misses}
 use Rattle.two_runs.specs.Part.{project}
 use Rattle.two_runs.proofs.Part.{Ready, ownReplies-twice, projectOut, theirs-of, view-part, waiters-part}
 use Rattle.two_runs.proofs.Begin.{start-ready}
 use Rattle.two_runs.proofs.TheirsCall.{theirs-mild}
-use Rattle.two_runs.proofs.TwoRuns.{begins-of, ours-alone, ours-ready, run-goes, theirs-ready}
+use Rattle.two_runs.proofs.TwoRuns.{begins-of, ours-alone, ours-ready, theirs-ready}
+use Rattle.two_runs.proofs.Desk.{of-desk}
 use Rattle.code_runs.specs.CodeRuns.{recordsTo, storedOf}
 use Rattle.code_runs.proofs.CodeRuns.{count-of, recordsTo-encodes, stores, view-of}
 use Rattle.code_runs.proofs.Stored.{storedIn}
@@ -99,26 +101,27 @@ full-lends : (t : Turn) → 384 ≤ length (t .lent) → T (lends (asked t))
 unfolding lends
 full-lends t h = le→leb 64 (length (t .lent) / 6) (omega arith)
 
+-- what the machine's theorem asks of each call that has room
+abbrev pub GoesOn : Party → List ℕ → List ℕ → List Move → Type 0
+GoesOn p st tb [] = Unit {0}
+GoesOn p st tb (ours t ∷ ms) =
+    (T (roomy t) → OfK p (stateIn (stateOf st) tb) (asked t) ⊎ Missing (asked t)) × GoesOn p (t .state) (t .table) ms
+GoesOn p st tb (others t ∷ ms) = (T (roomy t) → OfOthers p (stateIn (stateOf st) tb) (asked t)) × GoesOn p (t .state) (t .table) ms
+
 module _ (p : Party) {st tb : List ℕ} {t : Turn} (k : Took st tb t) (g : 384 ≤ length (t .lent)) where
-  one-lends : T (lends (asked t) && true)
-  one-lends = and-both (lends (asked t)) true (full-lends t g) tt
+  pub of-own : ByK p (stateIn (stateOf st) tb) (asked t) ⊎ T (misses (asked t .op) (asked t))
+      → OfK p (stateIn (stateOf st) tb) (asked t) ⊎ Missing (asked t)
+  of-own b = of-desk p (stateIn (stateOf st) tb) (asked t) b (full-lends t g) (took-range k)
 
-  one-fits : T (inBytes (asked t) && true)
-  one-fits = and-both (inBytes (asked t)) true (took-range k) tt
+  pub of-others : ByOthers p (stateIn (stateOf st) tb) (asked t) → OfOthers p (stateIn (stateOf st) tb) (asked t)
+  of-others b = record { apart = b .apart; low = b .low; fits = took-range k }
 
-  of-k : ByK p (stateIn (stateOf st) tb) (asked t) → OfK p (stateIn (stateOf st) tb) (asked t)
-  unfolding calls all
-  of-k b =
-      run-goes p (stateIn (stateOf st) tb) (our (asked t) ∷ [])
-      (record { keeps = (b, tt); full = one-lends; fits = one-fits })
-      .0
-
-  of-others : ByOthers p (stateIn (stateOf st) tb) (asked t) → OfOthers p (stateIn (stateOf st) tb) (asked t)
-  unfolding calls all
-  of-others b =
-      run-goes p (stateIn (stateOf st) tb) (their (asked t) ∷ [])
-      (record { keeps = (b, tt); full = one-lends; fits = one-fits })
-      .0
+keeps-goes : (p : Party) (st tb : List ℕ) (ms : List Move) → Chained st tb ms → Keeps p st tb ms → Full ms → GoesOn p st tb ms
+keeps-goes p st tb [] c y f = tt
+keeps-goes p st tb (ours t ∷ ms) c y f =
+    (λ o. of-own p (c .0) (f .0 o) (inl (y .0 o)), keeps-goes p (t .state) (t .table) ms (c .1) (y .1) (f .1))
+keeps-goes p st tb (others t ∷ ms) c y f =
+    (λ o. of-others p (c .0) (f .0 o) (y .0 o), keeps-goes p (t .state) (t .table) ms (c .1) (y .1) (f .1))
 
 -- ---- the records of the two halves are the bytes of the replies
 
@@ -280,7 +283,7 @@ module _ (p : Party) {st tb : List ℕ} {t : Turn} (ms : List Move) (w : Whole s
       e (y .1) (y .2) (subst (Ready p) (sym (y .0)) r) ∙ ap (λ (u : StateM). alone p (project p u) (ownCalls ms)) (y .0)
 
   -- a call of the party's
-  ours-alone-bytes : (T (roomy t) → OfK p s₀ (asked t)) → (T (roomy t) → 384 ≤ length (t .lent)) → Rest
+  ours-alone-bytes : (T (roomy t) → OfK p s₀ (asked t) ⊎ Missing (asked t)) → (T (roomy t) → 384 ≤ length (t .lent)) → Rest
       → sights p st tb (ours t ∷ ms) ≡ alone p (project p s₀) (ownCalls (ours t ∷ ms))
   unfolding sights ownCalls alone projectOut
   ours-alone-bytes b g e = by-test (roomy t) yes-room no-room
@@ -317,23 +320,28 @@ module _ (p : Party) {st tb : List ℕ} {t : Turn} (ms : List Move) (w : Whole s
       no-room : T (not (roomy t)) → sights p st tb (others t ∷ ms) ≡ alone p (project p s₀) (ownCalls (others t ∷ ms))
       no-room n = rw (none-recorded p k n) (stays-rest n e)
 
-sights-alone : (p : Party) (st tb : List ℕ) (ms : List Move) → Whole st → Held (stateOf st) tb → Chained st tb ms → Keeps p st tb ms
+sights-alone : (p : Party) (st tb : List ℕ) (ms : List Move) → Whole st → Held (stateOf st) tb → Chained st tb ms → GoesOn p st tb ms
     → Full ms → Ready p (stateIn (stateOf st) tb) → sights p st tb ms ≡ alone p (project p (stateIn (stateOf st) tb)) (ownCalls ms)
 unfolding sights ownCalls alone
 sights-alone p st tb [] w h c y f r = ap (λ (x : Sight). x ∷ []) (has-shown p st h ∙ sym (shown-part p (stateIn (stateOf st) tb)))
 sights-alone p st tb (ours t ∷ ms) w h c y f r =
-    ours-alone-bytes p ms w h (c .0) r (λ o. of-k p (c .0) (f .0 o) (y .0 o)) (f .0)
+    ours-alone-bytes p ms w h (c .0) r (y .0) (f .0)
     (λ w′ h′ r′. sights-alone p (t .state) (t .table) ms w′ h′ (c .1) (y .1) (f .1) r′)
 sights-alone p st tb (others t ∷ ms) w h c y f r =
-    others-alone p ms w h (c .0) r (λ o. of-others p (c .0) (f .0 o) (y .0 o)) (f .0)
+    others-alone p ms w h (c .0) r (y .0) (f .0)
     (λ w′ h′ r′. sights-alone p (t .state) (t .table) ms w′ h′ (c .1) (y .1) (f .1) r′)
 
 -- ---- the claim
 
-pub K-sees-the-same-bytes : Demand3·bytes
-K-sees-the-same-bytes p st tb ms ns w h a r s e =
+pub same-bytes : (p : Party) (st tb : List ℕ) (ms ns : List Move) → Whole st → Held (stateOf st) tb → Start p (stateIn (stateOf st) tb)
+    → Chained st tb ms → GoesOn p st tb ms → Full ms → Chained st tb ns → GoesOn p st tb ns → Full ns
+    → ownCalls ms ≡ ownCalls ns → sights p st tb ms ≡ sights p st tb ns
+same-bytes p st tb ms ns w h a c y f c₂ y₂ f₂ e =
     let u = stateIn (stateOf st) tb in
     let g = start-ready p u (begins-of p u a) in
-    sights-alone p st tb ms w h (r .chained) (r .keeps) (r .full) g
-    ∙ ap (alone p (project p u)) e
-    ∙ sym (sights-alone p st tb ns w h (s .chained) (s .keeps) (s .full) g)
+    sights-alone p st tb ms w h c y f g ∙ ap (alone p (project p u)) e ∙ sym (sights-alone p st tb ns w h c₂ y₂ f₂ g)
+
+pub K-sees-the-same-bytes : Demand3·bytes
+K-sees-the-same-bytes p st tb ms ns w h a r s e =
+    same-bytes p st tb ms ns w h a (r .chained) (keeps-goes p st tb ms (r .chained) (r .keeps) (r .full)) (r .full) (s .chained)
+    (keeps-goes p st tb ns (s .chained) (s .keeps) (s .full)) (s .full) e

@@ -20,27 +20,28 @@ use Rattle.two_runs.specs.TwoRuns.{ownReplies}
 use Rattle.two_runs.specs.Desk.{ofDesk}
 use Rattle.two_runs.proofs.Desk.{avoids-of}
 use Rattle.code_runs.specs.CodeRuns.{records}
-use Rattle.c_runs.specs.CRuns.{Turn, asked, roomy, Took, Move, ours, others, Keeps, Run, ownRecords}
-use Rattle.c_runs.specs.Desk.{KeepsApart, RunOfDesk, half, Demand3·desk·bytes}
-use Rattle.c_runs.proofs.CRuns.{K-sees-the-same-bytes, first-bytes, second-bytes, tells, took-numbers, took-records}
+use Rattle.c_runs.specs.CRuns.{Turn, asked, roomy, Took, Move, ours, others, Chained, Full, ownRecords}
+use Rattle.c_runs.specs.Desk.{KeepsApart, half, Demand3·desk·bytes}
+use Rattle.c_runs.proofs.CRuns.{GoesOn, of-own, of-others, same-bytes, first-bytes, second-bytes, tells, took-numbers, took-records}
 
 -- ---- the claim
 
-keeps-of : (d k f : ℕ) (st tb : List ℕ) (ms : List Move) → KeepsApart d (ofDesk d k f) st tb ms → Keeps (ofDesk d k f) st tb ms
-keeps-of d k f st tb [] h = tt
-keeps-of d k f st tb (ours t ∷ ms) h = (h .0, keeps-of d k f (t .state) (t .table) ms (h .1))
-keeps-of d k f st tb (others t ∷ ms) h = (
+apart-goes : (d k f : ℕ) (st tb : List ℕ) (ms : List Move) → Chained st tb ms → KeepsApart d (ofDesk d k f) st tb ms → Full ms
+    → GoesOn (ofDesk d k f) st tb ms
+apart-goes d k f st tb [] c h g = tt
+apart-goes d k f st tb (ours t ∷ ms) c h g =
+    (λ o. of-own (ofDesk d k f) (c .0) (g .0 o) (h .0 o), apart-goes d k f (t .state) (t .table) ms (c .1) (h .1) (g .1))
+apart-goes d k f st tb (others t ∷ ms) c h g = (
   λ o. let b = h .0 o in
-      record { apart = avoids-of d k f (asked t .op) (asked t) (stateIn (stateOf st) tb) (b .other) (b .apart); low = b .low },
-  keeps-of d k f (t .state) (t .table) ms (h .1),
+      of-others (ofDesk d k f) (c .0) (g .0 o)
+      (record { apart = avoids-of d k f (asked t .op) (asked t) (stateIn (stateOf st) tb) (b .other) (b .apart); low = b .low }),
+  apart-goes d k f (t .state) (t .table) ms (c .1) (h .1) (g .1),
 )
-
-run-of : (d k f : ℕ) (st tb : List ℕ) (ms : List Move) → RunOfDesk d (ofDesk d k f) st tb ms → Run (ofDesk d k f) st tb ms
-run-of d k f st tb ms r = record { chained = r .chained; keeps = keeps-of d k f st tb ms (r .keeps); full = r .full }
 
 pub desk-sees-the-same-bytes : Demand3·desk·bytes
 desk-sees-the-same-bytes d k f st tb ms ns w h a r s e =
-    K-sees-the-same-bytes (ofDesk d k f) st tb ms ns w h a (run-of d k f st tb ms r) (run-of d k f st tb ns s) e
+    same-bytes (ofDesk d k f) st tb ms ns w h a (r .chained) (apart-goes d k f st tb ms (r .chained) (r .keeps) (r .full)) (r .full)
+    (s .chained) (apart-goes d k f st tb ns (s .chained) (s .keeps) (s .full)) (s .full) e
 
 -- ---- what it reads is its half
 
