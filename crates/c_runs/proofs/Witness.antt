@@ -4,6 +4,7 @@
 use Prim.Native.Nat.{ℕ, _+_, _≤_}
 use mathlib.Core.Path.{_≡_, refl, ap, sym, subst, _∙_}
 use mathlib.Core.List.{List, [], _∷_, _++_, map}
+use mathlib.Core.Option.{Option, none, some}
 use native.Mathlib.Omega.{arith}
 use lib.Dec.{T, leb, leb→le}
 use lib.ListN.{length, replicate, length-replicate}
@@ -29,12 +30,13 @@ use Rattle.arbiter.specs.Arbiter.{Shows}
 use Rattle.desk_call.specs.DeskCall.{Outcome, Told, Called}
 use Rattle.sizes.specs.Sizes.{REPLIES}
 use Rattle.handed.specs.Handed.{opFor, requestOf, answerBytes}
-use Rattle.two_runs.specs.TwoRuns.{Party, Start, Step, our, their, Keeps as KeepsM, Run as RunM, calls, claim, counted, inBytes, own, said}
+use Rattle.two_runs.specs.TwoRuns.{Party, Start, Step, our, their, Keeps as KeepsM, Run as RunM, calls, claim, counted, inBytes, said}
 use Rattle.two_runs.specs.Desk.{KeepsApart as KeepsApartM, RunOfDesk as RunOfDeskM}
 use Rattle.two_runs.proofs.Premises.{premises, runs-all, starts-all}
+use Rattle.boundary.specs.Boundary.{UNANSWERED}
 use Rattle.code_runs.proofs.Made.{OnBoard, bytes-count, bytes-range, board-held, board-next, board-state, sound-next}
 use Rattle.code_runs.proofs.Witness.{party, start, board, numbers}
-use Rattle.c_runs.specs.CRuns.{Turn, asked, request, Took, Move, ours, others, Chained, Keeps, Full, Run, ownCalls, sights}
+use Rattle.c_runs.specs.CRuns.{Turn, roomy, request, Took, Move, ours, others, Chained, Keeps, Full, Run, ownCalls, sights}
 use Rattle.c_runs.specs.Desk.{KeepsApart, RunOfDesk}
 use Rattle.c_runs.proofs.CRuns.{K-sees-the-same-bytes}
 
@@ -82,25 +84,69 @@ made s a =
       answer = answerBytes (answerOf (o .answer)) (length (repliesTo DESK·A (o .replies))) (length (repliesTo DESK·B (o .replies)));
     }
 
+-- a call without room for its answer, an OPEN: nothing is read of it
+abbrev pub missed : StateM → Turn
+missed s =
+    record {
+      desk = 0;
+      op = 0xF0;
+      id = 0;
+      flags = 0;
+      map = 0;
+      prec = 0;
+      key = 0;
+      combos = [];
+      wall = blank;
+      lent = [];
+      room = [];
+      n = UNANSWERED;
+      state = bytesOf s;
+      table = tableOf s;
+      display = blank;
+      list = [];
+      answer = [];
+    }
+
 pub data Says : Type 0 where
   ourAsk : Ask → Says
   theirAsk : Ask → Says
+  ourMiss : Says
+  theirMiss : Says
 
 abbrev pub steps : List Says → List Step
 steps [] = []
 steps (ourAsk a ∷ xs) = our (spelt a) ∷ steps xs
 steps (theirAsk a ∷ xs) = their (spelt a) ∷ steps xs
+steps (ourMiss ∷ xs) = steps xs
+steps (theirMiss ∷ xs) = steps xs
 
 abbrev pub moves : StateM → List Says → List Move
 moves s [] = []
 moves s (ourAsk a ∷ xs) = ours (made s a) ∷ moves (call s (spelt a) .next) xs
 moves s (theirAsk a ∷ xs) = others (made s a) ∷ moves (call s (spelt a) .next) xs
+moves s (ourMiss ∷ xs) = ours (missed s) ∷ moves s xs
+moves s (theirMiss ∷ xs) = others (missed s) ∷ moves s xs
 
-pub ownCalls-moves : (s : StateM) (xs : List Says) → ownCalls (moves s xs) ≡ own (steps xs)
-unfolding ownCalls own
+-- the party's calls among them
+abbrev pub ownSays : List Says → List (Option Call)
+ownSays [] = []
+ownSays (ourAsk a ∷ xs) = some (said (spelt a)) ∷ ownSays xs
+ownSays (theirAsk a ∷ xs) = ownSays xs
+ownSays (ourMiss ∷ xs) = none ∷ ownSays xs
+ownSays (theirMiss ∷ xs) = ownSays xs
+
+-- it has room
+pub made-roomy : (s : StateM) (a : Ask) → T (roomy (made s a))
+unfolding roomy
+made-roomy s a = tt
+
+pub ownCalls-moves : (s : StateM) (xs : List Says) → ownCalls (moves s xs) ≡ ownSays xs
+unfolding roomy ownCalls
 ownCalls-moves s [] = refl
-ownCalls-moves s (ourAsk a ∷ xs) = ap (λ (cs : List Call). said (spelt a) ∷ cs) (ownCalls-moves (call s (spelt a) .next) xs)
+ownCalls-moves s (ourAsk a ∷ xs) = ap (λ (cs : List (Option Call)). some (said (spelt a)) ∷ cs) (ownCalls-moves (call s (spelt a) .next) xs)
 ownCalls-moves s (theirAsk a ∷ xs) = ownCalls-moves (call s (spelt a) .next) xs
+ownCalls-moves s (ourMiss ∷ xs) = ap (λ (cs : List (Option Call)). none ∷ cs) (ownCalls-moves s xs)
+ownCalls-moves s (theirMiss ∷ xs) = ownCalls-moves s xs
 
 -- ---- it keeps the promise
 
@@ -134,7 +180,7 @@ module _ {s : StateM} (b : OnBoard s) where
     made-shown : Shows (opFor (opOf (a .op))) (request (made s a)) (structOf s) (a .combos) (tableOf s) records blank (displayed s (spelt a) blank)
     made-shown = record { sound = λ _. rw (board-state b); unsound = λ n. absurd (n (board-held b)) }
 
-    made-took : Took (bytesOf s) (tableOf s) (made s a)
+    pub made-took : Took (bytesOf s) (tableOf s) (made s a)
     unfolding inRange
     made-took =
         let o = call s (spelt a) in
@@ -152,10 +198,28 @@ module _ {s : StateM} (b : OnBoard s) where
                   answer = refl;
                 };
               };
-          rooms = (refl, refl);
           key = leb→le (a .key) 65535 (and-right (leb (spelt a .prec) 255) (leb (a .key) 65535) (bytes-range (spelt a) f));
           count = bytes-count (spelt a) f;
         }
+
+-- and so does a call without room
+pub missed-took : (s : StateM) → Took (bytesOf s) (tableOf s) (missed s)
+unfolding opOf counted
+missed-took s =
+    record {
+      crossed =
+          record {
+            unanswered = λ _. record { count = refl; state = refl; table = refl; display = refl; list = refl; answer = refl };
+            unread = λ r _. absurd (let z = r .0 in omega arith);
+            carried = λ r _. absurd (let z = r .0 in omega arith);
+          };
+      key = omega arith;
+      count = tt;
+    }
+
+missed-roomy : (s : StateM) → T (roomy (missed s)) → ⊥
+unfolding roomy
+missed-roomy s t = t
 
 -- ---- so the run is one of a program in C
 
@@ -168,6 +232,8 @@ chained-moves s (ourAsk a ∷ xs) b f =
 chained-moves s (theirAsk a ∷ xs) b f =
     let g = and-left (inBytes (spelt a)) (all inBytes (calls (steps xs))) f in
     (made-took b a g, chained-moves (call s (spelt a) .next) xs (board-next s (spelt a) g b) (and-right (inBytes (spelt a)) (all inBytes (calls (steps xs))) f))
+chained-moves s (ourMiss ∷ xs) b f = (missed-took s, chained-moves s xs b f)
+chained-moves s (theirMiss ∷ xs) b f = (missed-took s, chained-moves s xs b f)
 
 keeps-moves : (p : Party) (s : StateM) (xs : List Says) → OnBoard s → T (all inBytes (calls (steps xs))) → KeepsM p s (steps xs)
     → Keeps p (bytesOf s) (tableOf s) (moves s xs)
@@ -175,22 +241,26 @@ unfolding calls all
 keeps-moves p s [] b f k = tt
 keeps-moves p s (ourAsk a ∷ xs) b f k =
     let g = and-left (inBytes (spelt a)) (all inBytes (calls (steps xs))) f in (
-      rw (bytes-state b, board-state b) (k .0),
+      λ _. rw (bytes-state b, board-state b) (k .0),
       keeps-moves p (call s (spelt a) .next) xs (board-next s (spelt a) g b) (and-right (inBytes (spelt a)) (all inBytes (calls (steps xs))) f) (k .1),
     )
 keeps-moves p s (theirAsk a ∷ xs) b f k =
     let g = and-left (inBytes (spelt a)) (all inBytes (calls (steps xs))) f in (
-      rw (bytes-state b, board-state b) (k .0),
+      λ _. rw (bytes-state b, board-state b) (k .0),
       keeps-moves p (call s (spelt a) .next) xs (board-next s (spelt a) g b) (and-right (inBytes (spelt a)) (all inBytes (calls (steps xs))) f) (k .1),
     )
+keeps-moves p s (ourMiss ∷ xs) b f k = (λ o. absurd (missed-roomy s o), keeps-moves p s xs b f k)
+keeps-moves p s (theirMiss ∷ xs) b f k = (λ o. absurd (missed-roomy s o), keeps-moves p s xs b f k)
 
 enough : REPLIES ≤ length records
 enough = omega (arith, length-replicate {A = ℕ} 384 0)
 
 full-moves : (s : StateM) (xs : List Says) → Full (moves s xs)
 full-moves s [] = tt
-full-moves s (ourAsk a ∷ xs) = (enough, full-moves (call s (spelt a) .next) xs)
-full-moves s (theirAsk a ∷ xs) = (enough, full-moves (call s (spelt a) .next) xs)
+full-moves s (ourAsk a ∷ xs) = (λ _. enough, full-moves (call s (spelt a) .next) xs)
+full-moves s (theirAsk a ∷ xs) = (λ _. enough, full-moves (call s (spelt a) .next) xs)
+full-moves s (ourMiss ∷ xs) = (λ o. absurd (missed-roomy s o), full-moves s xs)
+full-moves s (theirMiss ∷ xs) = (λ o. absurd (missed-roomy s o), full-moves s xs)
 
 pub machine-runs-are-runs-of-C : (p : Party) (s : StateM) (xs : List Says) → OnBoard s → RunM p s (steps xs) → Run p (bytesOf s) (tableOf s) (moves s xs)
 machine-runs-are-runs-of-C p s xs b r =
@@ -204,14 +274,16 @@ unfolding calls all
 apart-moves d p s [] b f k = tt
 apart-moves d p s (ourAsk a ∷ xs) b f k =
     let g = and-left (inBytes (spelt a)) (all inBytes (calls (steps xs))) f in (
-      rw (bytes-state b, board-state b) (k .0),
+      λ _. rw (bytes-state b, board-state b) (k .0),
       apart-moves d p (call s (spelt a) .next) xs (board-next s (spelt a) g b) (and-right (inBytes (spelt a)) (all inBytes (calls (steps xs))) f) (k .1),
     )
 apart-moves d p s (theirAsk a ∷ xs) b f k =
     let g = and-left (inBytes (spelt a)) (all inBytes (calls (steps xs))) f in (
-      rw (bytes-state b, board-state b) (k .0),
+      λ _. rw (bytes-state b, board-state b) (k .0),
       apart-moves d p (call s (spelt a) .next) xs (board-next s (spelt a) g b) (and-right (inBytes (spelt a)) (all inBytes (calls (steps xs))) f) (k .1),
     )
+apart-moves d p s (ourMiss ∷ xs) b f k = (λ o. absurd (missed-roomy s o), apart-moves d p s xs b f k)
+apart-moves d p s (theirMiss ∷ xs) b f k = (λ o. absurd (missed-roomy s o), apart-moves d p s xs b f k)
 
 pub desk-runs-are-runs-of-C : (d : ℕ) (p : Party) (s : StateM) (xs : List Says) → OnBoard s → RunOfDeskM d p s (steps xs) → RunOfDesk d p (bytesOf s) (tableOf s) (moves s xs)
 desk-runs-are-runs-of-C d p s xs b r =
@@ -223,16 +295,20 @@ desk-runs-are-runs-of-C d p s xs b r =
 abbrev pub ask : ℕ → ℕ → ℕ → ℕ → ℕ → List ℕ → Ask
 ask op i m p k l = record { desk = deskOf i; op = op; id = i; flags = 0; map = m; prec = p; key = k; combos = l }
 
--- K writes on channel 1 and waits for a cycle there, its write on channel 0 ends, it stops both
+-- K writes on channel 1, makes a call without room for an answer, waits for a cycle there, its write on channel 0 ends, it stops both
 abbrev quiet : List Says
-quiet = ourAsk (ask 3 9 2 0 1 numbers) ∷ ourAsk (ask 14 11 2 0 1 []) ∷ ourAsk (ask 0xF3 0 1 0 0 []) ∷ ourAsk (ask 6 5 3 0 1 []) ∷ []
+quiet =
+    ourAsk (ask 3 9 2 0 1 numbers) ∷ ourMiss ∷ ourAsk (ask 14 11 2 0 1 []) ∷ ourAsk (ask 0xF3 0 1 0 0 []) ∷ ourAsk (ask 6 5 3 0 1 []) ∷ []
 
--- the others open with a list and steal channel 2, take channel 3, wait for channel 0 and close; the event has a bit more
+-- the others open with a list and steal channel 2, take channel 3, wait for channel 0 and close, and make a call without room; the
+-- event has a bit more
 abbrev busy : List Says
 busy =
     theirAsk (ask 0xF0 0 0 10 0 (4 ∷ []))
     ∷ ourAsk (ask 3 9 2 0 1 numbers)
+    ∷ theirMiss
     ∷ theirAsk (ask 32 31 0 10 0 (8 ∷ []))
+    ∷ ourMiss
     ∷ ourAsk (ask 14 11 2 0 1 [])
     ∷ theirAsk (ask 32 32 0 10 0 (1 ∷ []))
     ∷ ourAsk (ask 0xF3 0 5 0 0 [])
@@ -249,7 +325,7 @@ quiet-runs = runs-all party start (steps quiet) (unfold machine claim premises i
 busy-runs : RunM party start (steps busy)
 busy-runs = runs-all party start (steps busy) (unfold machine claim premises in tt)
 
-same-calls : own (steps quiet) ≡ own (steps busy)
+same-calls : ownSays quiet ≡ ownSays busy
 unfolding machine claim
 same-calls = refl
 

@@ -36,7 +36,7 @@ use Rattle.handed.specs.Handed.{opFor, answerBytes}
 use Rattle.boundary.proofs.Crossing.{fresh-after}
 use Rattle.two_runs.specs.TwoRuns.{inBytes}
 use Rattle.code_runs.proofs.Made.{OnBoard, board-held, board-next, board-state, bytes-count, bytes-range, sound-next}
-use Rattle.c_runs.specs.CRuns.{Turn, request, Took}
+use Rattle.c_runs.specs.CRuns.{Turn, request, roomy, Took}
 use Rattle.c_runs.proofs.Witness.{Ask, spelt, bytesOf, bytes-whole, bytes-state}
 use Rattle.inspected_bytes.specs.Inspected.{Ran, Fresh, calls, Handed, handed}
 
@@ -149,10 +149,13 @@ module _ {s : StateM} (b : OnBoard s) (d : List ℕ) (l : length d ≡ DISPLAY) 
                 answer = refl;
               };
             };
-        rooms = (refl, l);
         key = leb→le (a .key) 65535 (and-right (leb (spelt a .prec) 255) (leb (a .key) 65535) (bytes-range (spelt a) f));
         count = bytes-count (spelt a) f;
       }
+
+has-room : (s : StateM) (d : List ℕ) → length d ≡ DISPLAY → (a : Ask) → T (roomy (turnOf s d a))
+unfolding roomy
+has-room s d l a = rw l tt
 
 pub ran-made : (s : StateM) (d : List ℕ) (qs : List Ask) → OnBoard s → length d ≡ DISPLAY → T (all inBytes (spelts qs)) → Ran (bytesOf s) (tableOf s) d (made s d qs)
 unfolding all
@@ -160,6 +163,7 @@ ran-made s d [] b l f = tt
 ran-made s d (a ∷ qs) b l f =
     let g = and-left (inBytes (spelt a)) (all inBytes (spelts qs)) f in (
       took b d l a g,
+      has-room s d l a,
       refl,
       ran-made (call s (spelt a) .next) (displayed s (spelt a) d) qs (board-next s (spelt a) g b) (displayed-length s (spelt a) d l)
           (and-right (inBytes (spelt a)) (all inBytes (spelts qs)) f),

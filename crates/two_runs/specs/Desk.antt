@@ -8,12 +8,14 @@
 --                         CLOSE and the events depend on none
 --   spares p o c s        the call does not use K, whatever id it names; what gets 8 uses nothing
 --   ByOtherDesk d p s c   what is asked of a call of the others
---   KeepsApart d p s xs   each call of a run is of the desk's, or so
+--   KeepsApart d p s xs   each call of a run is of the desk's, or so. The desk's are those of demand 3, and those that name an id of the
+--                         other half: their answer, 8, is seen too
 --   RunOfDesk d p s xs    all that is asked of a run
 --   Demand3·desk          two runs with the same calls of the desk show it the same
 use Prim.Native.Nat.{ℕ}
 use mathlib.Core.Path.{_≡_}
 use mathlib.Core.Bool.{Bool, true, not, _||_}
+use mathlib.Core.Logic.{_⊎_}
 use mathlib.Core.List.{List, [], _∷_}
 use lib.Dec.{T, eqb}
 use Rattle.machine.specs.Lists.{all}
@@ -22,12 +24,14 @@ use Rattle.machine.specs.Desks.{deskOf, foreign}
 use Rattle.machine.specs.Kinds.{kind}
 use Rattle.machine.specs.Call.{call}
 use Rattle.two_runs.specs.TwoRuns.{Party, Start, Step, our, their, onK, peeks, modest, ByK, calls, lends, inBytes, own, seen}
+use Rattle.two_runs.specs.Core.{misses}
 
 -- "its half" for "its request ids"
 abbrev pub ofDesk : ℕ → ℕ → ℕ → Party
 ofDesk d k f = record { key = k; floor = f; mine = λ i. eqb (deskOf i) d }
 
--- "Every call but the event names its desk"; OPEN and CLOSE carry no id. The desk's own calls that get 8 may differ too: nothing comes of them.
+-- "Every call but the event names its desk"; OPEN and CLOSE carry no id. What gets 8 may be counted with the others' calls, whosever it
+-- is: nothing comes of it.
 unfoldable pub fromOther : ℕ → Op → Call → Bool
 fromOther d OPEN c = true
 fromOther d CLOSE c = true
@@ -50,7 +54,7 @@ pub record ByOtherDesk (d : ℕ) (p : Party) (s : State) (c : Call) : Type 0 whe
 
 abbrev pub KeepsApart : ℕ → Party → State → List Step → Type 0
 KeepsApart d p s [] = Unit {0}
-KeepsApart d p s (our c ∷ xs) = ByK p s c × KeepsApart d p (call s c .next) xs
+KeepsApart d p s (our c ∷ xs) = (ByK p s c ⊎ T (misses (c .op) c)) × KeepsApart d p (call s c .next) xs
 KeepsApart d p s (their c ∷ xs) = ByOtherDesk d p s c × KeepsApart d p (call s c .next) xs
 
 pub record RunOfDesk (d : ℕ) (p : Party) (s : State) (xs : List Step) : Type 0 where
