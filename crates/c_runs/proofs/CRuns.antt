@@ -18,6 +18,7 @@ use Rattle.machine.specs.State.{Answer, Call, Channel as ChannelM, Lock, Reply,
 use Rattle.machine.specs.Desks.{DESK·A, DESK·B, HALF, deskOf, repliesTo, halves}
 use Rattle.machine.specs.Log.{opOf}
 use Rattle.machine.specs.Call.{call, inRange}
+use Rattle.refusals.specs.Refusals.{opFor}
 use Rattle.machine.proofs.Tests.{and-both}
 use Rattle.machine_laws.proofs.Lists.{keep-swap}
 use Rattle.machine_laws.proofs.Halves.{call-halves}
@@ -29,7 +30,7 @@ use Rattle.board.specs.Board.{stateIn, Held}
 use Rattle.image.specs.Image.{stateOf, Whole, channelBytes}
 use Rattle.answers.specs.Answers.{answerOf}
 use Rattle.desk_call.specs.DeskCall.{Told}
-use Rattle.handed.specs.Handed.{opFor, answerBytes}
+use Rattle.handed.specs.Handed.{answerBytes}
 use Rattle.bytes_call.specs.BytesCall.{Carried}
 use Rattle.boundary.proofs.Crossing.{sound-after}
 use Rattle.two_runs.specs.TwoRuns.{Party, Start, Step, our, their, Keeps as KeepsM, Run as RunM, calls, counted, inBytes, lends, own, said, view, waitersOf, ownReplies, Seen, answered, received, owning, seen}
@@ -40,7 +41,7 @@ use Rattle.two_runs.proofs.TheirsCall.{theirs-mild}
 use Rattle.two_runs.proofs.TwoRuns.{K-sees-the-same, begins-of, ours-ready, run-goes, theirs-ready}
 use Rattle.code_runs.specs.CodeRuns.{recordsTo, storedOf}
 use Rattle.code_runs.proofs.CodeRuns.{count-of, recordsTo-encodes, stores, view-of}
-use Rattle.code_runs.proofs.Stored.{storedIn}
+use Rattle.code_runs.specs.Stored.{storedIn}
 use Rattle.c_runs.specs.CRuns.{Turn, request, asked, Took, Move, ours, others, Chained, Keeps, Full, Run, ownCalls, spoken, ownRecords, viewBytes, Sight, told, got, has, sights, Demand3·bytes}
 
 -- ---- one call

@@ -13,7 +13,7 @@ use Rattle.display.specs.Runs.{afterCalls, shownAfter}
 use Rattle.store.specs.Store.{tableOf}
 use Rattle.two_runs.specs.TwoRuns.{counted, inBytes}
 use Rattle.c_runs.specs.CRuns.{Turn}
-use Rattle.c_runs.proofs.Witness.{spelt, bytesOf}
+use Rattle.c_runs.specs.Made.{spelt, bytesOf}
 use Rattle.nothing_left.specs.NothingLeft.{NothingLeft}
 use Rattle.slipped.specs.Slipped.{slips, slip}
 use Rattle.inspected_bytes.specs.Inspected.{Ran, stateAfter, tableAfter, holds, Inserted}
