@@ -15,6 +15,7 @@ use Rattle.refusals.specs.declared.Op.{Op}
 use Rattle.refusing.proofs.Laws.{false-true}
 use Rattle.arbiter.specs.declared.Answered.{Answered}
 use Rattle.arbiter.specs.Arbiter.{outcomeIn, Handled, Called, Shows, Unread, Lent}
+use Rattle.arbiter.specs.Lent.{Same}
 use Rattle.arbiter.proofs.Outcome.{held-or-not, one-outcome}
 
 pub handled-lent : {o : Op} {r : Request} {b : Board} {ms tb l : List ℕ} {d : Outcome} {tb′ l′ st′ : List ℕ} → Saved (d .state) st′ → Handled o r b ms tb l d tb′ l′
@@ -41,14 +42,6 @@ pub lent-read : {o : Op} {r : Request} {ms st tb l dp : List ℕ} {d : Answered}
 lent-read w c = record { read = λ _. c; unread = λ n. absurd (n w) }
 
 -- ---- no second outcome fits
-
--- the same answer and count, and the same bytes in all that is lent
-pub record Same (d d₂ : Answered) (st st₂ tb tb₂ l l₂ dp dp₂ : List ℕ) : Type 0 where
-  pub answered : d ≡ d₂
-  pub state : st ≡ st₂
-  pub table : tb ≡ tb₂
-  pub list : l ≡ l₂
-  pub display : dp ≡ dp₂
 
 one-shows : {o : Op} {r : Request} {b : Board} {ms tb l dp dp₁ dp₂ : List ℕ} → Shows o r b ms tb l dp dp₁ → Shows o r b ms tb l dp dp₂ → dp₁ ≡ dp₂
 one-shows {b = b} {tb = tb} x y = held-or-not b tb (λ h. x .sound h ∙ sym (y .sound h)) (λ n. x .unsound n ∙ sym (y .unsound n))

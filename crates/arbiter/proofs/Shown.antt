@@ -8,10 +8,11 @@ use lib.Seq.{length-take-le}
 use Rattle.machine.specs.State.{State as StateM, Outcome, Call, Request as Waiting}
 use Rattle.machine.specs.Refusals.{Refusal, refusal}
 use Rattle.machine.specs.Call.{answering, call}
+use Rattle.machine.specs.InBytes.{twoBytes}
 use Rattle.machine_laws.proofs.Board.{call-wide as call-as-wide}
 use Rattle.widening.specs.Widening.{widen}
 use Rattle.display.specs.Looks.{lookedBy, looked}
-use Rattle.display.specs.Display.{NUMBERS, corrected, looksOf, looksBytes, displayed}
+use Rattle.display.specs.Display.{NUMBERS, corrected, looksOf, displayed}
 use Rattle.display.proofs.Looks.{looked-most}
 use Rattle.lanes.specs.Lanes.{Balanced}
 use Rattle.channel_numbers.specs.ChannelNumbers.{countAt, moved, Moves}
@@ -78,13 +79,13 @@ module _ (l : List ℕ) {o : Op} {r : Request} {b : Board} {ms tb : List ℕ} {e
 
     pub shown : (dp : List ℕ) → length dp ≡ 18 → {dp′ : List ℕ} {k x left joined : ℕ} → k ≡ looksOf dp → x ≡ lookedBy (decisionOf e) c₀ (wideIn (b .state) tb) k
         → Moved (decisionOf e) c₀ (wideIn (b .state) tb) left joined
-        → dp′ ≡ moved (countAt (map (λ c. c .writes .n) (d .state .channels)) joined) (countAt (map (λ c. c .writes .n) (b .state .channels)) left) 0 (take 16 dp) ++ looksBytes x
+        → dp′ ≡ moved (countAt (map (λ c. c .writes .n) (d .state .channels)) joined) (countAt (map (λ c. c .writes .n) (b .state .channels)) left) 0 (take 16 dp) ++ twoBytes x
         → Shown o r b ms tb l dp dp′
     unfolding displayed
     shown dp f {dp′} {k} {x} m q v z =
         let n : length (take 16 dp) ≡ 16 = length-take-le 16 dp (omega (arith, f)) in
         z
-        ∙ (ap (λ (xs : List ℕ). xs ++ looksBytes x) (moved-corrected (moves (v .balance)) 0 (take 16 dp) (omega (arith, n)))
-        ∙ (ap₂ (λ (s u : StateM). corrected s u 0 (take 16 dp) ++ looksBytes x) (held-wide h .1) after-is
-        ∙ ap₂ (λ (xs : List ℕ) (n : ℕ). xs ++ looksBytes n) (corrected-wide k₀ u₀ (call u₀ c₀ .next) 0 (take 16 dp))
+        ∙ (ap (λ (xs : List ℕ). xs ++ twoBytes x) (moved-corrected (moves (v .balance)) 0 (take 16 dp) (omega (arith, n)))
+        ∙ (ap₂ (λ (s u : StateM). corrected s u 0 (take 16 dp) ++ twoBytes x) (held-wide h .1) after-is
+        ∙ ap₂ (λ (xs : List ℕ) (n : ℕ). xs ++ twoBytes n) (corrected-wide k₀ u₀ (call u₀ c₀ .next) 0 (take 16 dp))
         (q ∙ (looks-own k ∙ ap (looked u₀ c₀) m))))

@@ -5,7 +5,8 @@ use mathlib.Core.List.{List}
 use Rattle.machine.specs.Log.{opOf}
 use Rattle.answers.specs.declared.Request.{Request}
 use Rattle.refusals.specs.declared.Op.{Op}
-use Rattle.handed.specs.Handed.{opFor, requestOf}
+use Rattle.refusals.specs.Refusals.{opFor}
+use Rattle.handed.specs.Handed.{requestOf}
 use Rattle.bytes_call.specs.BytesCall.{Carries}
 use Rattle.boundary.specs.Boundary.{Room, Crossed}
 

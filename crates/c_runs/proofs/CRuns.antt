@@ -22,6 +22,7 @@ use Rattle.machine.specs.Desks.{DESK·A, DESK·B, HALF, repliesTo, halves}
 use Rattle.machine.specs.Log.{opOf}
 use Rattle.machine.specs.Call.{call, inRange}
 use Rattle.machine.proofs.Tests.{and-both, and-left, and-right, by-test, test-true, test-false}
+use Rattle.refusals.specs.Refusals.{opFor}
 use Rattle.machine_laws.proofs.Lists.{keep-swap}
 use Rattle.machine_laws.proofs.Halves.{call-halves}
 use Rattle.channel.specs.Channel.{channelOf}
@@ -34,7 +35,7 @@ use Rattle.answers.specs.Answers.{answerOf}
 use Rattle.desk_call.specs.DeskCall.{Told}
 use Rattle.display.specs.Display.{DISPLAY}
 use Rattle.sizes.specs.Sizes.{ANSWER}
-use Rattle.handed.specs.Handed.{opFor, answerBytes}
+use Rattle.handed.specs.Handed.{answerBytes}
 use Rattle.bytes_call.specs.BytesCall.{Carried}
 use Rattle.boundary.specs.Boundary.{UNANSWERED, Room, Unanswered}
 use Rattle.boundary.proofs.Crossing.{sound-after}
@@ -48,7 +49,7 @@ use Rattle.two_runs.proofs.TwoRuns.{begins-of, ours-alone, ours-ready, theirs-r
 use Rattle.two_runs.proofs.Desk.{of-desk}
 use Rattle.code_runs.specs.CodeRuns.{recordsTo, storedOf}
 use Rattle.code_runs.proofs.CodeRuns.{count-of, recordsTo-encodes, stores, view-of}
-use Rattle.code_runs.proofs.Stored.{storedIn}
+use Rattle.code_runs.specs.Stored.{storedIn}
 use Rattle.c_runs.specs.CRuns.{Turn, request, asked, roomy, Took, Move, ours, others, Chained, Keeps, Full, Run, ownCalls, spoken}
 use Rattle.c_runs.specs.CRuns.{ownRecords, viewBytes, Sight, told, got, has, sights, Demand3·bytes}
 use Rattle.c_runs.proofs.Examples.{reported}

@@ -12,10 +12,11 @@ use Rattle.two_runs.specs.TwoRuns.{claim}
 use Rattle.two_runs.specs.Core.{misses}
 use Rattle.two_runs.specs.Desk.{ofDesk, fromOther, spares, RunOfDesk}
 use Rattle.two_runs.proofs.Desk.{begun, begins}
-use Rattle.code_runs.proofs.Made.{OnBoard, board-state}
+use Rattle.code_runs.specs.Made.{OnBoard}
+use Rattle.code_runs.proofs.Made.{board-state}
 use Rattle.c_runs.specs.CRuns.{sights}
-use Rattle.c_runs.proofs.Witness.{Ask, Says, ourAsk, theirAsk, ourMiss, theirMiss, steps, moves, ownSays, bytesOf, bytes-whole}
-use Rattle.c_runs.proofs.Witness.{bytes-state, bytes-held, ownCalls-moves, desk-runs-are-runs-of-C}
+use Rattle.c_runs.specs.Made.{Ask, Says, ourAsk, theirAsk, ourMiss, theirMiss, steps, moves, ownSays, bytesOf}
+use Rattle.c_runs.proofs.Witness.{bytes-whole, bytes-state, bytes-held, ownCalls-moves, desk-runs-are-runs-of-C}
 use Rattle.c_runs.proofs.Desk.{desk-sees-the-same-bytes}
 
 -- desk, operation, id, map, precedence in two's complement, key, combinations

@@ -13,11 +13,11 @@ use Rattle.store.specs.Store.{tableOf}
 use Rattle.handed.specs.Handed.{answerBytes}
 use Rattle.two_runs.specs.TwoRuns.{Start, Run as RunM, claim}
 use Rattle.two_runs.proofs.Premises.{premises, runs-all, starts-all}
-use Rattle.code_runs.proofs.Made.{OnBoard}
+use Rattle.code_runs.specs.Made.{OnBoard}
 use Rattle.code_runs.proofs.Witness.{party, start}
 use Rattle.c_runs.specs.CRuns.{Run}
-use Rattle.c_runs.proofs.Witness.{Ask, Says, ask, ourAsk, theirAsk, bytesOf, made, moves, ownSays, spelt, steps}
-use Rattle.c_runs.proofs.Witness.{machine-runs-are-runs-of-C}
+use Rattle.c_runs.specs.Made.{Ask, Says, ourAsk, theirAsk, bytesOf, made, moves, ownSays, spelt, steps}
+use Rattle.c_runs.proofs.Witness.{ask, machine-runs-are-runs-of-C}
 
 -- as in Witness.antt, and another's request waits for channel 3
 abbrev unsettled : StateM

@@ -14,7 +14,7 @@ use Rattle.one_desk.proofs.Witness.{busy, quiet}
 use Rattle.c_runs.specs.CRuns.{bytesClaim}
 use Rattle.c_runs.specs.Desk.{half}
 use Rattle.c_runs.specs.OneDesk.{Gets, gets}
-use Rattle.c_runs.proofs.Witness.{Ask, made}
+use Rattle.c_runs.specs.Made.{Ask, made}
 
 -- ALLOCATE id 8 key 0 at 12 for the channels 0, 1 and 2
 abbrev pub steals : Ask

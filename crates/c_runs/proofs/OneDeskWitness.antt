@@ -7,10 +7,12 @@ use Rattle.machine.specs.Log.{opOf}
 use Rattle.machine.specs.Machine.{machine}
 use Rattle.store.specs.Store.{tableOf}
 use Rattle.two_runs.specs.TwoRuns.{claim}
-use Rattle.code_runs.proofs.Made.{OnBoard, board-state}
+use Rattle.code_runs.specs.Made.{OnBoard}
+use Rattle.code_runs.proofs.Made.{board-state}
 use Rattle.one_desk.proofs.Witness.{busy, quiet, other, premises-met, premises-met-by-B}
 use Rattle.c_runs.specs.OneDesk.{gets}
-use Rattle.c_runs.proofs.Witness.{Ask, made, made-took, made-roomy, bytesOf, bytes-whole, bytes-state, bytes-held}
+use Rattle.c_runs.specs.Made.{Ask, made, bytesOf}
+use Rattle.c_runs.proofs.Witness.{made-took, made-roomy, bytes-whole, bytes-state, bytes-held}
 use Rattle.c_runs.proofs.OneDeskExamples.{steals}
 use Rattle.c_runs.proofs.OneDesk.{one-desk-bytes}
 

@@ -1,13 +1,13 @@
 -- Demand 3 of the bytes that a program in C lends is about something: every run of the machine whose calls are numbers of a program
 -- in C is a run of its calls, and two such runs, from one state, meet every premise. K sees the same bytes in both.
 -- Assumes nothing.
-use Prim.Native.Nat.{ℕ, _+_, _≤_}
+use Prim.Native.Nat.{ℕ, _≤_}
 use mathlib.Core.Path.{_≡_, refl, ap, sym, subst, _∙_}
 use mathlib.Core.List.{List, [], _∷_, _++_, map}
 use mathlib.Core.Option.{Option, none, some}
 use native.Mathlib.Omega.{arith}
 use lib.Dec.{T, leb, leb→le}
-use lib.ListN.{length, replicate, length-replicate}
+use lib.ListN.{length, length-replicate}
 use Rattle.machine.specs.Lists.{all}
 use Rattle.machine.specs.State.{Call, Outcome as OutcomeM, State as StateM}
 use Rattle.machine.specs.Desks.{DESK·A, DESK·B, deskOf, repliesTo}
@@ -21,119 +21,27 @@ use Rattle.halves.specs.Halves.{laid}
 use Rattle.store.specs.Store.{tableOf}
 use Rattle.board.specs.declared.Board.{Board}
 use Rattle.board.specs.Board.{structOf, stateIn, Held}
-use Rattle.image.specs.Image.{imageOf, stateOf, Whole}
+use Rattle.image.specs.Image.{stateOf, Whole}
 use Rattle.image.proofs.Round.{stateOf-imageOf}
 use Rattle.images.proofs.Images.{saved-of, sized-of}
 use Rattle.answers.specs.Answers.{answerOf}
-use Rattle.refusals.specs.Refusals.{askedOf}
+use Rattle.refusals.specs.Refusals.{opFor}
 use Rattle.arbiter.specs.Arbiter.{Shows}
 use Rattle.desk_call.specs.DeskCall.{Outcome, Told, Called}
 use Rattle.sizes.specs.Sizes.{REPLIES}
-use Rattle.handed.specs.Handed.{opFor, requestOf, answerBytes}
 use Rattle.two_runs.specs.TwoRuns.{Party, Start, Step, our, their, Keeps as KeepsM, Run as RunM, calls, claim, counted, inBytes, said}
 use Rattle.two_runs.specs.Desk.{KeepsApart as KeepsApartM, RunOfDesk as RunOfDeskM}
 use Rattle.two_runs.proofs.Premises.{premises, runs-all, starts-all}
 use Rattle.boundary.specs.Boundary.{UNANSWERED}
-use Rattle.code_runs.proofs.Made.{OnBoard, bytes-count, bytes-range, board-held, board-next, board-state, sound-next}
+use Rattle.code_runs.specs.Made.{OnBoard}
+use Rattle.code_runs.proofs.Made.{bytes-count, bytes-range, board-held, board-next, board-state, sound-next}
 use Rattle.code_runs.proofs.Witness.{party, start, board, numbers}
 use Rattle.c_runs.specs.CRuns.{Turn, roomy, request, Took, Move, ours, others, Chained, Keeps, Full, Run, ownCalls, sights}
 use Rattle.c_runs.specs.Desk.{KeepsApart, RunOfDesk}
+use Rattle.c_runs.specs.Made.{Ask, records, spelt, bytesOf, made, missed, Says, ourAsk, theirAsk, ourMiss, theirMiss, steps, moves, ownSays}
 use Rattle.c_runs.proofs.CRuns.{K-sees-the-same-bytes}
 
 -- ---- a call as a program in C makes it, with a full reply list, and what it may become
-
-pub record Ask : Type 0 where
-  pub desk : ℕ
-  pub op : ℕ
-  pub id : ℕ
-  pub flags : ℕ
-  pub map : ℕ
-  pub prec : ℕ
-  pub key : ℕ
-  pub combos : List ℕ
-
-abbrev records : List ℕ
-records = replicate 384 0
-
-abbrev pub spelt : Ask → Call
-spelt a = askedOf (opFor (opOf (a .op))) (requestOf (a .desk) (a .op) (a .id) (a .flags) (a .map) (a .prec) (a .key)) (a .combos) (length records)
-
-abbrev pub bytesOf : StateM → List ℕ
-bytesOf s = imageOf (structOf s)
-
-abbrev pub made : StateM → Ask → Turn
-made s a =
-    let o = call s (spelt a) in
-    record {
-      desk = a .desk;
-      op = a .op;
-      id = a .id;
-      flags = a .flags;
-      map = a .map;
-      prec = a .prec;
-      key = a .key;
-      combos = a .combos;
-      wall = blank;
-      lent = records;
-      room = replicate 8 0;
-      n = length (repliesTo DESK·A (o .replies)) + length (repliesTo DESK·B (o .replies));
-      state = bytesOf (o .next);
-      table = tableOf (o .next);
-      display = displayed s (spelt a) blank;
-      list = laid records (o .replies);
-      answer = answerBytes (answerOf (o .answer)) (length (repliesTo DESK·A (o .replies))) (length (repliesTo DESK·B (o .replies)));
-    }
-
--- a call without room for its answer, an OPEN: nothing is read of it
-abbrev pub missed : StateM → Turn
-missed s =
-    record {
-      desk = 0;
-      op = 0xF0;
-      id = 0;
-      flags = 0;
-      map = 0;
-      prec = 0;
-      key = 0;
-      combos = [];
-      wall = blank;
-      lent = [];
-      room = [];
-      n = UNANSWERED;
-      state = bytesOf s;
-      table = tableOf s;
-      display = blank;
-      list = [];
-      answer = [];
-    }
-
-pub data Says : Type 0 where
-  ourAsk : Ask → Says
-  theirAsk : Ask → Says
-  ourMiss : Says
-  theirMiss : Says
-
-abbrev pub steps : List Says → List Step
-steps [] = []
-steps (ourAsk a ∷ xs) = our (spelt a) ∷ steps xs
-steps (theirAsk a ∷ xs) = their (spelt a) ∷ steps xs
-steps (ourMiss ∷ xs) = steps xs
-steps (theirMiss ∷ xs) = steps xs
-
-abbrev pub moves : StateM → List Says → List Move
-moves s [] = []
-moves s (ourAsk a ∷ xs) = ours (made s a) ∷ moves (call s (spelt a) .next) xs
-moves s (theirAsk a ∷ xs) = others (made s a) ∷ moves (call s (spelt a) .next) xs
-moves s (ourMiss ∷ xs) = ours (missed s) ∷ moves s xs
-moves s (theirMiss ∷ xs) = others (missed s) ∷ moves s xs
-
--- the party's calls among them
-abbrev pub ownSays : List Says → List (Option Call)
-ownSays [] = []
-ownSays (ourAsk a ∷ xs) = some (said (spelt a)) ∷ ownSays xs
-ownSays (theirAsk a ∷ xs) = ownSays xs
-ownSays (ourMiss ∷ xs) = none ∷ ownSays xs
-ownSays (theirMiss ∷ xs) = ownSays xs
 
 -- it has room
 pub made-roomy : (s : StateM) (a : Ask) → T (roomy (made s a))

@@ -34,10 +34,10 @@ use Rattle.machine.specs.Log.{opOf}
 use Rattle.board.specs.Board.{stateIn, Held}
 use Rattle.image.specs.Image.{stateOf, Whole, channelBytes}
 use Rattle.answers.specs.declared.Request.{Request}
-use Rattle.refusals.specs.Refusals.{askedOf}
+use Rattle.refusals.specs.Refusals.{askedOf, opFor}
 use Rattle.display.specs.Display.{DISPLAY}
 use Rattle.sizes.specs.Sizes.{ANSWER, REPLIES}
-use Rattle.handed.specs.Handed.{opFor, requestOf}
+use Rattle.handed.specs.Handed.{requestOf}
 use Rattle.boundary.specs.Boundary.{Crossed}
 use Rattle.two_runs.specs.TwoRuns.{Party, Start, ByK, ByOthers, counted, said}
 use Rattle.code_runs.specs.CodeRuns.{recordsTo, viewOf, storedOf}

@@ -11,7 +11,8 @@ use lib.ListN.{length, take, length-append}
 use Rattle.machine.specs.State.{State}
 use Rattle.machine.specs.Log.{lines, feed, run}
 use Rattle.machine.proofs.Tests.{by-test, test-true, test-false}
-use Rattle.display.specs.Display.{numbers, looksBytes}
+use Rattle.machine.specs.InBytes.{twoBytes}
+use Rattle.display.specs.Display.{numbers}
 use Rattle.display.proofs.Pinned.{numbers-length}
 use Rattle.board.specs.declared.Board.{Board}
 use Rattle.board.specs.Board.{stateIn, Held}
@@ -21,8 +22,8 @@ use Rattle.gathering.proofs.Lumps.{stands-none}
 use Rattle.taking.specs.declared.Show.{Show}
 use Rattle.taking.specs.Desk.{hidden, runShown}
 use Rattle.hex_lines.specs.HexLines.{Put}
-use Rattle.whole_log.specs.Whole.{joined, Ran, boardAt, tableAt}
-use Rattle.whole_log.proofs.Whole.{none-ended, run-hidden, Ended, ran-run, ran-ends}
+use Rattle.whole_log.specs.Whole.{joined, Ran, boardAt, tableAt, Ended}
+use Rattle.whole_log.proofs.Whole.{none-ended, run-hidden, ran-run, ran-ends}
 use Rattle.saved.specs.Saved.{text, TextOf}
 use Rattle.saved2.specs.Saved2.{text2, TextOf2}
 use Rattle.saving2.proofs.Laws2.{taken-front}
@@ -36,7 +37,7 @@ use Rattle.carrying.specs.Carrying.{Counts, Still, Resumes, Resumes2, Ca
 -- ---- what is loaded
 
 counted-length : (s : State) → length (counted s) ≡ 18
-counted-length s = length-append (numbers s) (looksBytes 0) ∙ ap (λ (n : ℕ). n + 2) (numbers-length s)
+counted-length s = length-append (numbers s) (twoBytes 0) ∙ ap (λ (n : ℕ). n + 2) (numbers-length s)
 
 module _ {t d : List ℕ} {f : Found} {tb dp : List ℕ} {s : State} where
   pub carries : Resumes t d f tb dp → TextOf 4 s t → Carries s f tb dp

@@ -13,7 +13,7 @@ use Rattle.machine.specs.Numbers.{ADCMD·ALLOCATE}
 use Rattle.machine.specs.Lists.{if_then_else_, any, keep, among, distinct}
 use Rattle.machine.specs.State.{Write, Channel as ChannelM, Lock, Request, State as StateM, free}
 use Rattle.machine.specs.Maps.{odd, half}
-use Rattle.machine_laws.proofs.Sound.{Parts}
+use Rattle.machine_laws.specs.Sound.{Parts}
 use Rattle.channel.specs.declared.Channel.{Channel}
 use Rattle.channel.specs.Channel.{channelOf}
 use Rattle.channel.proofs.Laws.{Few}
@@ -26,7 +26,7 @@ use Rattle.queue.specs.Queue.{listOf}
 use Rattle.store.specs.declared.State.{State}
 use Rattle.store.specs.Store.{Item, writeItem, lockItem, waiterItem, waitItem, writeItems, items, keys, Each, lookup, requestIn, stateIn, Held}
 use Rattle.store.proofs.Store.{parts-long, block-tableOf, apart-items, held-parts, held-waiting, waiting-count, writes-few}
-use Rattle.machine_laws.proofs.Keeping.{waitIds}
+use Rattle.machine_laws.specs.Keeping.{waitIds}
 use Rattle.display.specs.Display.{names, naming, writesOn, number, corrected}
 use Rattle.display.proofs.Acting.{waiting-apart}
 use Rattle.lanes.specs.Lanes.{lane, Balanced}

@@ -4,7 +4,8 @@ ghost use Prim.Native.Nat.{_<_};
 ghost use mathlib.Core.Path.{_≡_};
 ghost use mathlib.Core.List.{_++_, map};
 ghost use lib.ListN.{length, take};
-ghost use Rattle.display.specs.Display.{looksOf, looksBytes};
+ghost use Rattle.machine.specs.InBytes.{twoBytes};
+ghost use Rattle.display.specs.Display.{looksOf};
 ghost use Rattle.channel_numbers.specs.ChannelNumbers.{countAt, moved};
 
 // The looks of the last settling, as a display has them.
@@ -21,7 +22,7 @@ pub fn show(display: &mut [u8], before: State, after: State, left: u64, joined: 
     ensures { λ _. ⌜ now (display .exit)
         ≡ moved (countAt (map (λ c. c .writes .n) (after .channels)) joined)
         (countAt (map (λ c. c .writes .n) (before .channels)) left) 0
-        (take 16 (now (display .entry))) ++ looksBytes looks ⌝ }
+        (take 16 (now (display .entry))) ++ twoBytes looks ⌝ }
 {
     channel_numbers::correct(display, before, after, left, joined);
     memory::put_key(display, 16, looks as u16);

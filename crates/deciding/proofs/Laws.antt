@@ -22,11 +22,12 @@ use Rattle.machine.specs.Call.{settling, openSettling, accept, answering, call,
 use Rattle.machine.proofs.Tests.{by-test, test-true, test-false, and-right, and-both}
 use Rattle.machine_laws.proofs.Refusals.{first-past}
 use Rattle.machine.proofs.Steps.{first-none}
-use Rattle.machine_laws.proofs.Sound.{Parts}
+use Rattle.machine_laws.specs.Sound.{Parts}
 use Rattle.machine_laws.proofs.Replies.{call-replies}
 use Rattle.machine_laws.proofs.KeepingSettle.{look-unlocked}
 use Rattle.machine_laws.proofs.KeepingCalls.{id-small, range-prec, range-key, open-sound, close-sound, abort-sound, event-sound, perform-sound}
-use Rattle.machine_laws.proofs.Board.{Wide, open-wide, close-wide, abort-wide, event-wide, perform-wide}
+use Rattle.machine_laws.specs.Board.{Wide}
+use Rattle.machine_laws.proofs.Board.{open-wide, close-wide, abort-wide, event-wide, perform-wide}
 use Rattle.reply.specs.Replies.{sent}
 use Rattle.reply.proofs.Laws.{sent-append, length-sent}
 use Rattle.store.specs.declared.State.{State}
@@ -277,7 +278,9 @@ module _ {o : Op} {r : Request} {s : State} {ms tb l : List ℕ} (a : Allowed o 
 
       pub settled-told : {st : State} {tb′ l′ : List ℕ} {n : ℕ}
           → Did (settle (stateIn (d .state) tb₁) .state) (settle (stateIn (d .state) tb₁) .replies) l₁ (d .n) st tb′ l′ n
-          → {e : ℕ} → e ≡ 0 → Told (answering (decisionOf e) c₀ s₀) l (record { answer = d .answer; state = st; n = n }) tb′ l′
+          → {e : ℕ} → e ≡ 0
+          → Told (answering (decisionOf e) (askedOf o r ms (length l)) (stateIn s tb)) l
+          (record { answer = d .answer; state = st; n = n }) tb′ l′
       unfolding settling
       settled-told {st} {tb′} {l′} {n} w {e} z =
           let f = few in

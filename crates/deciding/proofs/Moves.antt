@@ -17,8 +17,9 @@ use Rattle.machine.specs.Refusals.{Refusal, accepted, refusal}
 use Rattle.machine.specs.Settling.{settle}
 use Rattle.machine.specs.Call.{settling, answering}
 use Rattle.machine.proofs.Tests.{and-left, and-right, by-test, test-true, test-false, nor-left, nor-right, or-left, or-right}
-use Rattle.machine_laws.proofs.Lists.{Sub, sub-keep}
-use Rattle.machine_laws.proofs.Keeping.{waitIds}
+use Rattle.machine_laws.specs.Lists.{Sub}
+use Rattle.machine_laws.proofs.Lists.{sub-keep}
+use Rattle.machine_laws.specs.Keeping.{waitIds}
 use Rattle.display.specs.Looks.{acting}
 use Rattle.display.proofs.Acting.{asking, Stays, acting-stays, abort-keeps, waiting-apart, settle-sub}
 use Rattle.memory.specs.Splice.{block}

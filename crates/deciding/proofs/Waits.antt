@@ -10,7 +10,7 @@ use Rattle.machine.specs.Numbers.{ADCMD·ALLOCATE}
 use Rattle.machine.specs.Lists.{if_then_else_, any, among, distinct}
 use Rattle.machine.specs.State.{Write, Channel as ChannelM, Lock, Request, State as StateM}
 use Rattle.machine.proofs.Tests.{and-left, and-right, by-test, test-true, test-false, nor-right}
-use Rattle.machine_laws.proofs.Keeping.{waitIds}
+use Rattle.machine_laws.specs.Keeping.{waitIds}
 use Rattle.memory.specs.Splice.{block}
 use Rattle.table.specs.Entry.{writeEntry, spanEntry, waitEntry}
 use Rattle.store.specs.declared.State.{State}

@@ -18,7 +18,8 @@ use Rattle.machine.specs.Desks.{DESK·A, DESK·B, HALF, repliesTo}
 use Rattle.machine.specs.Call.{call}
 use Rattle.machine_laws.proofs.Replies.{call-replies}
 use Rattle.machine_laws.proofs.Halves.{call-halves}
-use Rattle.machine_laws.proofs.Rooms.{lent, room-unread, short-mute}
+use Rattle.machine_laws.specs.Rooms.{lent}
+use Rattle.machine_laws.proofs.Rooms.{room-unread, short-mute}
 use Rattle.display.specs.Display.{displayed}
 use Rattle.display.proofs.Rooms.{displayed-room}
 use Rattle.reply.specs.Replies.{encodes, sent}

@@ -8,6 +8,7 @@
 --   Told o l d tb′ l′               the machine's outcome o: answer, state, and the replies in the halves, each with its number
 --   Unmoved r b tb l ..             the answer to a state that is not sound: 1, map 0, the key given; not a byte has moved
 --   Called o r b ms tb l d tb′ l′   the promise of `call` on a board: b, the table tb and the list l became d, tb′ and l′
+--   Same d d₂ tb tb₂ l l₂           the same answer, board, numbers, table and list
 --   Unread r st tb l dp ..          the answer where the state's bytes hold no struct: 1, map 0, the key given; not a byte has moved
 --   Lent o r ms st tb l dp d ..     the promise of `call` on any bytes st: of the board that they hold, or unread
 use Prim.Native.Nat.{ℕ}
@@ -77,3 +78,9 @@ pub record Lent (o : Op) (r : Request) (ms st tb l dp : List ℕ) (d : Answered)
   pub read : Whole st → Whole st′ × Called o r (stateOf st) ms tb l (outcomeIn st′ d) tb′ l′
       × Shows o r (stateOf st) ms tb l dp dp′
   pub unread : (Whole st → ⊥) → Unread r st tb l dp d st′ tb′ l′ dp′
+
+-- no second outcome fits the promise: `one-call` of proofs/Promise.antt
+pub record Same (d d₂ : Outcome) (tb tb₂ l l₂ : List ℕ) : Type 0 where
+  pub outcome : d ≡ d₂
+  pub table : tb ≡ tb₂
+  pub list : l ≡ l₂

@@ -28,9 +28,10 @@ use Rattle.machine.specs.Refusals.{accepted, refusal}
 use Rattle.machine.specs.Call.{perform, settling, openSettling, accept}
 use Rattle.machine.proofs.Tests.{if-elim}
 use Rattle.machine.proofs.Steps.{first-none}
-use Rattle.machine_laws.proofs.Lists.{Sub, end, skip, take, sub-refl, sub-keep, sub-map, sub-all, sub-among, sub-distinct, sub-right, sub-trans, ins-all, ins-distinct, pigeon}
-use Rattle.machine_laws.proofs.Sound.{Parts}
-use Rattle.machine_laws.proofs.Keeping.{lockIds, waitIds}
+use Rattle.machine_laws.specs.Lists.{Sub, end, skip, take}
+use Rattle.machine_laws.proofs.Lists.{sub-refl, sub-keep, sub-map, sub-all, sub-among, sub-distinct, sub-right, sub-trans, ins-all, ins-distinct, pigeon}
+use Rattle.machine_laws.specs.Sound.{Parts}
+use Rattle.machine_laws.specs.Keeping.{lockIds, waitIds}
 use Rattle.machine_laws.proofs.KeepingCalls.{id-small, enqueue-ids}
 use Rattle.display.specs.Looks.{acting}
 use Rattle.display.proofs.Examples.{rows-shown}

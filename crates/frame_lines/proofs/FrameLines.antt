@@ -22,10 +22,11 @@ use Rattle.queue.specs.Queue.{listOf}
 use Rattle.channel.specs.declared.Channel.{Channel}
 use Rattle.channel.specs.Channel.{channelOf}
 use Rattle.machine.specs.State.{free}
+use Rattle.machine.specs.InBytes.{markOf}
 use Rattle.table.specs.Entry.{keyIn, listIn}
 use Rattle.store.specs.Store.{requestIn}
 use Rattle.waiting.specs.Waiting.{Readable}
-use Rattle.saved.specs.Saved.{markOf, requestFrame, spelt}
+use Rattle.saved.specs.Saved.{requestFrame, spelt}
 use Rattle.frame_lines.specs.FrameLines.{requestLine, spanLine, writeLine, entryFrame, keptIn, channelLine, writesIn, AllListed}
 
 -- ---- lines one behind the other

@@ -19,7 +19,7 @@ use Rattle.unheard.specs.Unheard.{Fed, unheard, Unheard}
 use Rattle.serving.specs.Serving.{Feeds, FeedsDisplay}
 use Rattle.serving.proofs.Laws.{feed-few}
 use Rattle.feeding.specs.Feeding.{FeedsAny, FeedsDisplayAny, FeedsLent}
-use Rattle.hearing.specs.Hearing.{Kept, heldIn, Hears, Tells}
+use Rattle.hearing.specs.Hearing.{Kept, heldIn, Hears, Tells, Same}
 
 -- ---- whether the bytes hold a sound state
 
@@ -92,13 +92,6 @@ one-hearing {st = st} {tb = tb} a b =
     kept-or-not st tb
     (λ k. let x = a .sound k in let y = b .sound k in (x .output ∙ sym (y .output), one-image (x .state) (y .state), x .table ∙ sym (y .table), x .display ∙ sym (y .display)))
     (λ n. let x = a .unsound n in let y = b .unsound n in (x .output ∙ sym (y .output), x .state ∙ sym (y .state), x .table ∙ sym (y .table), x .display ∙ sym (y .display)))
-
-pub record Same (n n₂ : ℕ) (st st₂ tb tb₂ dp dp₂ out out₂ : List ℕ) : Type 0 where
-  pub count : n ≡ n₂
-  pub state : st ≡ st₂
-  pub table : tb ≡ tb₂
-  pub display : dp ≡ dp₂
-  pub output : out ≡ out₂
 
 pub one-telling : {l st tb dp out : List ℕ} {n n₂ : ℕ} {st₁ st₂ tb₁ tb₂ dp₁ dp₂ out₁ out₂ : List ℕ} → Tells l st tb dp out n st₁ tb₁ dp₁ out₁ → Tells l st tb dp out n₂ st₂ tb₂ dp₂ out₂
     → Same n n₂ st₁ st₂ tb₁ tb₂ dp₁ dp₂ out₁ out₂

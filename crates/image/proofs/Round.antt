@@ -12,11 +12,12 @@ use lib.Seq.{length-take-le, take-at, take-all, take-add, drop-drop, drop-cons, 
 use borrow.Author.Tests.{eq-eqb}
 use Rattle.machine.specs.Lists.{all}
 use Rattle.machine.proofs.Tests.{and-left, and-right}
+use Rattle.machine.specs.InBytes.{markOf, twoBytes}
 use Rattle.queue.specs.declared.Queue.{Queue}
 use Rattle.open_keys.specs.declared.Keys.{Keys}
 use Rattle.channel.specs.declared.Channel.{Channel}
 use Rattle.board.specs.declared.Board.{Board}
-use Rattle.image.specs.Image.{markOf, keyBytes, keysBytes, openBytes, queueBytes, channelBytes, channelsBytes, imageOf, keyAt, keysFrom, openAt, queueAt, channelAt, channelsAt, stateOf, isByte, isMark, marksAt, allMarks, isWhole, Whole, Filled, AllFilled, Sized, Saved}
+use Rattle.image.specs.Image.{keysBytes, openBytes, queueBytes, channelBytes, channelsBytes, imageOf, keyAt, keysFrom, openAt, queueAt, channelAt, channelsAt, stateOf, isByte, isMark, marksAt, allMarks, isWhole, Whole, Filled, AllFilled, Sized, Saved}
 use Rattle.image.proofs.Laws.{whole-long, bytes-all}
 
 -- ---- what stands behind a list
@@ -42,9 +43,9 @@ mark-small true = refl
 mark-small false = refl
 
 module _ (us : List ℕ) (at : ℕ) (h : length us ≡ at) (vs : List ℕ) where
-  key-back : (k : ℕ) → keyAt (us ++ (keyBytes k ++ vs)) at ≡ k
+  key-back : (k : ℕ) → keyAt (us ++ (twoBytes k ++ vs)) at ≡ k
   key-back k =
-      rw (first-behind us (keyBytes k ++ vs) at h, byte-behind us (keyBytes k ++ vs) at h 1) (div-add-mod' k 256)
+      rw (first-behind us (twoBytes k ++ vs) at h, byte-behind us (twoBytes k ++ vs) at h 1) (div-add-mod' k 256)
 
   queue-back : (q : Queue) → Filled q → queueAt (us ++ (queueBytes q ++ vs)) at ≡ q
   unfolding queueAt
@@ -118,11 +119,11 @@ keys-back : (vs ks us : List ℕ) (at : ℕ) → length us ≡ at → keysFrom (
 unfolding keysFrom keysBytes
 keys-back vs [] us at h = refl
 keys-back vs (k ∷ ks) us at h =
-    let e : us ++ ((keyBytes k ++ keysBytes ks) ++ vs) ≡ us ++ (keyBytes k ++ (keysBytes ks ++ vs)) = ap (λ (l : List ℕ). us ++ l) (append-assoc (keyBytes k) (keysBytes ks) vs) in
-    let g : us ++ (keyBytes k ++ (keysBytes ks ++ vs)) ≡ (us ++ keyBytes k) ++ (keysBytes ks ++ vs) = sym (append-assoc us (keyBytes k) (keysBytes ks ++ vs)) in
-    let n : length (us ++ keyBytes k) ≡ at + 2 = length-append us (keyBytes k) ∙ omega arith in
+    let e : us ++ ((twoBytes k ++ keysBytes ks) ++ vs) ≡ us ++ (twoBytes k ++ (keysBytes ks ++ vs)) = ap (λ (l : List ℕ). us ++ l) (append-assoc (twoBytes k) (keysBytes ks) vs) in
+    let g : us ++ (twoBytes k ++ (keysBytes ks ++ vs)) ≡ (us ++ twoBytes k) ++ (keysBytes ks ++ vs) = sym (append-assoc us (twoBytes k) (keysBytes ks ++ vs)) in
+    let n : length (us ++ twoBytes k) ≡ at + 2 = length-append us (twoBytes k) ∙ omega arith in
     let a = ap (λ (l : List ℕ). keyAt l at) e ∙ key-back us at h (keysBytes ks ++ vs) k in
-    let b = ap (λ (l : List ℕ). keysFrom (length ks) l (at + 2)) (e ∙ g) ∙ keys-back vs ks (us ++ keyBytes k) (at + 2) n in
+    let b = ap (λ (l : List ℕ). keysFrom (length ks) l (at + 2)) (e ∙ g) ∙ keys-back vs ks (us ++ twoBytes k) (at + 2) n in
     λ i. a i ∷ b i
 
 open-back : (us : List ℕ) (at : ℕ) → length us ≡ at → (vs : List ℕ) (q : Keys) → length (q .keys) ≡ 32 → openAt (us ++ (openBytes q ++ vs)) at ≡ q
@@ -149,7 +150,7 @@ module _ (b : Board) (z : Sized b) where
   M = openBytes (b .state .opens)
 
   abbrev N : List ℕ
-  N = keyBytes (b .state .last)
+  N = twoBytes (b .state .last)
 
   abbrev E : List ℕ
   E = b .width ∷ []
@@ -268,7 +269,7 @@ mark-kept (suc zero) h = refl
 mark-kept (suc (suc b)) h = absurd (omega arith)
 
 module _ (bs : List ℕ) (bytes : (i : ℕ) → getD bs i 0 < 256) where
-  key-part : (at : ℕ) → at + 2 ≤ length bs → keyBytes (keyAt bs at) ≡ take 2 (drop at bs)
+  key-part : (at : ℕ) → at + 2 ≤ length bs → twoBytes (keyAt bs at) ≡ take 2 (drop at bs)
   key-part at h =
       ap₂ (λ (x y : ℕ). x ∷ y ∷ []) (high-byte (getD bs at 0) (getD bs (at + 1) 0) (bytes (at + 1))) (low-byte (getD bs at 0) (getD bs (at + 1) 0) (bytes (at + 1)))
       ∙ sym (part-cons bs at 1 (omega arith) ∙ ap (λ (x : List ℕ). getD bs at 0 ∷ x) (part-cons bs (at + 1) 0 (omega arith)))

@@ -15,6 +15,7 @@ use Rattle.machine.specs.State.{Call, Outcome as OutcomeM, State as StateM, fre
 use Rattle.machine.specs.Desks.{DESK·A, DESK·B, repliesTo}
 use Rattle.machine.specs.Log.{opOf}
 use Rattle.machine.specs.Call.{call, inRange}
+use Rattle.refusals.specs.Refusals.{opFor}
 use Rattle.machine.proofs.Tests.{and-left, and-right}
 use Rattle.machine_laws.proofs.Sound.{parts}
 use Rattle.widening.proofs.Maps.{length-frees}
@@ -32,12 +33,14 @@ use Rattle.arbiter.specs.Arbiter.{Shows}
 use Rattle.desk_call.specs.DeskCall.{Outcome, Told, Called}
 use Rattle.sizes.specs.Sizes.{TABLE}
 use Rattle.starting.specs.Starting.{Fits, Started}
-use Rattle.handed.specs.Handed.{opFor, answerBytes}
+use Rattle.handed.specs.Handed.{answerBytes}
 use Rattle.boundary.proofs.Crossing.{fresh-after}
 use Rattle.two_runs.specs.TwoRuns.{inBytes}
-use Rattle.code_runs.proofs.Made.{OnBoard, board-held, board-next, board-state, bytes-count, bytes-range, sound-next}
+use Rattle.code_runs.specs.Made.{OnBoard}
+use Rattle.code_runs.proofs.Made.{board-held, board-next, board-state, bytes-count, bytes-range, sound-next}
 use Rattle.c_runs.specs.CRuns.{Turn, request, roomy, Took}
-use Rattle.c_runs.proofs.Witness.{Ask, spelt, bytesOf, bytes-whole, bytes-state}
+use Rattle.c_runs.specs.Made.{Ask, spelt, bytesOf}
+use Rattle.c_runs.proofs.Witness.{bytes-whole, bytes-state}
 use Rattle.inspected_bytes.specs.Inspected.{Ran, Fresh, calls, Handed, handed}
 
 -- a full reply list

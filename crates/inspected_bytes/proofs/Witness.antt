@@ -14,9 +14,11 @@ use Rattle.display.specs.Display.{blank, displayed}
 use Rattle.display.specs.Runs.{afterCalls, shownAfter}
 use Rattle.store.specs.Store.{tableOf}
 use Rattle.two_runs.specs.TwoRuns.{counted, inBytes}
-use Rattle.code_runs.proofs.Made.{OnBoard, board-next}
+use Rattle.code_runs.specs.Made.{OnBoard}
+use Rattle.code_runs.proofs.Made.{board-next}
 use Rattle.c_runs.specs.CRuns.{Turn}
-use Rattle.c_runs.proofs.Witness.{Ask, spelt, bytesOf, made as alone, made-took, missed, missed-took}
+use Rattle.c_runs.specs.Made.{Ask, spelt, bytesOf, made as alone, missed}
+use Rattle.c_runs.proofs.Witness.{made-took, missed-took}
 use Rattle.nothing_left.specs.NothingLeft.{NothingLeft}
 use Rattle.slipped.specs.Slipped.{slips, slip}
 use Rattle.inspected_bytes.specs.Inspected.{Chain, Ran, stateAfter, tableAfter, holds, Inserted}

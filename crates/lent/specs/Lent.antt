@@ -22,6 +22,7 @@ use lib.Dec.{ltb}
 use lib.ListN.{length, getD, set}
 use Rattle.memory.specs.Splice.{splice}
 use Rattle.machine.specs.State.{free}
+use Rattle.machine.specs.InBytes.{twoBytes}
 use Rattle.queue.specs.declared.Queue.{Queue}
 use Rattle.queue.specs.Queue.{queueOf, listOf, removed, indexOf}
 use Rattle.open_keys.specs.declared.Keys.{Keys}
@@ -30,7 +31,7 @@ use Rattle.channel.specs.Channel.{channelOf, withWrites}
 use Rattle.store.specs.declared.State.{State}
 use Rattle.board.specs.declared.Board.{Board}
 use Rattle.board.specs.Board.{freshBoard}
-use Rattle.image.specs.Image.{keyBytes, queueBytes, openBytes, imageOf, queueAt, openAt, stateOf, Whole}
+use Rattle.image.specs.Image.{queueBytes, openBytes, imageOf, queueAt, openAt, stateOf, Whole}
 
 -- ---- queues
 
@@ -145,7 +146,7 @@ pub record PutOpens (l : List ℕ) (f : Keys → Keys) (l′ : List ℕ) : Type 
   pub holds : Whole l → Holds (withOpens (f (stateOf l .state .opens)) (stateOf l)) l′
 
 pub record PutLast (l : List ℕ) (k : ℕ) (l′ : List ℕ) : Type 0 where
-  pub bytes : l′ ≡ splice l 820 (keyBytes k)
+  pub bytes : l′ ≡ splice l 820 (twoBytes k)
   pub long : length l′ ≡ length l
   pub holds : Whole l → Holds (withLast k (stateOf l)) l′
 

@@ -16,7 +16,8 @@ use Rattle.queue.specs.Queue.{queueOf, listOf}
 use Rattle.channel.specs.declared.Channel.{Channel}
 use Rattle.channel.specs.Channel.{channelOf, resetOf, precOf, flushOf, stopOf, lockOf, takenOf}
 use Rattle.machine.specs.State.{free}
-use Rattle.image.specs.Image.{markOf, keyBytes, queueBytes, channelBytes, channelAt, channelsAt, queueAt, stateOf, Whole, allMarks, Filled}
+use Rattle.machine.specs.InBytes.{markOf, twoBytes}
+use Rattle.image.specs.Image.{queueBytes, channelBytes, channelAt, channelsAt, queueAt, stateOf, Whole, allMarks, Filled}
 use Rattle.lent_channels.specs.declared.Channel.{Channel as Head}
 use Rattle.lent.specs.Lent.{Tidy, withChannel}
 use Rattle.lent_channels.specs.Heads.{headIn, unusedHead, resetHead, precHead, flushHead, stopHead, lockHead, takenHead, kept, stored, PutHead}
@@ -122,16 +123,16 @@ module _ (l : List ℕ) (i : ℕ) (c : Head) (h : i < 8) (n : length l ≡ 823) 
   at = i * 70
 
   abbrev hs : List ℕ
-  hs = keyBytes (c .key) ++ (c .prec ∷ markOf (c .locked) ∷ markOf (c .stopped) ∷ c .writes ∷ [])
+  hs = twoBytes (c .key) ++ (c .prec ∷ markOf (c .locked) ∷ markOf (c .stopped) ∷ c .writes ∷ [])
 
-  pub head-stores : {l₁ : List ℕ} {m₁ m₂ : ℕ} → l₁ ≡ splice l at (keyBytes (c .key)) → m₁ ≡ markOf (c .locked) → m₂ ≡ markOf (c .stopped)
+  pub head-stores : {l₁ : List ℕ} {m₁ m₂ : ℕ} → l₁ ≡ splice l at (twoBytes (c .key)) → m₁ ≡ markOf (c .locked) → m₂ ≡ markOf (c .stopped)
       → set (set (set (set l₁ (at + 2) (c .prec)) (at + 3) m₁) (at + 4) m₂) (at + 5) (c .writes) ≡ splice l at hs
   head-stores p a b =
-      let k = keyBytes (c .key) in
+      let k = twoBytes (c .key) in
       rw (p, a, b, splice-snoc l at k (c .prec) (omega (arith, n, h)), splice-snoc l at (k ++ c .prec ∷ []) (markOf (c .locked)) (omega (arith, n, h)), splice-snoc l at (k ++ c .prec ∷ markOf (c .locked) ∷ []) (markOf (c .stopped)) (omega (arith, n, h)), splice-snoc l at (k ++ c .prec ∷ markOf (c .locked) ∷ markOf (c .stopped) ∷ []) (c .writes) (omega (arith, n, h)))
 
   bytes-of : (q : Queue) → channelBytes (record { key = c .key; prec = c .prec; locked = c .locked; stopped = c .stopped; writes = q })
-      ≡ keyBytes (c .key) ++ (c .prec ∷ markOf (c .locked) ∷ markOf (c .stopped) ∷ queueBytes q)
+      ≡ twoBytes (c .key) ++ (c .prec ∷ markOf (c .locked) ∷ markOf (c .stopped) ∷ queueBytes q)
   unfolding channelBytes
   bytes-of q = refl
 
@@ -156,8 +157,8 @@ module _ (l : List ℕ) (i : ℕ) (c : Head) (h : i < 8) (n : length l ≡ 823) 
   pub put-cleared : {l₂ : List ℕ} → c .key < 65536 → c .prec < 256 → c .writes < 256 → c .writes ≡ 0 → l₂ ≡ splice (splice l at hs) (at + 6) (replicate 64 0) → PutHead l i c l₂
   put-cleared a b d w e =
       let s : channelBytes (stored c (channelAt l at)) ≡ hs ++ replicate 64 0 =
-      bytes-of (kept (c .writes) (channelAt l at .writes)) ∙ ap (λ (q : Queue). keyBytes (c .key) ++ (c .prec ∷ markOf (c .locked) ∷ markOf (c .stopped) ∷ queueBytes q)) gone
-      ∙ ap (λ (x : ℕ). keyBytes (c .key) ++ (c .prec ∷ markOf (c .locked) ∷ markOf (c .stopped) ∷ x ∷ replicate 64 0)) (sym w) in
+      bytes-of (kept (c .writes) (channelAt l at .writes)) ∙ ap (λ (q : Queue). twoBytes (c .key) ++ (c .prec ∷ markOf (c .locked) ∷ markOf (c .stopped) ∷ queueBytes q)) gone
+      ∙ ap (λ (x : ℕ). twoBytes (c .key) ++ (c .prec ∷ markOf (c .locked) ∷ markOf (c .stopped) ∷ x ∷ replicate 64 0)) (sym w) in
       put-head l i c h n (e ∙ (splice-then l at hs (replicate 64 0) (at + 6) refl (omega (arith, n, h)) ∙ ap (splice l at) (sym s)))
       (λ y. subst Bytes (sym s) (head-bytes a b d (replicate 64 0) (bytes-zeros 64)))
     where
@@ -167,7 +168,7 @@ module _ (l : List ℕ) (i : ℕ) (c : Head) (h : i < 8) (n : length l ≡ 823) 
   pub put-left : {l₂ : List ℕ} → c .key < 65536 → c .prec < 256 → c .writes < 256 → (c .writes ≡ 0 → ⊥) → l₂ ≡ splice l at hs → PutHead l i c l₂
   put-left a b d w e =
       let X = take 64 (drop (at + 6) l) in
-      let s : channelBytes (stored c (channelAt l at)) ≡ hs ++ X = bytes-of (kept (c .writes) (channelAt l at .writes)) ∙ (ap (λ (q : Queue). keyBytes (c .key) ++ (c .prec ∷ markOf (c .locked) ∷ markOf (c .stopped) ∷ queueBytes q)) stay ∙ ap (λ (x : List ℕ). hs ++ x) ids-there) in
+      let s : channelBytes (stored c (channelAt l at)) ≡ hs ++ X = bytes-of (kept (c .writes) (channelAt l at .writes)) ∙ (ap (λ (q : Queue). twoBytes (c .key) ++ (c .prec ∷ markOf (c .locked) ∷ markOf (c .stopped) ∷ queueBytes q)) stay ∙ ap (λ (x : List ℕ). hs ++ x) ids-there) in
       let m = splice l at hs in
       let z : length m ≡ length l = length-splice l at hs (omega (arith, n, h)) in
       let r : X ≡ take 64 (drop (at + 6) m) = ap (take 64) (sym (behind l at hs (at + 6) (omega arith) (omega (arith, n, h)))) in

@@ -4,7 +4,8 @@
 ghost use mathlib.Core.Path.{_≡_};
 ghost use Prim.Native.Nat.{_<_};
 ghost use lib.ListN.{length};
-ghost use Rattle.image.specs.Image.{markOf, stateOf};
+ghost use Rattle.machine.specs.InBytes.{markOf};
+ghost use Rattle.image.specs.Image.{stateOf};
 ghost use Rattle.lent.specs.Lent.{channelOn};
 ghost use Rattle.lent_channels.specs.Heads.{headIn, unusedHead, resetHead, precHead, flushHead, stopHead, lockHead, takenHead, PutHead};
 

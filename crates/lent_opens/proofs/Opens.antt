@@ -11,12 +11,13 @@ use lib.Seq.{drop-cons, length-take-le, take-append-seam, drop-append-seam, drop
 use Rattle.memory.specs.Splice.{splice}
 use Rattle.memory.proofs.Splice.{length-splice}
 use Rattle.machine.specs.Commands.{closed}
+use Rattle.machine.specs.InBytes.{twoBytes}
 use Rattle.queue.specs.Queue.{removeAt}
 use Rattle.open_keys.specs.declared.Keys.{Keys}
 use Rattle.open_keys.specs.OpenKeys.{pad, keysOf, keysIn, Tidy, indexOf}
 use Rattle.open_keys.proofs.Laws.{length-pad, index-closed, index-absent}
 use Rattle.board.specs.declared.Board.{Board}
-use Rattle.image.specs.Image.{keyBytes, keysBytes, openBytes, keyAt, keysFrom, openAt, queueAt, stateOf, Whole, allMarks}
+use Rattle.image.specs.Image.{keysBytes, openBytes, keyAt, keysFrom, openAt, queueAt, stateOf, Whole, allMarks}
 use Rattle.image.proofs.Laws.{whole-long}
 use Rattle.image.proofs.Round.{keys-part}
 use Rattle.lent.specs.Lent.{withOpens, Holds, PutOpens}
@@ -31,7 +32,7 @@ use Rattle.lent_queues.proofs.Moves.{shut-behind, shut-before, cut, counted, lo
 keys-append : (js ks : List ℕ) → keysBytes (js ++ ks) ≡ keysBytes js ++ keysBytes ks
 unfolding keysBytes
 keys-append [] ks = refl
-keys-append (j ∷ js) ks = ap (λ (x : List ℕ). keyBytes j ++ x) (keys-append js ks)
+keys-append (j ∷ js) ks = ap (λ (x : List ℕ). twoBytes j ++ x) (keys-append js ks)
 
 keys-long : (ks : List ℕ) → length (keysBytes ks) ≡ 2 * length ks
 unfolding keysBytes
@@ -44,7 +45,7 @@ keys-take zero ks = let e : 2 * 0 ≡ 0 = omega arith in ap (λ (x : ℕ). take 
 keys-take (suc k) [] = let e : 2 * suc k ≡ suc (suc (2 * k)) = omega arith in ap (λ (x : ℕ). take x []) e
 keys-take (suc k) (j ∷ ks) =
     let e : 2 * suc k ≡ suc (suc (2 * k)) = omega arith in
-    ap (λ (x : ℕ). take x (keyBytes j ++ keysBytes ks)) e ∙ ap (λ (x : List ℕ). keyBytes j ++ x) (keys-take k ks)
+    ap (λ (x : ℕ). take x (twoBytes j ++ keysBytes ks)) e ∙ ap (λ (x : List ℕ). twoBytes j ++ x) (keys-take k ks)
 
 keys-drop : (k : ℕ) (ks : List ℕ) → drop (2 * k) (keysBytes ks) ≡ keysBytes (drop k ks)
 unfolding keysBytes
@@ -52,13 +53,13 @@ keys-drop zero ks = let e : 2 * 0 ≡ 0 = omega arith in ap (λ (x : ℕ). drop 
 keys-drop (suc k) [] = let e : 2 * suc k ≡ suc (suc (2 * k)) = omega arith in ap (λ (x : ℕ). drop x []) e
 keys-drop (suc k) (j ∷ ks) =
     let e : 2 * suc k ≡ suc (suc (2 * k)) = omega arith in
-    ap (λ (x : ℕ). drop x (keyBytes j ++ keysBytes ks)) e ∙ keys-drop k ks
+    ap (λ (x : ℕ). drop x (twoBytes j ++ keysBytes ks)) e ∙ keys-drop k ks
 
 key-zero : (ks : List ℕ) → keysBytes (0 ∷ ks) ≡ 0 ∷ 0 ∷ keysBytes ks
 unfolding keysBytes
 key-zero ks = refl
 
-key-one : (k : ℕ) → keysBytes (k ∷ []) ≡ keyBytes k
+key-one : (k : ℕ) → keysBytes (k ∷ []) ≡ twoBytes k
 unfolding keysBytes
 key-one k = refl
 
@@ -235,14 +236,14 @@ module _ (l : List ℕ) (y : Bytes l) (size : length l ≡ 823) (t : Tidy (openA
         let e : 32 - length (xs ++ key ∷ []) ≡ 31 - length xs = simp length-append (omega arith) in
         keys-append (xs ++ key ∷ []) (replicate (32 - length (xs ++ key ∷ [])) 0)
         ∙ (ap₂ (λ (u : List ℕ) (n : ℕ). u ++ keysBytes (replicate n 0)) (keys-append xs (key ∷ []) ∙ ap (λ (u : List ℕ). B ++ u) (key-one key)) e
-        ∙ append-assoc B (keyBytes key) (keysBytes (replicate (31 - length xs) 0)))
+        ∙ append-assoc B (twoBytes key) (keysBytes (replicate (31 - length xs) 0)))
 
     zeros : Z ≡ 0 ∷ 0 ∷ keysBytes (replicate (31 - length xs) 0)
     zeros =
         let e : 32 - length xs ≡ 1 + (31 - length xs) = omega (arith, tidy-n, room) in
         ap (λ (n : ℕ). keysBytes (replicate n 0)) e ∙ (ap keysBytes (sym (replicate-append-replicate {A = ℕ} 1 (31 - length xs) 0)) ∙ key-zero (replicate (31 - length xs) 0))
 
-    pub put-added : {l₁ : List ℕ} → l₁ ≡ splice l (756 + 2 * q .n) (keyBytes key) → PutOpens l (λ k. keysOf (keysIn k ++ key ∷ [])) (set l₁ 755 (q .n + 1))
+    pub put-added : {l₁ : List ℕ} → l₁ ≡ splice l (756 + 2 * q .n) (twoBytes key) → PutOpens l (λ k. keysOf (keysIn k ++ key ∷ [])) (set l₁ 755 (q .n + 1))
     put-added {l₁} e =
         let R = keysBytes (replicate (31 - length xs) 0) in
         let A = L l 755 fits in
@@ -255,7 +256,7 @@ module _ (l : List ℕ) (y : Bytes l) (size : length l ≡ 823) (t : Tidy (openA
         let c : l ≡ (A ++ B) ++ 0 ∷ 0 ∷ (R ++ E) =
         cut l 755 fits ∙ (ap (λ (x : List ℕ). A ++ (x ++ E)) (window ∙ ap (λ (x : List ℕ). B ++ x) zeros) ∙ (simp append-assoc)) in
         let s : l₁ ≡ A ++ (J ++ E) =
-        e ∙ (ap (λ (x : List ℕ). splice x (756 + 2 * q .n) (keyBytes key)) c
+        e ∙ (ap (λ (x : List ℕ). splice x (756 + 2 * q .n) (twoBytes key)) c
         ∙ (splice-at (A ++ B) 0 0 (R ++ E) (key / 256) (key % 256) (756 + 2 * q .n) p
         ∙ (let g : (A ++ B) ++ key / 256 ∷ key % 256 ∷ (R ++ E) ≡ A ++ ((B ++ (key / 256 ∷ key % 256 ∷ R)) ++ E) = simp append-assoc in g ∙ ap (λ (x : List ℕ). A ++ (x ++ E)) (sym added)))) in
         let few : length (xs ++ key ∷ []) ≤ 32 = omega (arith, n, room) in

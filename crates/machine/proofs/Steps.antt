@@ -18,7 +18,7 @@ use Rattle.machine.specs.Commands.{periodIn, volumeIn}
 use Rattle.machine.specs.Sound.{sound, ids}
 use Rattle.machine.specs.Kinds.{Kind, kind, unknown, allocates, carries}
 use Rattle.machine.specs.Refusals.{Refusal, accepted, refused, first, badList, badMaps, badMap, badNumbers, refusal}
-use Rattle.machine.specs.Steps.{Placed, Mapped, Reads, Carried, Carries, Passes, steps, order, FailsFirst}
+use Rattle.machine.specs.Steps.{Placed, Mapped, Reads, Carried, Carries, Passes, steps, order, FailsFirst, NoneOf}
 use Rattle.machine.specs.Bytes.{listed}
 use Rattle.machine.proofs.Known.{unknown-unless-listed, allocates-alone, carries-two}
 use Rattle.machine.proofs.Tests.{and-left, and-right, and-both}
@@ -49,11 +49,6 @@ first-among (t ∷ ts) e q = go (t .0) (first-among ts e) q
         let same : t .1 ≡ e = cc in
         or-one (eqb e (t .1)) (among e (numbers ts)) (subst (λ (x : ℕ). T (eqb e x)) (sym same) (eqb-refl e))
     go false ih f = or-other (eqb e (t .1)) (among e (numbers ts)) (ih f)
-
--- a list of tests none of which is met
-abbrev pub NoneOf : List (Bool × ℕ) → Type 0
-NoneOf [] = Unit {0}
-NoneOf (t ∷ ts) = T (not (t .0)) × NoneOf ts
 
 pub first-none : (ts : List (Bool × ℕ)) → first ts ≡ accepted → NoneOf ts
 unfolding first

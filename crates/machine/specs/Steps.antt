@@ -8,13 +8,14 @@
 --   steps o         the numbers with which the operation may be refused, in their order
 --   order o c s     the same, each with what it asks of the call
 --   FailsFirst ts e the first of such steps that is not met has the number e
+--   NoneOf ts       no test of a list is met
 --   Passes o c s    what an accepted call meets, without a walk over tests
 --   Listed, Placed, Mapped c s   at most 16 combinations, each on the board; each so; the map so
 --   Reads n c s     what a command reads besides: ALLOCATE its combinations, any other its map
 --   Carried c       a cycle count, period and volume of length 0 or 6, in range; Carries n c: where the command carries them
 use Prim.Native.Nat.{ℕ, _^_, _≤_, _<_}
 use mathlib.Core.Path.{_≡_}
-use mathlib.Core.Bool.{not}
+use mathlib.Core.Bool.{Bool, not}
 use mathlib.Core.Logic.{_⊎_}
 use mathlib.Core.List.{List, [], _∷_}
 use lib.Dec.{T, ltb}
@@ -96,3 +97,8 @@ order (COMMAND n) c s =
 unfoldable pub FailsFirst : List (Type 0 × ℕ) → ℕ → Type 0
 FailsFirst [] e = ⊥
 FailsFirst (t ∷ ts) e = ((t .1 ≡ e) × (t .0 → ⊥)) ⊎ (t .0 × FailsFirst ts e)
+
+-- a list of tests, each with its number, none of which is met
+abbrev pub NoneOf : List (Bool × ℕ) → Type 0
+NoneOf [] = Unit {0}
+NoneOf (t ∷ ts) = T (not (t .0)) × NoneOf ts

@@ -13,7 +13,7 @@ use Rattle.machine.specs.State.{Channel, Call, Op, OPEN, CLOSE, ABORT, EVENT, C
 use Rattle.machine.specs.Commands.{done, silent}
 use Rattle.machine.specs.Log.{Fed, opened, lines, digit, joined, unhex, opOf, callOf, frame, hexDigit, line, replyLine, answerLine, replyLines, told, outcomeOf, feed, run, log}
 use Rattle.machine.specs.Sound.{ids, writesOf}
-use Rattle.machine_laws.proofs.Replies.{heard}
+use Rattle.machine_laws.specs.Replies.{heard}
 use Rattle.machine.proofs.Tests.{and-left, and-right}
 use Rattle.old_logs.specs.Old
 use Rattle.old_logs.specs.Now.{nowChannel, now, nowOp, nowCall, nowReply, nowOutcome, nowFed}

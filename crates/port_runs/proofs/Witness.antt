@@ -14,7 +14,8 @@ use Rattle.machine.specs.State.{State}
 use Rattle.machine.specs.Log.{lines}
 use Rattle.machine.specs.Machine.{machine}
 use Rattle.machine.specs.Text.{bytes, page}
-use Rattle.machine_laws.proofs.Sound.{Parts, parts}
+use Rattle.machine_laws.specs.Sound.{Parts}
+use Rattle.machine_laws.proofs.Sound.{parts}
 use Rattle.display.specs.Display.{blank}
 use Rattle.store.specs.Store.{tableOf}
 use Rattle.board.specs.Board.{structOf, Held}

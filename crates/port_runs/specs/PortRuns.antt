@@ -16,14 +16,13 @@ use mathlib.Core.Path.{_≡_}
 use mathlib.Core.List.{List}
 use Rattle.machine.specs.State.{State}
 use Rattle.machine.specs.Log.{lines}
-use Rattle.machine_laws.proofs.Lists.{Sub}
+use Rattle.machine_laws.specs.Lists.{Sub}
 use Rattle.port.specs.Port.{startedIn}
 use Rattle.hearing.specs.Hearing.{Kept, heldIn}
 use Rattle.whole_log.specs.Whole.{joined}
 use Rattle.slow_line.specs.Slow.{Ran}
 use Rattle.two_runs.specs.TwoRuns.{Party, Start, Keeps, own, view, waitersOf}
-use Rattle.two_runs.specs.Logs.{Line, output, reads, steps, texts}
-use Rattle.two_runs.proofs.Logs.{joinedLines}
+use Rattle.two_runs.specs.Logs.{Line, output, reads, steps, texts, joinedLines}
 
 pub record Fed (st tb : List ℕ) (xs : List Line) (out st₂ tb₂ : List ℕ) : Type 0 where
   pub port : List ℕ

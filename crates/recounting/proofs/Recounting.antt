@@ -11,9 +11,11 @@ use Rattle.memory.proofs.Splice.{splice-all}
 use Rattle.machine.specs.State.{State, frees, freshOn}
 use Rattle.machine.specs.Machine.{machine}
 use Rattle.machine.specs.Lists.{keep}
-use Rattle.machine_laws.proofs.Sound.{Parts, parts}
+use Rattle.machine.specs.InBytes.{twoBytes}
+use Rattle.machine_laws.specs.Sound.{Parts}
+use Rattle.machine_laws.proofs.Sound.{parts}
 use Rattle.widening.specs.Widening.{widen}
-use Rattle.display.specs.Display.{NUMBERS, number, numbersFrom, numbers, corrected, looksBytes}
+use Rattle.display.specs.Display.{NUMBERS, number, numbersFrom, numbers, corrected}
 use Rattle.display.proofs.Numbers.{number-most, corrected-agrees, fresh-numbers}
 use Rattle.display.proofs.Wide.{number-wide}
 use Rattle.lanes.specs.Lanes.{wordOf, weights}
@@ -74,12 +76,12 @@ module _ {b : Board} {tb : List ℕ} (h : Held b tb) where
       ap₂ (λ x y. corrected x (wideIn (b .state) tb) 0 y) fresh-in (sym (fresh-numbers 8)) ∙ (a ∙ n)
 
   pub recounted : (z : List ℕ) → length z ≡ 18 → {st : Struct} → st ≡ structOf (freshOn 8) → {j : ℕ} → j ≡ weights (wideIn (b .state) tb .waiting)
-      → moved (countAt (map (λ c. c .writes .n) (b .state .channels)) j) (countAt (map (λ c. c .writes .n) (st .channels)) 0) 0 (take 16 (splice z 0 (replicate 18 0))) ++ looksBytes 0
+      → moved (countAt (map (λ c. c .writes .n) (b .state .channels)) j) (countAt (map (λ c. c .writes .n) (st .channels)) 0) 0 (take 16 (splice z 0 (replicate 18 0))) ++ twoBytes 0
       ≡ counted (stateIn b tb)
   recounted z l {st} q {j} e =
       let m = all-joined (held-wide h .0) e in
       let f : take 16 (splice z 0 (replicate 18 0)) ≡ replicate 16 0 = ap (take 16) (splice-all z (replicate 18 0) (sym l)) in
-      ap (λ x. x ++ looksBytes 0)
+      ap (λ x. x ++ twoBytes 0)
       (ap₂ (λ (x : Struct) (y : List ℕ). moved (countAt (map (λ c. c .writes .n) (b .state .channels)) j) (countAt (map (λ c. c .writes .n) (x .channels)) 0) 0 y) q f
       ∙ (moved-corrected m 0 (replicate 16 0) (omega arith) ∙ corrected-counted))
 

@@ -17,7 +17,8 @@ use Rattle.machine.specs.Call.{call, inRange}
 use Rattle.machine.specs.Log.{digit, joined, unhex, callOf, frame, outcomeOf, feed}
 use Rattle.machine.proofs.Tests.{if-elim, and-both, and-left, and-right}
 use Rattle.machine_laws.proofs.Sound.{parts}
-use Rattle.machine_laws.proofs.KeepingCalls.{Counted, bytes-count, call-sound}
+use Rattle.machine_laws.specs.Keeping.{Counted}
+use Rattle.machine_laws.proofs.KeepingCalls.{bytes-count, call-sound}
 use Rattle.machine_laws.proofs.Board.{call-wide}
 use Rattle.board.specs.declared.Board.{Board}
 use Rattle.store.specs.Store.{tableOf}

@@ -25,6 +25,7 @@
 --   Taken                  what a call leaves beside the lent bytes: the state, how much stands of a line that has not ended, how much of
 --                          the fragment is used, and how much output stands; takenIn st t: of a call that leaves the state in bytes
 --   Leaves t l tb dp p d   what a call leaves, beside the lent bytes, is the desk d: every field and every byte
+--   Same t t₂ l l₂ ..      the same is left, and the same bytes
 --   Takes, Ends            what `take` and `take_end` promise: on an empty page, and nothing shown
 use Prim.Native.Nat.{ℕ, zero, suc, _+_}
 use mathlib.Core.Path.{_≡_}
@@ -158,3 +159,11 @@ pub record Takes (s : Board) (tb dp l : List ℕ) (n : ℕ) (bs out : List ℕ) 
 
 pub record Ends (s : Board) (tb dp l : List ℕ) (n : ℕ) (out : List ℕ) (t : Taken) (tb′ dp′ out′ : List ℕ) : Type 0 where
   pub leaves : Leaves t l tb′ dp′ out′ (closed hidden (deskOf s tb dp l n out 0))
+
+-- no second outcome fits the promise: `one-taking` of proofs/Laws.antt
+pub record Same (t t₂ : Taken) (l l₂ tb tb₂ dp dp₂ p p₂ : List ℕ) : Type 0 where
+  pub taken : t ≡ t₂
+  pub line : l ≡ l₂
+  pub table : tb ≡ tb₂
+  pub display : dp ≡ dp₂
+  pub page : p ≡ p₂

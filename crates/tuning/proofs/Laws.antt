@@ -19,7 +19,7 @@ use Rattle.machine.specs.Commands.{matching, playing, inProgress, setWrites, on
 use Rattle.machine.specs.Sound.{writesOf}
 use Rattle.machine.proofs.Tests.{if-elim}
 use Rattle.machine_laws.proofs.Maps.{odd-bit, half-bit}
-use Rattle.machine_laws.proofs.Sound.{Parts}
+use Rattle.machine_laws.specs.Sound.{Parts}
 use Rattle.channel.specs.declared.Channel.{Channel}
 use Rattle.channel.specs.Channel.{channelOf, mapWhere, matchingEach}
 use Rattle.fronts.specs.declared.Front.the-variants.{Plays}

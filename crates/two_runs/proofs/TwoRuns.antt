@@ -31,13 +31,15 @@ use Rattle.machine.proofs.Tests.{and-both, and-left, and-right, by-test, if-eli
 use Rattle.machine_laws.proofs.Maps.{half-bit, odd-bit}
 use Rattle.machine_laws.proofs.Sound.{parts}
 use Rattle.machine_laws.proofs.Rooms.{room-unread}
-use Rattle.machine_laws.proofs.KeepingCalls.{Counted, call-sound}
+use Rattle.machine_laws.specs.Keeping.{Counted}
+use Rattle.machine_laws.proofs.KeepingCalls.{call-sound}
 use Rattle.two_runs.specs.TwoRuns.{ByK, ByOthers, Demand3, Keeps, Party, Run, Start, Step, maySend, ofK, calls, counted, filled}
 use Rattle.two_runs.specs.TwoRuns.{inBytes, lends, noted, onK, our, own, mask, ownReplies, reached, said, seen, their, view}
 use Rattle.two_runs.specs.TwoRuns.{waitersOf}
 use Rattle.two_runs.proofs.Part.{Ready, fittingLock, ours-of, ownLocks, ownReplies-twice, project, projectOut, theirs-of, view-part}
 use Rattle.two_runs.proofs.Part.{waiters-part}
-use Rattle.two_runs.proofs.Settle.{Loop, lockFits, ownLock}
+use Rattle.two_runs.specs.Settle.{lockFits, ownLock}
+use Rattle.two_runs.proofs.Settle.{Loop}
 use Rattle.two_runs.proofs.TheirsEach.{Mild}
 use Rattle.two_runs.proofs.TheirsCall.{theirs-mild}
 use Rattle.two_runs.proofs.OursSound.{project-sound}

@@ -11,7 +11,7 @@ use Rattle.board.specs.declared.Board.{Board}
 use Rattle.answers.specs.declared.Answer.{Answer}
 use Rattle.answers.specs.Answers.{answerOf, answerIn}
 use Rattle.frames.specs.declared.Frame.{Frame}
-use Rattle.frames.proofs.Laws.{Asked}
+use Rattle.frames.specs.Frames.{Asked}
 use Rattle.lines.specs.Lines.{Tells}
 use Rattle.lines.proofs.Laws.{lines-alone, tells-as}
 use Rattle.unheard.specs.Unheard.{Fed, Dull, unheard, Unheard}

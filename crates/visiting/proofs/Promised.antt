@@ -29,7 +29,7 @@ use Rattle.choosing.specs.declared.Look.{Look as LookC}
 use Rattle.choosing.specs.declared.Look.the-variants.{Fails}
 use Rattle.choosing.specs.Choosing.{lookIn}
 use Rattle.choosing.proofs.Laws.{lookIn-of}
-use Rattle.visiting.specs.Visiting.{onward, afterLook, repliesTo, nextPlace, isGrant, Looked, Visits, Turned, toLook}
+use Rattle.visiting.specs.Visiting.{onward, afterLook, repliesTo, nextPlace, isGrant, Looked, Visits, Turned, toLook, SameTurn}
 use Rattle.visiting.specs.declared.Turn.{Turn}
 use Rattle.waiting.proofs.Waiting.{waiter-in}
 use Rattle.one_request.proofs.Without.{out-sound}
@@ -238,11 +238,6 @@ module _ {st : State} {tb l : List ℕ} {n i : ℕ} (q : Looked st tb l n i fail
       }
 
 -- ---- no second turn fits
-
-pub record SameTurn (r r₂ : Turn) (tb tb₂ l l₂ : List ℕ) : Type 0 where
-  pub turn : r ≡ r₂
-  pub table : tb ≡ tb₂
-  pub list : l ≡ l₂
 
 pub one-turn : {st : State} {tb l : List ℕ} {n i : ℕ} {r r₂ : Turn} {tb₁ tb₂ l₁ l₂ : List ℕ} → Turned st tb l n i r tb₁ l₁ → Turned st tb l n i r₂ tb₂ l₂
     → SameTurn r r₂ tb₁ tb₂ l₁ l₂

@@ -4,6 +4,7 @@
 --   onward i s    what settling comes to from place i on, those before it looked at and staying
 --   toLook i s    how many looks it then still takes
 --   Same ..       what was to come, before and after a step: the same state and the same replies in the list
+--   SameTurn ..   the same turn, table and list
 --   Looked ..     what a turn asks once it has looked
 --   Visits ..     the same of a look at which the walk stopped
 --   afterLook k i s, repliesTo k i s   the state that a look k at place i leaves, and what is replied: dropped, held or granted
@@ -18,9 +19,8 @@ use lib.ListN.{length, take, drop}
 use Rattle.machine.specs.State.{Reply, State}
 use Rattle.machine.specs.Choosing.{Look, fails, held, grants}
 use Rattle.machine.specs.Settling.{Settled, settle}
-use Rattle.machine_laws.proofs.Looking.{resume}
-use Rattle.display.specs.Looks.{looks as looksM}
-use Rattle.display.proofs.Looking.{further}
+use Rattle.machine_laws.specs.Looking.{resume}
+use Rattle.display.specs.Looks.{looks as looksM, further}
 use Rattle.lanes.specs.Lanes.{weights}
 use Rattle.reply.specs.Replies.{sent}
 use Rattle.choosing.specs.declared.Look.{Look as LookC}
@@ -101,3 +101,9 @@ pub record Visits (st : Struct) (tb l : List ℕ) (n i : ℕ) (k : LookC) : Type
   pub inside : i < st .waiting .n
   pub seen : k ≡ lookOf (lookAt i (stateIn st tb))
   pub stops : comes (lookAt i (stateIn st tb)) (waiter i (stateIn st tb) .impatient) ≡ true
+
+-- no second outcome fits the promise of a turn: `one-turn` of proofs/Promised.antt
+pub record SameTurn (r r₂ : Turn) (tb tb₂ l l₂ : List ℕ) : Type 0 where
+  pub turn : r ≡ r₂
+  pub table : tb ≡ tb₂
+  pub list : l ≡ l₂

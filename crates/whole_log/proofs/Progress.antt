@@ -22,7 +22,8 @@ use Rattle.memory.proofs.Splice.{length-splice}
 use Rattle.channel.specs.Channel.{channelOf}
 use Rattle.board.specs.declared.Board.{Board}
 use Rattle.board.specs.Board.{structOf, stateIn, Held}
-use Rattle.machine_laws.proofs.Sound.{Parts, parts, ids-few}
+use Rattle.machine_laws.specs.Sound.{Parts}
+use Rattle.machine_laws.proofs.Sound.{parts, ids-few}
 use Rattle.board.proofs.Laws.{struct-eight}
 use Rattle.channel_lines.specs.ChannelLines.{boardLines}
 use Rattle.channel_lines.proofs.ChannelLines.{board-few}

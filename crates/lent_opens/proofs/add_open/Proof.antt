@@ -4,8 +4,9 @@ use native.Mathlib.Omega.{arith}
 use Prim.Native.Nat.{ℕ, _+_, _*_}
 use mathlib.Core.List.{List}
 use lib.ListN.{getD, set}
+use Rattle.machine.specs.InBytes.{twoBytes}
 use Rattle.memory.specs.Splice.{splice}
-use Rattle.image.specs.Image.{keyBytes, stateOf, openAt}
+use Rattle.image.specs.Image.{stateOf, openAt}
 use Rattle.lent_opens.proofs.Opens.{put-added}
 use borrow.Author.Needs.{needs}
 use Rattle.lent_opens.proofs.add_open.Statement.{statement}
@@ -45,7 +46,7 @@ returns c =
     put-added l (λ i. c .before .before .before .before .before .before .slice-known .given i .fits) (s .pre .0) (s .pre .1)
     (s .args .key) (s .pre .2) (s .fits .key .fits)
     (c .before .before .put-key .ensures
-    ∙ ap (λ (x : ℕ). splice l (756 + 2 * x) (keyBytes (s .args .key))) (c .before .before .before .wide .ensures))
+    ∙ ap (λ (x : ℕ). splice l (756 + 2 * x) (twoBytes (s .args .key))) (c .before .before .before .wide .ensures))
 
 same-length : tie.Need-same-length
 same-length c = returns c .long

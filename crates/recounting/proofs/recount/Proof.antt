@@ -3,7 +3,7 @@ use Prim.Native.Nat.{ℕ}
 use mathlib.Core.Path.{ap, _∙_}
 use mathlib.Core.List.{List, _++_, map}
 use lib.ListN.{take}
-use Rattle.display.specs.Display.{looksBytes}
+use Rattle.machine.specs.InBytes.{twoBytes}
 use Rattle.waiting.proofs.Finding.{readable}
 use Rattle.channel_numbers.specs.ChannelNumbers.{countAt, moved}
 use Rattle.board.proofs.Laws.{held-wide}
@@ -41,7 +41,7 @@ returns c =
     let st = start .args .b .state in
     c .before .before .show .ensures
     ∙ (ap (λ (x : List ℕ). moved (countAt (map (λ c. c .writes .n) (st .channels)) (w .words-of .result))
-    (countAt (map (λ c. c .writes .n) (f .fresh .result .channels)) 0) 0 (take 16 x) ++ looksBytes 0)
+    (countAt (map (λ c. c .writes .n) (f .fresh .result .channels)) 0) 0 (take 16 x) ++ twoBytes 0)
     (c .before .before .before .before .before .before .clear .ensures)
     ∙ recounted (start .pre .0) (start .args .display .now) (start .pre .1) (f .fresh .ensures) (w .words-of .ensures))
 
