@@ -99,6 +99,11 @@ module _ {s : Board} {tb : List ℕ} (h : Held s tb) where
   few-waiting : length (stateIn s tb .waiting) ≤ 64
   few-waiting = let a = ids-few (stateIn s tb) (held-parts h) in omega arith
 
+pub spelt-long : {w : ℕ} {dp : List ℕ} {ws : List Waiter} {lent b : List ℕ} {j : ℕ} → ShowsDisplay w dp ws lent j b → length lent ≡ 743
+    → length b ≡ 743
+spelt-long {w} {dp} {ws} {lent} q f =
+    let a = q .few in let c = q .count in ap length (q .bytes) ∙ (length-splice lent 0 (displayOf w dp ws) (omega arith) ∙ f)
+
 -- a sound state's list of structs, in an array of 64
 module _ {st tb : List ℕ} (sound : SoundBytes st tb) {ws : List Waiter} (room : 64 ≤ length ws) {e n : ℕ} {ws′ : List Waiter}
     (q : Tells st tb ws e n ws′) where
@@ -119,12 +124,6 @@ module _ {st tb : List ℕ} (sound : SoundBytes st tb) {ws : List Waiter} (room 
     spelt-lines =
         let σ = stateIn (stateOf st) tb in
         ap₂ (λ (k : ℕ) (x : List Waiter). displayOf k dp x) (held-width (sound .1)) front ∙ display-lines σ dp
-
-    pub spelt-long : length lent ≡ 743 → length b ≡ 743
-    spelt-long f =
-        let a = w .few in
-        let c = w .count in
-        ap length (w .bytes) ∙ (length-splice lent 0 (displayOf (stateOf st .width) dp (take n ws′)) (omega arith) ∙ f)
 
     pub display-shown : {show : Bool} {page page′ : List ℕ} {at : ℕ} → show ≡ true → page′ ≡ splice page at (take j b)
         → Adds page at (if show then displayLines (stateIn (stateOf st) tb) dp else []) (at + j) page′

@@ -1,4 +1,5 @@
 -- `put_display` meets its contract: the display's lines are copied from memory of their own. Assumes nothing.
+use Prim.Native.Nat.{_+_, _≤_}
 use mathlib.Core.Path.{_≡_, refl, sym}
 use native.Mathlib.Omega.{arith}
 use borrow.Author.Tests.{not-true, not-false}
@@ -31,56 +32,45 @@ spell-requires c κs =
     let told = c .before .before .before in
     let board = told .before in
     let start = board .before .before .before .before .before in
-    rw (board .width .ensures) (wide-eight (start .pre .1), listed-few (start .pre .0, start .pre .1) (lit≤ tt) (told .in-array .ensures))
+    let few = listed-few (start .pre .0, start .pre .1) (lit≤ tt) (told .in-array .ensures) in
+    (rw (board .width .ensures) (wide-eight (start .pre .1)), omega arith)
 
 array-share-prefix-text : tie.Need-array-share-prefix-text
 array-share-prefix-text c =
-    let shown = c .before in
-    let told = shown .before .before .before .before in
-    let board = told .before in
-    let start = board .before .before .before .before .before in
-    let v = rw (board .width .ensures) at (shown .spell .ensures) in
-    let few = shown .spell .ensures .few in
-    let n : length (shown .spell .last .1 .1 .1 .1 .0) ≡ 743 =
-    spelt-long (start .pre .0, start .pre .1) (lit≤ tt) (told .in-array .ensures) v refl in
-    omega arith
+    let v = c .before .spell .ensures in
+    let n : length (c .before .spell .last .1 .1 .1 .1 .0) ≡ 743 = spelt-long v refl in
+    few-within (v .few) n
 
 slice-aggregate-copy : tie.Need-slice-aggregate-copy
 slice-aggregate-copy c =
-    let shown = c .before .before in
-    let told = shown .before .before .before .before in
-    let board = told .before in
+    let v = c .before .before .spell .ensures in
+    let n : length (c .before .before .spell .last .1 .1 .1 .1 .0) ≡ 743 = spelt-long v refl in
+    sym (length-take-le _ _ (few-within (v .few) n))
+
+-- where the display is shown, its lines have room
+page-room : (c : tie.After-text) → c .before .before .before .before .before .before .before .before .before .args .at + 743
+    ≤ length (c .before .before .before .before .before .before .before .before .before .args .page .now)
+page-room c =
+    let board = c .before .before .before .before in
     let start = board .before .before .before .before .before in
-    let v = rw (board .width .ensures) at (shown .spell .ensures) in
-    let few = shown .spell .ensures .few in
-    let n : length (shown .spell .last .1 .1 .1 .1 .0) ≡ 743 =
-    spelt-long (start .pre .0, start .pre .1) (lit≤ tt) (told .in-array .ensures) v refl in
-    sym (length-take-le _ _ (few-within few n))
+    shown-room 743 _ (not-false (start .args .show) (board .before .if1 .left)) (start .pre .2)
 
 copy-requires : tie.Need-copy-requires
 copy-requires c κs =
     let shown = c .before .before in
-    let told = shown .before .before .before .before in
-    let board = told .before in
-    let start = board .before .before .before .before .before in
-    let v = rw (board .width .ensures) at (shown .spell .ensures) in
-    let few = shown .spell .ensures .few in
-    let n : length (shown .spell .last .1 .1 .1 .1 .0) ≡ 743 =
-    spelt-long (start .pre .0, start .pre .1) (lit≤ tt) (told .in-array .ensures) v refl in
-    let r = shown-room 743 _ (not-false (start .args .show) (board .before .if1 .left)) (start .pre .2) in
+    let v = shown .spell .ensures in
+    let few = v .few in
+    let n : length (shown .spell .last .1 .1 .1 .1 .0) ≡ 743 = spelt-long v refl in
+    let r = page-room (shown .before) in
     rw (length-take-le _ _ (few-within few n)) (omega arith)
 
 add-result : tie.Need-add-result
 add-result c =
     let shown = c .before .before .before .before .before in
-    let told = shown .before .before .before .before in
-    let board = told .before in
+    let board = shown .before .before .before .before .before in
     let start = board .before .before .before .before .before in
-    let v = rw (board .width .ensures) at (shown .spell .ensures) in
     let few = shown .spell .ensures .few in
-    let n : length (shown .spell .last .1 .1 .1 .1 .0) ≡ 743 =
-    spelt-long (start .pre .0, start .pre .1) (lit≤ tt) (told .in-array .ensures) v refl in
-    let r = shown-room 743 _ (not-false (start .args .show) (board .before .if1 .left)) (start .pre .2) in
+    let r = page-room (shown .before) in
     search needs
 
 same-length : tie.Need-same-length
