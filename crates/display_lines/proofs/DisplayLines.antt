@@ -68,14 +68,14 @@ recordLines-more ws i d h =
     ap recordLines (take-suc ws i d h) ∙ recordLines-append (take i ws) (getD ws i d ∷ [])
     ∙ ap (λ l. recordLines (take i ws) ++ l) (append-nil (line (0xE1 ∷ fourOf (getD ws i d))))
 
-pub record-turn : (out : List ℕ) (at : ℕ) (ws : List Waiter) (i : ℕ) (d : Waiter) → i < length ws → at + i * 11 ≤ length out
-    → splice (splice out at (recordLines (take i ws))) (at + i * 11) (line (0xE1 ∷ fourOf (getD ws i d)))
+pub record-turn : (out : List ℕ) (at : ℕ) (ws : List Waiter) (i k : ℕ) (d : Waiter) → i < length ws → at + i * 11 ≤ length out
+    → k ≡ at + i * 11 → splice (splice out at (recordLines (take i ws))) k (line (0xE1 ∷ fourOf (getD ws i d)))
     ≡ splice out at (recordLines (take (i + 1) ws))
-record-turn out at ws i d h g =
+record-turn out at ws i k d h g p =
     let a = length-take-le i ws (omega arith) in
     let e = length-recordLines (take i ws) in
     rw (add-one i, recordLines-more ws i d h)
-    (splice-then out at (recordLines (take i ws)) (line (0xE1 ∷ fourOf (getD ws i d))) (at + i * 11) (omega arith) (omega arith))
+    (splice-then out at (recordLines (take i ws)) (line (0xE1 ∷ fourOf (getD ws i d))) k (omega arith) (omega arith))
 
 -- ---- both
 

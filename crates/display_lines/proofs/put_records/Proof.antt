@@ -61,7 +61,7 @@ loop-again c =
       v .3,
       omega (arith, v .4),
       rw (p .put-waiter .ensures, v .5)
-          (record-turn (a .out .now) (a .at) (a .t3) (l .i) _ (omega (arith, v .1, v .2)) (omega (arith, v .3))),
+          (record-turn (a .out .now) (a .at) (a .t3) (l .i) _ _ (omega (arith, v .1, v .2)) (omega (arith, v .3)) (omega arith)),
     )
 
 same-length : tie.Need-same-length Inv-loop μ-loop
