@@ -1,5 +1,6 @@
 // The wall display as lines of upper-case hexadecimal, each ended by LF: the numbers, then who waits, from a list of structs.
 // A line is written at its place and nowhere else. Assumes nothing.
+use record_structs::ROOM;
 use record_structs::Waiter;
 ghost use mathlib.Core.Path.{_≡_};
 ghost use mathlib.Core.List.{_∷_};
@@ -51,7 +52,7 @@ fn put_waiter(out: &mut [u8], at: usize, w: Waiter)
 }
 
 // The lines of the first n structs.
-fn put_records(out: &mut [u8], at: usize, list: [Waiter; 64], n: usize)
+fn put_records(out: &mut [u8], at: usize, list: [Waiter; ROOM], n: usize)
     requires { ⌜ (n ≤ 64) × (at + n * 11 ≤ length (now out)) ⌝ }
     ensures { λ _. ⌜ now (out .exit) ≡ splice (now (out .entry)) at (recordLines (take n list)) ⌝ }
 {
@@ -66,7 +67,7 @@ fn put_records(out: &mut [u8], at: usize, list: [Waiter; 64], n: usize)
 pub fn spell(
     width: u8,
     display: &[u8; audio::DISPLAY_SIZE],
-    list: [Waiter; 64],
+    list: [Waiter; ROOM],
     n: usize,
     out: &mut [u8; 743],
 ) -> usize

@@ -1,4 +1,5 @@
 // A line's output put on a lent page, behind what stands there, then what is shown of the board. Assumes nothing.
+use record_structs::ROOM;
 use record_structs::Waiter;
 use taking::Left;
 use taking::Show;
@@ -55,7 +56,7 @@ fn put_display(
         held: false,
         desk: 0,
     };
-    let w = record_structs::in_array(state, table, [none; 64]);
+    let w = record_structs::in_array(state, table, [none; ROOM]);
     let listed = w.listed;
     let list = w.list;
     let mut text = [0u8; 743];

@@ -1,10 +1,14 @@
 // The list of who waits as structs, of the bytes of a state and a table, in a slice that the caller lends. `waiting` asks nothing:
 // whatever is lent, the answer and every struct are determined (specs/RecordStructs.antt). The byte records are filled first, and
 // `waiting`, proved by hand, makes structs of them. Assumes nothing.
+use store::State;
 use waiting_list::Listed;
 ghost use Prim.Native.Nat.{_<_};
 ghost use mathlib.Core.Path.{_≡_};
 ghost use Rattle.record_structs.specs.RecordStructs.{waiterAt, Takes, Filled, Tells};
+
+// Room for every request: a list that is shorter is refused.
+pub const ROOM: usize = State::REQUESTS as usize;
 
 // A waiting request: its id, its precedence (two's complement), whether it is held, its desk.
 pub struct Waiter {
@@ -24,7 +28,7 @@ struct Told {
 fn bytes_for(room: usize) -> usize
     ensures { λ r. ⌜ Takes room r ⌝ }
 {
-    if room < 64 { 0 } else { audio::RECORDS_SIZE }
+    if room < ROOM { 0 } else { audio::RECORDS_SIZE }
 }
 
 // The byte records of who waits, for a list that has room for so many structs.
@@ -70,17 +74,17 @@ pub fn waiting(state: &[u8], table: &[u8], list: &mut [Waiter]) -> Listed
 // A list by value, and what `waiting` answered of it.
 pub struct Waiters {
     pub listed: Listed,
-    pub list: [Waiter; 64],
+    pub list: [Waiter; ROOM],
 }
 
-fn together(listed: Listed, list: [Waiter; 64]) -> Waiters
+fn together(listed: Listed, list: [Waiter; ROOM]) -> Waiters
     ensures { λ r. ⌜ (r .listed ≡ listed) × (r .list ≡ list) ⌝ }
 {
     Waiters { listed, list }
 }
 
 // `waiting`, of a list that comes and goes by value and is lent in between.
-pub fn in_array(state: &[u8], table: &[u8], mut list: [Waiter; 64]) -> Waiters
+pub fn in_array(state: &[u8], table: &[u8], mut list: [Waiter; ROOM]) -> Waiters
     ensures { λ r. ⌜ Tells (now (state .entry)) (now (table .entry)) list (r .listed .error) (r .listed .count) (r .list) ⌝ }
 {
     let listed = waiting(state, table, &mut list);
