@@ -15,37 +15,11 @@
 what="the desk's header"
 programs='generate'
 usual=46
-styles='mix locks nowait queues full aborts precedences refusals malformed lists bytes ties opens cuts cycles desks display'
-styles="$styles many-locks many-steals many-entries many-waiting"
 lines=200
 tries=4
 parts='tests/desk second/chance second/log second/arbiter'
 
-log() {
-    number=$1
-    set -- $styles
-    # At each round the boards change places.
-    board=$((4 + (number % $# + number / $#) % 2 * 4))
-    shift $((number % $#))
-    chance=$((seed * 100000 + number))
-    made="generate $chance $lines $1 $board"
-    second/$made >"$work/log" || die "second/$made fails"
-}
-
 # ---- In C++
-
-# find_cxx: a C++ compiler for x86-64, as linker_ready finds one for C.
-find_cxx() {
-    if [ "$(uname -m)" = x86_64 ]; then
-        set -- ${CXX:-} g++ c++ clang++
-    else
-        set -- "${CXX_X86_64:-x86_64-linux-gnu-g++} -static"
-    fi
-    for cxx; do
-        echo 'int main() { return 0; }' | $cxx -std=c++11 -x c++ -o "$work/try" - >/dev/null 2>&1 && return
-    done
-    return 1
-}
 
 in_cxx() {
     $cxx -std=c++11 -O2 -Wall -Wextra -pedantic -Werror -Iinclude -o "$work/in-c++" -x c++ tests/desk.c \

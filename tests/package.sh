@@ -143,20 +143,6 @@ made_cxx() {
         (cd "$away" && $cxx -std=c++11 -O2 -Wall -Wextra -pedantic -Werror -o in-c++ program.cc $words) && gives in-c++
 }
 
-# find_cxx: a C++ compiler for x86-64, as linker_ready finds one for C.
-find_cxx() {
-    if [ "$(uname -m)" = x86_64 ]; then
-        set -- ${CXX:-} g++ c++ clang++
-    else
-        set -- "${CXX_X86_64:-x86_64-linux-gnu-g++} -static"
-    fi
-    for cxx; do
-        echo 'int main() { return 0; }' | $cxx -std=c++11 -x c++ -o "$work/try" - >/dev/null 2>&1 && return
-    done
-    cxx=
-    return 1
-}
-
 cxx_ready() {
     find_cxx && return
     if [ "$(uname -m)" = x86_64 ]; then
