@@ -1,7 +1,9 @@
 /* The library's call beside the second program's, in one process: calls NAME REPETITIONS CHANNELS <LOG. The log's frames are
    read first, and both play them once, to be compared. Then each plays them from a fresh device, in turns, and writes a line
    'NAME REPETITION library|second SECONDS SECONDS 0 CALLS', with the seconds of the processor; so bench/run has them.
-   Malformed lines are no calls. The library reads and writes its state as bytes; the second program has a struct at hand. */
+   Malformed lines are no calls. The library reads and writes its state as bytes; the second program has a struct at hand.
+   With -DAGAINST another build of the library takes the second program's place, its functions called other_..; the two are not
+   compared. */
 #define _DEFAULT_SOURCE
 #include <stdio.h>
 #include <stdlib.h>
@@ -19,9 +21,11 @@ static uint8_t channels;
 static uint8_t state[QAMHUDEER_STATE_SIZE], table[QAMHUDEER_TABLE_SIZE], display[QAMHUDEER_DISPLAY_SIZE];
 static uint8_t replies[QAMHUDEER_REPLIES_SIZE], answer[QAMHUDEER_ANSWER_SIZE];
 
-static struct Arbiter arbiter;
-static struct Reply record[REQUESTS];
-static struct Replies list = {.record = record, .capacity = REQUESTS};
+/* What is handed to either library. */
+#define DEVICE state, sizeof state, table, sizeof table, display, sizeof display
+#define CALL(f) \
+    f->desk, f->operation, f->id, f->flags, f->map, (uint8_t)f->precedence, f->key, f->combination, f->length, DEVICE, replies, \
+        sizeof replies, answer, sizeof answer
 
 static void read_log(void)
 {
@@ -44,15 +48,50 @@ static void read_log(void)
 
 static size_t library_call(const struct Frame *f)
 {
-    return qamhudeer_call(f->desk, f->operation, f->id, f->flags, f->map, (uint8_t)f->precedence, f->key, f->combination, f->length,
-                          state, sizeof state, table, sizeof table, display, sizeof display, replies, sizeof replies, answer,
-                          sizeof answer);
+    return qamhudeer_call(CALL(f));
 }
 
 static void library_fresh(void)
 {
-    if (qamhudeer_fresh(channels, state, sizeof state, table, sizeof table, display, sizeof display) != 0)
+    if (qamhudeer_fresh(channels, DEVICE) != 0)
         exit(2);
+}
+
+#ifdef AGAINST
+
+uint8_t other_qamhudeer_fresh(uint8_t, uint8_t *, size_t, uint8_t *, size_t, uint8_t *, size_t);
+size_t other_qamhudeer_call(uint8_t, uint8_t, uint8_t, uint8_t, uint8_t, uint8_t, uint16_t, const uint8_t *, size_t, uint8_t *, size_t,
+                            uint8_t *, size_t, uint8_t *, size_t, uint8_t *, size_t, uint8_t *, size_t);
+
+static void second_fresh(void)
+{
+    if (other_qamhudeer_fresh(channels, DEVICE) != 0)
+        exit(2);
+}
+
+static void second_call(const struct Frame *f)
+{
+    other_qamhudeer_call(CALL(f));
+}
+
+static void compare(void)
+{
+}
+
+#else
+
+static struct Arbiter arbiter;
+static struct Reply record[REQUESTS];
+static struct Replies list = {.record = record, .capacity = REQUESTS};
+
+static void second_fresh(void)
+{
+    arbiter_fresh(&arbiter, channels);
+}
+
+static void second_call(const struct Frame *f)
+{
+    arbiter_call(&arbiter, f, &list);
 }
 
 static int same_reply(const uint8_t *b, const struct Reply *r)
@@ -75,7 +114,7 @@ static int same_outcome(size_t n, const struct Answer *a)
 static void compare(void)
 {
     library_fresh();
-    arbiter_fresh(&arbiter, channels);
+    second_fresh();
     for (size_t i = 0; i < frames; i++) {
         size_t n = library_call(&frame[i]);
         struct Answer a = arbiter_call(&arbiter, &frame[i], &list);
@@ -86,6 +125,8 @@ static void compare(void)
         }
     }
 }
+
+#endif
 
 static void tell(const char *name, long repetition, const char *who, double took)
 {
@@ -114,9 +155,9 @@ static double play_second(void)
 {
     double began = now();
 
-    arbiter_fresh(&arbiter, channels);
+    second_fresh();
     for (size_t i = 0; i < frames; i++)
-        arbiter_call(&arbiter, &frame[i], &list);
+        second_call(&frame[i]);
     return now() - began;
 }
 

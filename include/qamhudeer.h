@@ -12,6 +12,15 @@
  * during the call, and no pointer is null, also where its length is 0. There is no other duty: whatever the bytes are and
  * whatever the numbers, each function returns, and each comment below says what every byte that was lent holds afterwards.
  * That is proved of the code (crates/qamhudeer).
+ *
+ * Threads, interrupts, ABI. The library has no variables of its own, allocates nothing, waits for nothing and calls nothing but memcpy
+ * and memset. So calls on two devices may run at once, in two threads, in a thread and an interrupt; calls on one device may not,
+ * and the caller sees to that. A call that is cut off, by a reset or a longjmp, leaves its memory half written: go back to a saved
+ * copy. A handler needs the stack that docs/desk.md tells, and whoever interrupts must keep the vector registers, which the code
+ * uses as any compiled code does. That a call ends is proved, not how long it takes. The functions are plain C functions of the
+ * System V ABI for x86-64: numbers of the widths below, pointers and lengths by value, a result in a register; no structure crosses,
+ * no exception, no signal, no errno, no thread-local data. Within one first number of the version a program that was linked before
+ * goes on to run with a newer library.
  */
 #ifndef QAMHUDEER_H
 #define QAMHUDEER_H
@@ -26,7 +35,29 @@ extern "C" {
 /* ---- the version: the first number moves where a desk's source may have to change (CHANGELOG.md says what). It stands here
  * alone; the package and the programs take it from this line. */
 
-#define QAMHUDEER_VERSION "7.2.2"
+#define QAMHUDEER_VERSION "7.3.0"
+
+/* The same in numbers, for #if; tests/header.c holds them to the line above. qamhudeer_version() is the library's own. */
+#define QAMHUDEER_VERSION_MAJOR 7
+#define QAMHUDEER_VERSION_MINOR 3
+#define QAMHUDEER_VERSION_PATCH 0
+#define QAMHUDEER_VERSION_NUMBER (QAMHUDEER_VERSION_MAJOR * 10000 + QAMHUDEER_VERSION_MINOR * 100 + QAMHUDEER_VERSION_PATCH)
+
+/* ---- what is asked of the pointers, for compilers that can be told. Both names are undefined at the end. */
+
+#if defined(__GNUC__) || defined(__clang__)
+#define QAMHUDEER_NONNULL __attribute__((__nonnull__))
+#define QAMHUDEER_RESTRICT __restrict__
+#elif defined(_MSC_VER)
+#define QAMHUDEER_NONNULL
+#define QAMHUDEER_RESTRICT __restrict
+#elif !defined(__cplusplus) && defined(__STDC_VERSION__) && __STDC_VERSION__ >= 199901L
+#define QAMHUDEER_NONNULL
+#define QAMHUDEER_RESTRICT restrict
+#else
+#define QAMHUDEER_NONNULL
+#define QAMHUDEER_RESTRICT
+#endif
 
 /* ---- sizes in bytes */
 
@@ -142,6 +173,15 @@ extern "C" {
 #define CMD_START 7
 #define CMD_FLUSH 8
 #endif
+#ifndef CMD_INVALID
+#define CMD_INVALID 0 /* no command: IOERR_NOCMD */
+#endif
+#ifndef CMD_NONSTD
+#define CMD_NONSTD 9 /* the first command of the device's own */
+#endif
+#ifndef IOB_QUICK
+#define IOB_QUICK 0
+#endif
 #ifndef IOF_QUICK
 #define IOF_QUICK 1
 #endif
@@ -159,6 +199,30 @@ extern "C" {
 #ifndef ADIOF_NOWAIT
 #define ADIOF_SYNCCYCLE 32 /* ADCMD_FINISH and ADCMD_PERVOL: at the end of the cycle */
 #define ADIOF_NOWAIT 64
+#endif
+#ifndef ADIOB_PERVOL
+#define ADIOB_PERVOL 4
+#endif
+#ifndef ADIOF_PERVOL
+#define ADIOF_PERVOL 16 /* CMD_WRITE reads over it: a write has its numbers, or those of none */
+#endif
+#ifndef ADIOB_SYNCCYCLE
+#define ADIOB_SYNCCYCLE 5
+#endif
+#ifndef ADIOB_NOWAIT
+#define ADIOB_NOWAIT 6
+#endif
+#ifndef ADIOB_WRITEMESSAGE
+#define ADIOB_WRITEMESSAGE 7
+#endif
+#ifndef ADIOF_WRITEMESSAGE
+#define ADIOF_WRITEMESSAGE 128 /* read over: a driver's matter */
+#endif
+#ifndef ADALLOC_MINPREC
+#define ADALLOC_MINPREC (-128)
+#endif
+#ifndef ADALLOC_MAXPREC
+#define ADALLOC_MAXPREC 127
 #endif
 
 /* ---- what CMD_WRITE and ADCMD_PERVOL are handed in place of combinations: six bytes, or none for cycles 1, period 124, volume
@@ -190,6 +254,22 @@ extern "C" {
 #define ADIOERR_CHANNELSTOLEN (-12)
 #endif
 
+/* Where another header has given such a name first, it must have given the Amiga's number. */
+#if CMD_INVALID != 0 || CMD_RESET != 1 || CMD_READ != 2 || CMD_WRITE != 3 || CMD_UPDATE != 4 || CMD_CLEAR != 5 || CMD_STOP != 6 \
+    || CMD_START != 7 || CMD_FLUSH != 8 || CMD_NONSTD != 9 || ADCMD_FREE != 9 || ADCMD_SETPREC != 10 || ADCMD_FINISH != 11 \
+    || ADCMD_PERVOL != 12 || ADCMD_LOCK != 13 || ADCMD_WAITCYCLE != 14 || ADCMD_ALLOCATE != 32
+#error "a command of exec/io.h or devices/audio.h has another number than the Amiga's"
+#endif
+#if IOB_QUICK != 0 || IOF_QUICK != 1 || ADIOB_PERVOL != 4 || ADIOF_PERVOL != 16 || ADIOB_SYNCCYCLE != 5 || ADIOF_SYNCCYCLE != 32 \
+    || ADIOB_NOWAIT != 6 || ADIOF_NOWAIT != 64 || ADIOB_WRITEMESSAGE != 7 || ADIOF_WRITEMESSAGE != 128 \
+    || ADALLOC_MINPREC != -128 || ADALLOC_MAXPREC != 127
+#error "a flag or a precedence of exec/io.h or devices/audio.h has another number than the Amiga's"
+#endif
+#if IOERR_OPENFAIL != -1 || IOERR_ABORTED != -2 || IOERR_NOCMD != -3 || IOERR_BADLENGTH != -4 || IOERR_BADADDRESS != -5 \
+    || ADIOERR_NOALLOCATION != -10 || ADIOERR_ALLOCFAILED != -11 || ADIOERR_CHANNELSTOLEN != -12
+#error "an error of exec/errors.h or devices/audio.h has another number than the Amiga's"
+#endif
+
 /* Refusals of the arbiter's own; the state is as before. */
 #define QAMHUDEER_UNSOUND 1   /* the state and the table that were lent are not sound */
 #define QAMHUDEER_NOTOPEN 2   /* a command where no key is open; CLOSE where its key is not */
@@ -214,9 +294,9 @@ extern "C" {
  * QAMHUDEER_TABLE_SIZE and display_len is QAMHUDEER_DISPLAY_SIZE: returns 0, the state is that of a fresh device, and each byte of
  * the table and of the display is 0. Otherwise: returns 1, and no byte has changed. */
 uint8_t qamhudeer_fresh(uint8_t channels,
-                        uint8_t *state, size_t state_len,
-                        uint8_t *table, size_t table_len,
-                        uint8_t *display, size_t display_len);
+                        uint8_t *QAMHUDEER_RESTRICT state, size_t state_len,
+                        uint8_t *QAMHUDEER_RESTRICT table, size_t table_len,
+                        uint8_t *QAMHUDEER_RESTRICT display, size_t display_len) QAMHUDEER_NONNULL;
 
 /* One call of a desk. The precedence is in two's complement, so that -128 to 127 are handed over as they are.
  *
@@ -233,21 +313,21 @@ uint8_t qamhudeer_fresh(uint8_t channels,
  * Where they are sound: answer, replies, state, table and display are those of the rules, and state and table are sound again.
  * After a refusal (1 to 5, 8, -1, -3, -4, -5) no byte of state, table and display has changed. */
 size_t qamhudeer_call(uint8_t desk, uint8_t op, uint8_t id, uint8_t flags, uint8_t map, uint8_t prec, uint16_t key,
-                      const uint8_t *combos, size_t combos_len,
-                      uint8_t *state, size_t state_len,
-                      uint8_t *table, size_t table_len,
-                      uint8_t *display, size_t display_len,
-                      uint8_t *replies, size_t replies_len,
-                      uint8_t *answer, size_t answer_len);
+                      const uint8_t *QAMHUDEER_RESTRICT combos, size_t combos_len,
+                      uint8_t *QAMHUDEER_RESTRICT state, size_t state_len,
+                      uint8_t *QAMHUDEER_RESTRICT table, size_t table_len,
+                      uint8_t *QAMHUDEER_RESTRICT display, size_t display_len,
+                      uint8_t *QAMHUDEER_RESTRICT replies, size_t replies_len,
+                      uint8_t *QAMHUDEER_RESTRICT answer, size_t answer_len) QAMHUDEER_NONNULL;
 
 /* Who waits: a record for each waiting request, in the order in which they are looked at, at the front of `records`. Returns 0, and
  * *count is their number, at most 64. Where state and table are not sound: returns QAMHUDEER_UNSOUND. Then records_len below
  * QAMHUDEER_RECORDS_SIZE: returns QAMHUDEER_NOROOM. After a refusal *count is 0. No byte of `records` changes but those of the
  * records counted. */
-uint8_t qamhudeer_waiting(const uint8_t *state, size_t state_len,
-                          const uint8_t *table, size_t table_len,
-                          uint8_t *records, size_t records_len,
-                          size_t *count);
+uint8_t qamhudeer_waiting(const uint8_t *QAMHUDEER_RESTRICT state, size_t state_len,
+                          const uint8_t *QAMHUDEER_RESTRICT table, size_t table_len,
+                          uint8_t *QAMHUDEER_RESTRICT records, size_t records_len,
+                          size_t *QAMHUDEER_RESTRICT count) QAMHUDEER_NONNULL;
 
 /* A log that comes in fragments, of any length and some of them empty: the lines of frames that docs/desk.md shows, as a
  * service port delivers them. A frame with an id of 32 or more is desk B's, any other A's. The port keeps what stands of a line;
@@ -261,24 +341,24 @@ uint8_t qamhudeer_waiting(const uint8_t *state, size_t state_len,
  *
  * Both return 0; and before anything is taken QAMHUDEER_UNSOUND where port_len is not QAMHUDEER_PORT_SIZE, more than 527 characters
  * are said to stand in it or display_len is not QAMHUDEER_DISPLAY_SIZE, then QAMHUDEER_TOOSMALL where out_len is below
- * QAMHUDEER_ROOM_SIZE. After a refusal *used and *written are 0, and no byte has changed. Otherwise no byte of `out` has changed but those written, and no byte of the port
- * but its length and the characters put behind those that stood.
+ * QAMHUDEER_ROOM_SIZE. After a refusal *used and *written are 0, and no byte has changed. Otherwise no byte of `out` has changed but
+ * those written, and no byte of the port but its length and the characters put behind those that stood.
  *
  * A line of more than 526 characters is malformed however it was cut, and so answered. On a state that is not sound each frame
  * is answered QAMHUDEER_UNSOUND, and state, table and display stay as they are. */
-uint8_t qamhudeer_feed(const uint8_t *fragment, size_t fragment_len,
-                       uint8_t *port, size_t port_len,
-                       uint8_t *state, size_t state_len,
-                       uint8_t *table, size_t table_len,
-                       uint8_t *display, size_t display_len,
-                       uint8_t *out, size_t out_len,
-                       size_t *used, size_t *written);
-uint8_t qamhudeer_feed_end(uint8_t *port, size_t port_len,
-                           uint8_t *state, size_t state_len,
-                           uint8_t *table, size_t table_len,
-                           uint8_t *display, size_t display_len,
-                           uint8_t *out, size_t out_len,
-                           size_t *written);
+uint8_t qamhudeer_feed(const uint8_t *QAMHUDEER_RESTRICT fragment, size_t fragment_len,
+                       uint8_t *QAMHUDEER_RESTRICT port, size_t port_len,
+                       uint8_t *QAMHUDEER_RESTRICT state, size_t state_len,
+                       uint8_t *QAMHUDEER_RESTRICT table, size_t table_len,
+                       uint8_t *QAMHUDEER_RESTRICT display, size_t display_len,
+                       uint8_t *QAMHUDEER_RESTRICT out, size_t out_len,
+                       size_t *QAMHUDEER_RESTRICT used, size_t *QAMHUDEER_RESTRICT written) QAMHUDEER_NONNULL;
+uint8_t qamhudeer_feed_end(uint8_t *QAMHUDEER_RESTRICT port, size_t port_len,
+                           uint8_t *QAMHUDEER_RESTRICT state, size_t state_len,
+                           uint8_t *QAMHUDEER_RESTRICT table, size_t table_len,
+                           uint8_t *QAMHUDEER_RESTRICT display, size_t display_len,
+                           uint8_t *QAMHUDEER_RESTRICT out, size_t out_len,
+                           size_t *QAMHUDEER_RESTRICT written) QAMHUDEER_NONNULL;
 
 /* A state carried from one board to another, as a text of hexadecimal lines (docs/saved.md has them), for the four-channel board.
  *
@@ -291,15 +371,15 @@ uint8_t qamhudeer_feed_end(uint8_t *port, size_t port_len,
  * the display's numbers are counted once, and its looks are 0. Where state_len, table_len or display_len is another than its size:
  * returns QAMHUDEER_UNSOUND. Then any other text, or any other number of channels: QAMHUDEER_BADTEXT. After a refusal no byte has
  * changed. The state lent may hold anything before. A load replaces history: what a desk was promised of its calls begins anew. */
-uint8_t qamhudeer_save(const uint8_t *state, size_t state_len,
-                       const uint8_t *table, size_t table_len,
-                       uint8_t *text, size_t text_len,
-                       size_t *written);
+uint8_t qamhudeer_save(const uint8_t *QAMHUDEER_RESTRICT state, size_t state_len,
+                       const uint8_t *QAMHUDEER_RESTRICT table, size_t table_len,
+                       uint8_t *QAMHUDEER_RESTRICT text, size_t text_len,
+                       size_t *QAMHUDEER_RESTRICT written) QAMHUDEER_NONNULL;
 uint8_t qamhudeer_load(uint8_t channels,
-                       const uint8_t *text, size_t text_len,
-                       uint8_t *state, size_t state_len,
-                       uint8_t *table, size_t table_len,
-                       uint8_t *display, size_t display_len);
+                       const uint8_t *QAMHUDEER_RESTRICT text, size_t text_len,
+                       uint8_t *QAMHUDEER_RESTRICT state, size_t state_len,
+                       uint8_t *QAMHUDEER_RESTRICT table, size_t table_len,
+                       uint8_t *QAMHUDEER_RESTRICT display, size_t display_len) QAMHUDEER_NONNULL;
 
 /* The second form of a saved text, for both boards: it has the number of channels and the display's numbers too.
  *
@@ -313,28 +393,38 @@ uint8_t qamhudeer_load(uint8_t channels,
  * that the loader takes, of either board for qamhudeer_to_old: QAMHUDEER_BADTEXT. Then eight channels, which do not move back:
  * QAMHUDEER_EIGHT. Then a text_len that is too short: QAMHUDEER_TOOSMALL. After a refusal *written is 0, and nothing is written. There
  * and back leaves an old text as it was, byte for byte. */
-uint8_t qamhudeer_save2(const uint8_t *state, size_t state_len,
-                        const uint8_t *table, size_t table_len,
-                        const uint8_t *display, size_t display_len,
-                        uint8_t *text, size_t text_len,
-                        size_t *written);
+uint8_t qamhudeer_save2(const uint8_t *QAMHUDEER_RESTRICT state, size_t state_len,
+                        const uint8_t *QAMHUDEER_RESTRICT table, size_t table_len,
+                        const uint8_t *QAMHUDEER_RESTRICT display, size_t display_len,
+                        uint8_t *QAMHUDEER_RESTRICT text, size_t text_len,
+                        size_t *QAMHUDEER_RESTRICT written) QAMHUDEER_NONNULL;
 uint8_t qamhudeer_load2(uint8_t channels,
-                        const uint8_t *text, size_t text_len,
-                        uint8_t *state, size_t state_len,
-                        uint8_t *table, size_t table_len,
-                        uint8_t *display, size_t display_len);
-uint8_t qamhudeer_to_new(const uint8_t *from, size_t from_len, uint8_t *text, size_t text_len, size_t *written);
-uint8_t qamhudeer_to_old(const uint8_t *from, size_t from_len, uint8_t *text, size_t text_len, size_t *written);
+                        const uint8_t *QAMHUDEER_RESTRICT text, size_t text_len,
+                        uint8_t *QAMHUDEER_RESTRICT state, size_t state_len,
+                        uint8_t *QAMHUDEER_RESTRICT table, size_t table_len,
+                        uint8_t *QAMHUDEER_RESTRICT display, size_t display_len) QAMHUDEER_NONNULL;
+uint8_t qamhudeer_to_new(const uint8_t *QAMHUDEER_RESTRICT from, size_t from_len,
+                         uint8_t *QAMHUDEER_RESTRICT text, size_t text_len,
+                         size_t *QAMHUDEER_RESTRICT written) QAMHUDEER_NONNULL;
+uint8_t qamhudeer_to_old(const uint8_t *QAMHUDEER_RESTRICT from, size_t from_len,
+                         uint8_t *QAMHUDEER_RESTRICT text, size_t text_len,
+                         size_t *QAMHUDEER_RESTRICT written) QAMHUDEER_NONNULL;
 
 /* Lists for stereo, on the four-channel board alone: channels 0 and 3 sound left, 1 and 2 right.
  *
  * All maps with `left` left and `right` right channels, 0 to 2 each, in ascending order at the front of `maps`: returns 0, and
  * *count is their number, 1, 2 or 4. A number above 2: returns QAMHUDEER_BADWISH. Then maps_len below QAMHUDEER_STEREO_ROOM:
  * returns QAMHUDEER_TOOSMALL. After a refusal *count is 0. No byte of `maps` changes but those counted. */
-uint8_t qamhudeer_stereo(uint8_t left, uint8_t right, uint8_t *maps, size_t maps_len, size_t *count);
+uint8_t qamhudeer_stereo(uint8_t left, uint8_t right,
+                         uint8_t *QAMHUDEER_RESTRICT maps, size_t maps_len,
+                         size_t *QAMHUDEER_RESTRICT count) QAMHUDEER_NONNULL;
 
 /* 1 where the list holds each of these maps once, in any order, and nothing else; otherwise, and for a number above 2, 0. */
-uint8_t qamhudeer_stereo_accepts(uint8_t left, uint8_t right, const uint8_t *maps, size_t maps_len);
+uint8_t qamhudeer_stereo_accepts(uint8_t left, uint8_t right, const uint8_t *QAMHUDEER_RESTRICT maps, size_t maps_len) QAMHUDEER_NONNULL;
+
+/* The library's version: QAMHUDEER_VERSION_NUMBER of the header that it was built beside. A program may compare the two where it
+ * starts. */
+uint32_t qamhudeer_version(void);
 
 /* The sizes and offsets above, as the library has them: each returns the number of its name. */
 size_t qamhudeer_state_size(void);
@@ -354,6 +444,9 @@ size_t qamhudeer_offset_of_waiting(void);
 size_t qamhudeer_offset_of_opens(void);
 size_t qamhudeer_offset_of_last(void);
 size_t qamhudeer_offset_of_channels(void);
+
+#undef QAMHUDEER_NONNULL
+#undef QAMHUDEER_RESTRICT
 
 #ifdef __cplusplus
 }

@@ -1,6 +1,7 @@
-# Reads a log of two desks, and beside it the file 'output', what the program wrote for it with '--show', on a board of so many
-# channels; from the state of the text 'saved' on, if there is one. Writes the same in words. ./explain runs it, behind words.awk,
-# say.awk and queues.awk. POSIX awk.
+# Reads a log of two desks, and beside it the file 'output', what the program wrote for it with '--show --display', on a board of so many
+# channels; from the state of the text 'saved' on, if there is one. Writes the same in words: of all calls, or of those that only_id,
+# only_key, only_channel and 'only' choose; with 'brief' a line for each. 'before' is how many calls came before, 'progress', where it
+# is to be told, how many there are. ./explain runs it, behind words.awk, say.awk and queues.awk. POSIX awk.
 
 BEGIN {
     if (saved != "")
@@ -52,13 +53,13 @@ function say_call(text,    op) {
         add(on_channels(byte(text, 3)))
     if (carries(op))
         add_numbers(text, op)
-    say(sprintf("%5d  %s", NR, call_name(op)), words)
+    say(sprintf("%5d  %s", number, call_name(op)), words)
 }
 
 # At most 24 characters of it: it may have any length.
 function say_malformed(text, why,    shown) {
     shown = length(text) > 24 ? "\"" substr(text, 1, 24) "\".. of " length(text) " characters" : "\"" text "\""
-    printf "%-" margin "s%s\n", sprintf("%5d  malformed", NR), why (text == "" ? "" : ": " shown)
+    printf "%-" margin "s%s\n", sprintf("%5d  malformed", number), why (text == "" ? "" : ": " shown)
 }
 
 function say_waiters(    id, count, i) {
@@ -109,7 +110,7 @@ function add_event(op, map,    id, count) {
 }
 
 # A0 done or A1 outstanding, error, map, key, last byte.
-function say_answer(text, call,    op, number, map, last) {
+function answer_words(text, call,    op, number, map, last) {
     op = byte(call, 0)
     number = signed(byte(text, 1))
     map = byte(text, 2)
@@ -135,7 +136,7 @@ function say_answer(text, call,    op, number, map, last) {
         add("no write plays")
     if (number != 7)
         add(key_words(pair(text, 3)))
-    say("         answer", words)
+    return words
 }
 
 # B0, channel, key, precedence, marks (1 locked, 2 stopped), number of writes
@@ -176,23 +177,94 @@ function add_naming(said, text,    c, naming) {
 
 # E1, id, precedence, held or not, desk
 function waiting_words(text) {
-    return "id " byte(text, 1) " of desk " (byte(text, 4) == 0 ? "A" : "B") " at " signed(byte(text, 2)) (byte(text, 3) == 1 ? ", held" : "")
+    return "id " byte(text, 1) " of desk " (byte(text, 4) == 0 ? "A" : "B") " at " signed(byte(text, 2)) \
+           (byte(text, 3) == 1 ? ", held" : "")
 }
 
-# Nothing says how many lines E1 there are: the line behind them is kept for the next call.
-function say_waiting() {
+function say_waiting(    i) {
     words = ""
-    while ((getline text < output) > 0) {
-        if (text !~ /^E1/) {
-            ahead = text
-            break
-        }
-        words = words (words == "" ? "" : "; ") waiting_words(text)
-    }
+    for (i = 1; i <= waiting; i++)
+        words = words (words == "" ? "" : "; ") waiting_words(waits[i])
     if (words != "")
         say("         waiting", words)
 }
 
+# ---- What is chosen
+
+# A frame that is no call names nothing.
+function about_id(call, id,    i) {
+    if (why == "" && byte(call, 1) == id && (byte(call, 0) < 240 || byte(call, 0) > 244 || byte(call, 0) == 242))
+        return 1
+    for (i = 1; i <= replies; i++)
+        if (byte(reply[i], 1) == id)
+            return 1
+    return 0
+}
+
+function about_key(call, key,    i) {
+    if (why == "" && (pair(call, 5) == key || pair(answer, 3) == key))
+        return 1
+    for (i = 1; i <= replies; i++)
+        if (pair(reply[i], 5) == key)
+            return 1
+    return 0
+}
+
+function about_channel(call, c,    op, i) {
+    op = byte(call, 0)
+    if (why == "" && op != 240 && op != 241 && op != 242 && op != 32 && names_channel(byte(call, 3), c))
+        return 1
+    for (i = 0; (op == 240 || op == 32) && i < byte(call, 7); i++)
+        if (names_channel(byte(call, 8 + i), c))
+            return 1
+    for (i = 1; i <= replies; i++)
+        if (names_channel(byte(reply[i], 4), c))
+            return 1
+    return names_channel(byte(answer, 2), c)
+}
+
+function chosen(call) {
+    return (only_id == "" || about_id(call, only_id)) && (only_key == "" || about_key(call, only_key)) && \
+           (only_channel == "" || about_channel(call, only_channel)) && \
+           (only == "" || only == "refused" && byte(answer, 1) != 0 || only == "replies" && replies > 0 || \
+            only == "waiting" && waiting > 0)
+}
+
+# ---- A line for a call
+
+# The reply that only says the answer once more is left out.
+function brief_replies(call,    i, count, told) {
+    for (i = 1; i <= replies; i++)
+        if (byte(reply[i], 1) != byte(call, 1) || byte(reply[i], 2) != byte(call, 0) || answer ~ /^A1/) {
+            count++
+            told = "; to " desk(byte(reply[i], 1)) ", id " byte(reply[i], 1) " " call_name(byte(reply[i], 2)) ": " \
+                   error[signed(byte(reply[i], 3))]
+        }
+    return count > 1 ? "; " count " replies" : told
+}
+
+function say_brief(call,    op, who, told) {
+    op = byte(call, 0)
+    who = why != "" || op == 243 || op == 244 ? "" : desk(byte(call, 1)) (op == 240 || op == 241 ? "" : " " byte(call, 1))
+    told = (why == "" ? answer_words(answer, call) : why) brief_replies(call)
+    if (waiting > 0)
+        told = told "; " waiting (waiting == 1 ? " waits" : " wait")
+    printf "%7d  %-16s %-5s %s\n", number, why == "" ? call_name(op) : "malformed", who, told
+}
+
+function say_all(call,    i) {
+    if (why == "")
+        say_call($0)
+    else
+        say_malformed($0, why)
+    for (i = 1; i <= replies; i++)
+        say_reply(reply[i])
+    say("         answer", answer_words(answer, call))
+}
+
+# ---- The log
+
+# The program's next line stands in 'text'. Nothing says how many lines E1 there are: the line behind them is kept for the next call.
 function next_line() {
     if (ahead == "")
         return (getline text < output) > 0
@@ -201,40 +273,72 @@ function next_line() {
     return 1
 }
 
-# ---- The log
-
-{
-    why = fault($0)
-    # A malformed line is no call. It stands here as a frame of command 0, of which nothing is followed.
-    call = why == "" ? $0 : "0000000000000000"
-    before_event(call)
-    if (why == "")
-        say_call($0)
-    else
-        say_malformed($0, why)
-    seen = 0
+# What the program wrote for one line: replies, answer, channels, display, who waits. It is 1 where all of it is there.
+function take_output(    seen) {
+    seen = replies = waiting = 0
     while (seen <= board && next_line())
-        if (text ~ /^C0/) {
-            say_reply(text)
-            follow_reply(text)
-        } else if (text ~ /^A/) {
-            say_answer(text, call)
-            follow_answer(text, call)
-            map = byte(text, 2)
-            follow_cycle(map, call)
-        } else if (text ~ /^B0/) {
-            follow_synced(map, call, seen, byte(text, 5))
-            said[seen++] = channel_words(text)
-        } else if (text ~ /^E0/) {
+        if (text ~ /^C0/)
+            reply[++replies] = text
+        else if (text ~ /^A/)
+            answer = text
+        else if (text ~ /^B0/)
+            shown[seen++] = text
+        else if (text ~ /^E0/) {
             seen++
-            add_naming(said, text)
+            display = text
         }
-    if (seen <= board) {
-        print "explain: the program's output ends at line " NR " of the log" | "cat 1>&2"
-        exit 1
+    while (next_line()) {
+        if (text !~ /^E1/) {
+            ahead = text
+            break
+        }
+        waits[++waiting] = text
     }
+    return seen > board
+}
+
+# The program's own message, if it has one, is enough.
+function ends_early() {
+    if (number > before + 1)
+        print "explain: the program's output ends at line " number " of the log" | "cat 1>&2"
+    failed = 1
+    exit 3
+}
+
+function say_rest(    c, said) {
+    for (c = 0; c < board; c++)
+        said[c] = channel_words(shown[c])
+    add_naming(said, display)
     say_channels(said)
     say_waiting()
     say_waiters()
     say_remembered()
+}
+
+{
+    number = NR + before
+    why = fault($0)
+    # A malformed line is no call. It stands here as a frame of command 0, of which nothing is followed.
+    call = why == "" ? $0 : "0000000000000000"
+    if (!take_output())
+        ends_early()
+    before_call(call)
+    tells = chosen(call)
+    if (tells && brief)
+        say_brief(call)
+    else if (tells)
+        say_all(call)
+    for (i = 1; i <= replies; i++)
+        follow_reply(reply[i])
+    follow_answer(answer, call)
+    follow_cycle(byte(answer, 2), call)
+    for (c = 0; c < board; c++)
+        follow_synced(byte(answer, 2), call, c, byte(shown[c], 5))
+    if (tells && !brief)
+        say_rest()
+    tell_progress(NR)
+}
+
+END {
+    tell_progress(-1)
 }

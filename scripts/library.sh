@@ -33,17 +33,27 @@ old_library() {
     [ -n "$(cd "$root" && find crates.txt crates -name must-fail -prune -o -newer "$library" -print | head -n 1)" ]
 }
 
-# The archive's time becomes that of the build's start, so that what is edited while rt runs counts as newer.
+# The archive's time becomes that of the build's start, so that what is edited while rt runs counts as newer. Whoever has waited may
+# find it built.
+build_library() {
+    [ "$1" = again ] || old_library || return 0
+    complain "the library is proved and built, which may take minutes:"
+    began=$(mktemp "$root/target/began.XXXXXX") || return
+    watched "$root/target/said-qamhudeer.log" staticlib qamhudeer && [ -f "$library" ]
+    built=$?
+    if [ $built -eq 0 ]; then
+        touch -r "$began" "$library"
+    else
+        complain "the library is not proved; target/said-qamhudeer.log has all that was said"
+    fi
+    rm -f "$began"
+    return $built
+}
+
 library_ready() {
     [ "${1:-}" = again ] || old_library || return 0
     has_kit || return
-    complain "the library is proved and built, which may take minutes:"
-    mkdir -p "$root/target" && began=$(mktemp "$root/target/began.XXXXXX") && said=$(mktemp "$root/target/said.XXXXXX") || return
-    watched "$said" staticlib qamhudeer && [ -f "$library" ]
-    built=$?
-    [ $built -ne 0 ] || touch -r "$began" "$library"
-    rm -f "$began" "$said"
-    return $built
+    alone "the library" build_library "${1:-}"
 }
 
 # works COMPILER WORDS..: it makes a program.

@@ -21,6 +21,7 @@ function lowest(map,    c) {
 # A reply: the request has left its list, and with a front write goes what was remembered.
 function follow_reply(text,    id, c) {
     id = byte(text, 1)
+    ended[id] = byte(text, 2)
     if (byte(text, 2) == 14)
         waiters = leaves(waiters, id)
     if (byte(text, 2) == 3)
@@ -31,8 +32,9 @@ function follow_reply(text,    id, c) {
         }
 }
 
-# The front write of an event's channel, and what is remembered there, before the replies take them away.
-function before_event(call,    c) {
+# Before a call's replies: the front write of an event's channel, and what is remembered there, which they take away.
+function before_call(call,    c) {
+    split("", ended)
     if (byte(call, 0) != 243 && byte(call, 0) != 244)
         return
     c = lowest(byte(call, 3))
@@ -50,11 +52,12 @@ function follow_cycle(map, call) {
         left[front[1]]--
 }
 
-# An answer: a write or a WAITCYCLE that is outstanding has joined its list, on the lowest channel of its map.
+# An answer: a write or a WAITCYCLE that is outstanding has joined its list, on the lowest channel of its map. From a state that is not
+# at rest the walk of its own call may have ended it: then it has its reply already.
 function follow_answer(text, call,    id, c) {
-    if (byte(text, 0) != 161)
-        return
     id = byte(call, 1)
+    if (byte(text, 0) != 161 || id in ended && ended[id] == byte(call, 0))
+        return
     c = lowest(byte(call, 3))
     if (byte(call, 0) == 3) {
         writes[c] = joins(writes[c], id)
@@ -76,8 +79,11 @@ function follow_synced(map, call, c, marks) {
         pervol[c] = "PERVOL with period " period(call) " and volume " volume(call)
 }
 
-# Where a log goes on from a saved text, what this text has of it: docs/saved.md says what stands where.
+# Where a log goes on from a saved text, what this text has of it, and nothing else: docs/saved.md says what stands where.
 function begin_saved(file,    text, c, id) {
+    for (c = 0; c < board; c++)
+        writes[c] = finish[c] = pervol[c] = ""
+    waiters = ""
     c = 0
     while ((getline text < file) > 0)
         if (text ~ /^D1/) {

@@ -12,12 +12,15 @@ BEGIN {
 }
 
 function who(key) {
-    return key == 0 ? "A desk without a key" : "Key " key
+    return key == 0 ? "A desk without a key" : key in key_name ? key_name[key] : "Key " key
 }
 
 # The channel that a write, a read or an event is about: the lowest.
 function one_channel(map) {
-    return map == 0 || map > highest ? on_channels(map) : "channel " lowest(map)
+    if (map == 0 || map > highest)
+        return on_channels(map)
+    map = lowest(map)
+    return map in hall ? hall[map] : "channel " map
 }
 
 # At most four combinations are told.
@@ -51,7 +54,7 @@ function call_sentence(text,    op, id, map, key) {
     key = pair(text, 5)
     if (op == 240)
         return "Desk " desk(id) " opens the device" (byte(text, 7) == 0 ? "" : " and asks for " wish(text)) \
-               (key == 0 ? "" : " with key " key)
+               (key == 0 ? "" : " with " key_words(key))
     if (op == 241)
         return who(key) " closes the device"
     if (op == 242)
@@ -61,7 +64,7 @@ function call_sentence(text,    op, id, map, key) {
     if (op == 244)
         return "The driver gives up on " one_channel(map)
     if (op == 32)
-        return desk(id) "'s request " id " asks for " wish(text) (key == 0 ? "" : " with key " key) \
+        return desk(id) "'s request " id " asks for " wish(text) (key == 0 ? "" : " with " key_words(key)) \
                (flag(text, 64) ? ", without waiting" : "")
     if (op == 2)
         return who(key) " asks what plays on " one_channel(map)
@@ -109,9 +112,9 @@ function answer_sentence(text, call,    op, number, map, last) {
     if (number != 0)
         return "refused: " refusal_words(number, call)
     if (op == 32 || op == 240 && byte(call, 7) != 0)
-        return "granted " on_channels(map) ", key " pair(text, 3)
+        return "granted " on_channels(map) ", " key_words(pair(text, 3))
     if (op == 240)
-        return "done, key " pair(text, 3)
+        return "done, " key_words(pair(text, 3))
     if (op == 242)
         return last == 1 ? "cancelled" : "there was nothing to cancel"
     if (op == 243 || op == 244)
@@ -130,7 +133,7 @@ function reply_sentence(text,    id, op, number, map) {
     if (number == -12)
         return "Lock " id " is in the way: " on_channels(map) (single(map) ? " is" : " are") " wanted"
     if (op == 32)
-        return desk(id) "'s request " id (number == 0 ? " is granted " on_channels(map) ", key " pair(text, 5) : \
+        return desk(id) "'s request " id (number == 0 ? " is granted " on_channels(map) ", " key_words(pair(text, 5)) : \
                                           number == -2 ? " is cancelled" : " gives up: " reason[-11])
     if (op == 3)
         return "Write " id (number == 0 ? " has ended on " on_channels(map) : " is cut off")

@@ -1,5 +1,6 @@
 # The words and the numbers that ./explain and ./wall share: the names of calls, errors and refusals, and what stands at which place
-# of a line. Before it 'board' is set, how many channels there are. POSIX awk.
+# of a line. Before it 'board' is set, how many channels there are. A channel and a key may have names, in hall[c] and key_name[key].
+# POSIX awk.
 
 BEGIN {
     names("OPEN 240 CLOSE 241 ABORT 242 cycle-end 243 give-up 244 CMD_RESET 1 CMD_READ 2 CMD_WRITE 3 CMD_UPDATE 4 CMD_CLEAR 5 " \
@@ -104,7 +105,7 @@ function channels(map,    c, text) {
         return map " (above " highest ")"
     for (c = 0; c < board; c++) {
         if (map % 2 == 1)
-            text = text (text == "" ? "" : "+") c
+            text = text (text == "" ? "" : "+") (c in hall ? hall[c] : c)
         map = int(map / 2)
     }
     return text == "" ? "none" : text
@@ -117,14 +118,22 @@ function single(map,    bit) {
     return bit == map
 }
 
+# Whether each channel that a map names has a name.
+function all_named(map,    c) {
+    for (c = 0; c < board; c++)
+        if (names_channel(map, c) && !(c in hall))
+            return 0
+    return 1
+}
+
 function on_channels(map) {
     if (map == 0)
         return "no channel"
-    return (map > highest ? "map " : single(map) ? "channel " : "channels ") channels(map)
+    return (map > highest ? "map " : all_named(map) ? "" : single(map) ? "channel " : "channels ") channels(map)
 }
 
 function key_words(key) {
-    return key == 0 ? "no key" : "key " key
+    return key == 0 ? "no key" : "key " key (key in key_name ? " (" key_name[key] ")" : "")
 }
 
 function tone_words(text) {

@@ -1,8 +1,9 @@
 /* Writes vectors for the machine: calls with what this arbiter makes of them, as text of
    antt. vectors calls SEED writes calls on states that are not at rest, which no log
-   reaches; vectors log NAME reads a log and writes it beside its output; vectors saved NAME
-   reads a log and writes it beside its output and the saved text of the state after it. Same
-   arguments, same bytes, on every machine. */
+   reaches; vectors log NAME reads a log and writes it beside its output; vectors shown NAME
+   the same with the lines of the wall display; vectors saved NAME and vectors saved2 NAME
+   read a log and write it beside its output and the saved text of the state after it, in the
+   first or the second form. Same arguments, same bytes, on every machine. */
 #include "chance.h"
 #include "log.h"
 #include "saved.h"
@@ -346,6 +347,7 @@ static void make_call(struct Frame *f, unsigned operation)
 /* ---- What a vector is wanted for ---- */
 
 static struct Arbiter before, after;
+static struct Display display;
 static struct Frame call;
 static struct Reply record[REQUESTS];
 static struct Replies replies;
@@ -583,6 +585,44 @@ static int open_end(void) { return answer.error == IOERR_OPENFAIL && unchanged()
 static int short_list(void) { return answer.error == REFUSED_REPLIES && unchanged(); }
 static int unsound(void) { return answer.error == REFUSED_UNSOUND && unchanged(); }
 
+/* Two faults at once: the number is that of the earlier step. */
+static int address_bad(void)                /* a map or a combination that is off the board */
+{
+    if (call.operation != CALL_OPEN && call.operation != ADCMD_ALLOCATE)
+        return call.map >> CHANNELS != 0;
+    for (unsigned i = 0; i < call.length; i++)
+        if (call.combination[i] >> CHANNELS != 0)
+            return 1;
+    return 0;
+}
+static int numbers_bad(void)                /* of a WRITE or PERVOL: their number or the volume */
+{
+    return call.length != 0 && (call.length != 6 || call.combination[5] > 64);
+}
+static int unsound_short(void) { return unsound(); }
+static int short_high(void) { return short_list() && call.id >= REQUESTS; }
+static int short_closed(void) { return short_list() && before.open.count == 0; }
+static int short_address(void) { return short_list() && address_bad(); }
+static int outstanding_closed(void) { return id_outstanding() && before.open.count == 0; }
+static int closed_unknown(void) { return closed(); }
+static int unknown_address(void) { return no_command() && address_bad(); }
+static int length_address(void) { return bad_length() && address_bad(); }
+static int address_numbers(void) { return bad_address() && numbers_bad(); }
+static int length_full(void) { return bad_length() && before.open.count == MOST_OPENS; }
+static int address_full(void) { return bad_address() && before.open.count == MOST_OPENS; }
+
+/* What a wish is looked for with: a spoilt state, a list of 63 records; a map or a combination off the board. */
+static int wants_spoilt(int (*met)(void)) { return met == unsound || met == unsound_short; }
+static int wants_address(int (*met)(void))
+{
+    return met == bad_address || met == short_address || met == unknown_address || met == length_address || met == address_numbers
+        || met == address_full;
+}
+static int wants_short(int (*met)(void))
+{
+    return met == short_list || met == unsound_short || met == short_high || met == short_closed || met == short_address;
+}
+
 struct Wish {
     const char *name;
     unsigned count;
@@ -681,7 +721,18 @@ static const struct Wish wishes[] = {
     {"short-lists", 2, {CMD_READ, CALL_OPEN}, short_list, "a reply list of 63 records: 5"},
     {"unsound-states", SPOILS,
      {CMD_READ, CALL_OPEN, CALL_ABORT, ADCMD_ALLOCATE, CALL_CLOSE, CALL_CYCLE_ENDED, CALL_GAVE_UP}, unsound,
-     "a state that is not sound: 1"}
+     "a state that is not sound: 1"},
+    {"unsound-short-lists", 6, {CMD_READ, CALL_OPEN, CALL_CLOSE, CALL_ABORT, CALL_CYCLE_ENDED, CALL_GAVE_UP}, unsound_short, "1 before 5"},
+    {"short-lists-high-ids", 2, {CALL_ABORT, CMD_STOP}, short_high, "5 before 4"},
+    {"short-lists-closed", 2, {CALL_CLOSE, CMD_CLEAR}, short_closed, "5 before 2"},
+    {"short-lists-addresses", 4, {CALL_CYCLE_ENDED, CALL_GAVE_UP, CALL_OPEN, CMD_FLUSH}, short_address, "5 before -5"},
+    {"outstanding-closed", 2, {CMD_WRITE, ADCMD_ALLOCATE}, outstanding_closed, "3 before 2"},
+    {"closed-no-commands", 2, {15, 0xF5}, closed_unknown, "2 before -3"},
+    {"no-commands-addresses", 2, {15, 0xF5}, unknown_address, "-3 before -5"},
+    {"lengths-addresses", 2, {ADCMD_ALLOCATE, CALL_OPEN}, length_address, "-4 before -5"},
+    {"addresses-numbers", 2, {CMD_WRITE, ADCMD_PERVOL}, address_numbers, "-5 before the -4 for numbers"},
+    {"lengths-no-more-opens", 1, {CALL_OPEN}, length_full, "-4 before -1"},
+    {"addresses-no-more-opens", 1, {CALL_OPEN}, address_full, "-5 before -1"}
 };
 
 /* Draws states and calls until one meets the wish; its operations take turns. */
@@ -699,12 +750,12 @@ static void find(const struct Wish *w, unsigned turn)
         }
         if (at_rest(&before))
             continue;
-        if (w->met == unsound)
+        if (wants_spoilt(w->met))
             spoil(&before, turn % SPOILS);
         make_call(&call, w->operation[turn % kinds]);
         after = before;
         replies.record = record;
-        replies.capacity = w->met == short_list ? REQUESTS - 1 : REQUESTS;
+        replies.capacity = wants_short(w->met) ? REQUESTS - 1 : REQUESTS;
         answer = arbiter_call(&after, &call, &replies);
         if (w->met())
             return;
@@ -878,7 +929,7 @@ static void put_wish(const struct Wish *w)
     const char *board = CHANNELS == 4 ? "" : "-of-8";
     unsigned count = CHANNELS == 4 ? w->count : 1;
 
-    if (CHANNELS == 8 && w->met == bad_address)
+    if (CHANNELS == 8 && wants_address(w->met))
         return;                             /* no byte is above 255 */
     printf("\n-- %s\nabbrev pub %s%s-vectors : List Vector\n%s%s-vectors =\n", w->why,
            w->name, board, w->name, board);
@@ -935,18 +986,43 @@ static void put_answer_lines(void)
                            (uint8_t)(answer.key & 255), answer.last};
 
         put_hex(byte, sizeof byte);
-        printf(" ∷ []");
+        printf(" ∷ ");
+    }
+}
+
+/* E0 with each channel's two numbers and the looks; E1 for each waiting request. */
+static void put_display_lines(void)
+{
+    struct Waiting waiting[REQUESTS];
+    uint8_t byte[1 + 2 * CHANNELS + 2] = {0xE0};
+    size_t count;
+
+    for (unsigned c = 0; c < CHANNELS; c++) {
+        byte[1 + 2 * c] = display.writes[c];
+        byte[2 + 2 * c] = display.naming[c];
+    }
+    byte[1 + 2 * CHANNELS] = (uint8_t)(display.looks >> 8);
+    byte[2 + 2 * CHANNELS] = (uint8_t)(display.looks & 255);
+    put_hex(byte, sizeof byte);
+    printf(" ∷ ");
+    arbiter_waiting(&after, waiting, REQUESTS, &count);
+    for (size_t i = 0; i < count; i++) {
+        uint8_t of[5] = {0xE1, waiting[i].id, (uint8_t)waiting[i].precedence, waiting[i].held, waiting[i].desk};
+
+        put_hex(of, sizeof of);
+        printf(" ∷ ");
     }
 }
 
 /* A log from standard input, line by line; a line that cannot be quoted is left out. */
-static void put_lines(const char *name)
+static void put_lines(const char *name, int shown)
 {
     static char line[1 << 18];
     size_t length = 0;
     int c;
 
     arbiter_fresh(&after, CHANNELS);
+    memset(&display, 0, sizeof display);
     printf("\nabbrev pub %s-lines : Talk\n%s-lines =\n    ", name, name);
     do {
         c = getchar();
@@ -961,9 +1037,12 @@ static void put_lines(const char *name)
             replies.capacity = REQUESTS;
             replies.count[DESK_A] = replies.count[DESK_B] = 0;
             if (log_decode(line, length, &call))
-                answer = arbiter_call(&after, &call, &replies);
+                answer = arbiter_call_shown(&after, &display, &call, &replies);
             printf("(\"%.*s\", ", (int)length, line);
             put_answer_lines();
+            if (shown)
+                put_display_lines();
+            printf("[]");
             printf(")\n    ∷ ");
         }
         length = 0;
@@ -973,27 +1052,42 @@ static void put_lines(const char *name)
 
 static void put_log(const char *name)
 {
-    put_lines(name);
-    printf("\npub %s : Answers %s-lines\nunfolding machine bytes page\n%s = refl\n", name, name, name);
+    put_lines(name, 0);
+    printf("\npub %s : Answers %u %s-lines\nunfolding machine bytes page frees\n%s = refl\n", name, CHANNELS, name, name);
+}
+
+static void put_shown(const char *name)
+{
+    put_lines(name, 1);
+    printf("\npub %s : Shows %u %s-lines\n"
+           "unfolding machine bytes page frees shown beyond reached lookOn looksIn looks acting looksAfter lookedBy looked"
+           " names writesOn naming number numbersFrom corrected displayed displayedBy holds recordOf loadLine requestLines displayLines\n"
+           "%s = refl\n", name, CHANNELS, name, name);
 }
 
 /* A log, and the lines of the text of the state after it. */
-static void put_saved(const char *name)
+static void put_saved(const char *name, int form)
 {
-    static char text[SAVED_LONGEST];
+    static char text[SAVED_LONGEST2];
     size_t length;
+    int error;
 
-    put_lines(name);
-    if (saved_save(&after, text, sizeof text, &length) != DONE) {
+    put_lines(name, 0);
+    error = form == 1 ? saved_save(&after, text, sizeof text, &length) : saved_save2(&after, &display, text, sizeof text, &length);
+    if (error != DONE) {
         fputs("vectors: the state has no saved text\n", stderr);
         exit(1);
     }
     printf("\nabbrev pub %s-text : List String\n%s-text =\n    ", name, name);
     for (const char *line = text; line < text + length; line = strchr(line, '\n') + 1)
         printf("\"%.*s\"\n    ∷ ", (int)strcspn(line, "\n"), line);
-    printf("[]\n\npub %s : Keeps %s-lines %s-text\n"
-           "unfolding machine bytes page text kept channelFrame requestFrame spanFrame writeFrame writeFrames keyFrame frames spelt\n"
-           "%s = refl\n", name, name, name, name);
+    if (form == 1)
+        printf("[]\n\npub %s : Keeps %s-lines %s-text\nunfolding machine bytes page text", name, name, name);
+    else
+        printf("[]\n\npub %s : Keeps2 %u %s-lines %s-text\n"
+               "unfolding machine bytes page frees names writesOn naming numberFrame numberFrames frames2 text2",
+               name, CHANNELS, name, name);
+    printf(" kept channelFrame requestFrame spanFrame writeFrame writeFrames keyFrame frames spelt\n%s = refl\n", name);
 }
 
 int main(int count, char **argument)
@@ -1004,10 +1098,14 @@ int main(int count, char **argument)
             put_wish(&wishes[i]);
     } else if (count == 3 && strcmp(argument[1], "log") == 0) {
         put_log(argument[2]);
+    } else if (count == 3 && strcmp(argument[1], "shown") == 0) {
+        put_shown(argument[2]);
     } else if (count == 3 && strcmp(argument[1], "saved") == 0) {
-        put_saved(argument[2]);
+        put_saved(argument[2], 1);
+    } else if (count == 3 && strcmp(argument[1], "saved2") == 0) {
+        put_saved(argument[2], 2);
     } else {
-        fputs("usage: vectors calls SEED | vectors log NAME | vectors saved NAME\n", stderr);
+        fputs("usage: vectors calls SEED | vectors log|shown|saved|saved2 NAME\n", stderr);
         return 2;
     }
     if (fflush(stdout) != 0 || ferror(stdout)) {

@@ -45,7 +45,12 @@ keeps() {
     echo old >"$work/file"
     "$@" >"$work/out" 2>"$work/err"
     status=$?
-    [ $status -eq "$wanted" ] && [ "$(cat "$work/file")" = old ] && [ ! -e "$work/file.part" ]
+    [ $status -eq "$wanted" ] && [ "$(cat "$work/file")" = old ] && ! parts
+}
+
+# parts: there are files beside the one that is saved to.
+parts() {
+    ls "$work"/file.* >/dev/null 2>&1
 }
 
 unread() {
@@ -65,8 +70,8 @@ stopped() {
     {
         cat "$log"
         waited=0
-        while [ ! -e "$work/file.part" ] && [ $waited -lt 20 ]; do
-            sleep 1
+        while ! parts && [ $waited -lt 200 ]; do
+            sleep 0.1
             waited=$((waited + 1))
         done
         kill "-$1" $player
@@ -74,12 +79,12 @@ stopped() {
     wait $player
 }
 
-# A crash: no one tidies up. The old file stands, and the next save is a save.
+# A crash: no one tidies up. The old file stands, and the next save is a save, which touches nothing of what was left.
 crashed() {
     echo old >"$work/file"
     stopped KILL >/dev/null 2>&1
-    [ "$(cat "$work/file")" = old ] && ./arbiter-log --save "$work/file" <"$log" >/dev/null && again "$work/file" &&
-        [ ! -e "$work/file.part" ]
+    left_behind=$(ls "$work"/file.*) && [ "$(cat "$work/file")" = old ] && ./arbiter-log --save "$work/file" <"$log" >/dev/null &&
+        again "$work/file" && [ "$(ls "$work"/file.*)" = "$left_behind" ] && rm -f "$work"/file.*
 }
 
 # cut_at LINES LOG: played in two parts, with a save between, it comes to the same output and the same text as in one.

@@ -19,24 +19,9 @@
 what='any bytes'
 programs='generate'
 usual=150
-styles='mix locks nowait queues full aborts precedences refusals malformed lists bytes ties opens cuts cycles desks display'
-styles="$styles many-locks many-steals many-entries many-waiting"
 lines=150
 tries=8
 parts='tests/fuzz tests/states tests/lent second/chance second/log second/arbiter'
-
-# ---- The logs
-
-log() {
-    number=$1
-    set -- $styles
-    # At each round the boards change places.
-    board=$((4 + (number % $# + number / $#) % 2 * 4))
-    shift $((number % $#))
-    chance=$((seed * 100000 + number))
-    made="generate $chance $lines $1 $board"
-    second/$made >"$work/log" || die "second/$made fails"
-}
 
 # What was tried, and which numbers came back.
 tell_counts() {

@@ -168,9 +168,9 @@ static void refusals(void)
     same("fresh, state too short", 1, qamhudeer_fresh(4, state, sizeof state - 1, table, sizeof table, display, sizeof display));
     same("fresh, table too short", 1, qamhudeer_fresh(4, state, sizeof state, table, sizeof table - 1, display, sizeof display));
     same("fresh, display too short", 1, qamhudeer_fresh(4, state, sizeof state, table, sizeof table, display, sizeof display - 1));
-    same("a display of 17", QAMHUDEER_UNANSWERED, qamhudeer_call(QAMHUDEER_DESK_A, QAMHUDEER_OPEN, 0, 0, 0, 0, 0, answer, 0, state, sizeof state, table, sizeof table, display, 17, replies, sizeof replies, answer, 8));
-    same("no room", QAMHUDEER_UNANSWERED, qamhudeer_call(QAMHUDEER_DESK_A, QAMHUDEER_OPEN, 0, 0, 0, 0, 0, answer, 0, state, sizeof state, table, sizeof table, display, sizeof display, replies, sizeof replies, answer, 7));
-    same("too much room", QAMHUDEER_UNANSWERED, qamhudeer_call(QAMHUDEER_DESK_A, QAMHUDEER_OPEN, 0, 0, 0, 0, 0, answer, 0, state, sizeof state, table, sizeof table, display, sizeof display, replies, sizeof replies, answer, 9));
+    same("a display of 17", QAMHUDEER_UNANSWERED, qamhudeer_call(QAMHUDEER_DESK_A, QAMHUDEER_OPEN, 0, 0, 0, 0, 0, zeros, 0, state, sizeof state, table, sizeof table, display, 17, replies, sizeof replies, answer, 8));
+    same("no room", QAMHUDEER_UNANSWERED, qamhudeer_call(QAMHUDEER_DESK_A, QAMHUDEER_OPEN, 0, 0, 0, 0, 0, zeros, 0, state, sizeof state, table, sizeof table, display, sizeof display, replies, sizeof replies, answer, 7));
+    same("too much room", QAMHUDEER_UNANSWERED, qamhudeer_call(QAMHUDEER_DESK_A, QAMHUDEER_OPEN, 0, 0, 0, 0, 0, zeros, 0, state, sizeof state, table, sizeof table, display, sizeof display, replies, sizeof replies, answer, 9));
     same("no answer", 0, (size_t)memcmp(answer, zeros, sizeof answer));
     KEPT("nothing moved");
     /* a mark of 2 */
@@ -266,8 +266,72 @@ static void port(void)
     same("no port", QAMHUDEER_UNSOUND, FEED(0, QAMHUDEER_PORT_SIZE, QAMHUDEER_ROOM_SIZE));
 }
 
+/* What docs/desk.md says of the table: 23 bytes an id, of a write with what is remembered, a WAITCYCLE, a lock, two allocations that wait,
+ * and an idle id. */
+static void entries(void)
+{
+    static uint8_t state[QAMHUDEER_STATE_SIZE], table[QAMHUDEER_TABLE_SIZE], display[QAMHUDEER_DISPLAY_SIZE];
+    static uint8_t replies[QAMHUDEER_REPLIES_SIZE], answer[QAMHUDEER_ANSWER_SIZE];
+    static const uint8_t combos[2] = {4, 12}, numbers[6] = {1, 2, 0, 1, 44, 50}, others[6] = {9, 9, 1, 0, 0, 63};
+    static const uint8_t write[23] = {CMD_WRITE, 1, 2, 0, 0, 0, 12, 1, 2, 0, 1, 44, 50, 1, 1, 1, 0, 0, 63};
+    static const uint8_t waiter[23] = {ADCMD_WAITCYCLE, 1, 2, 4}, lock[23] = {ADCMD_LOCK, 1, 2, 4};
+    static const uint8_t waits[23] = {ADCMD_ALLOCATE, 0, 0, 0, 128 - 6, 0, 2, 4, 12};
+    static const uint8_t nowait[23] = {ADCMD_ALLOCATE, 1, 3, 0, 128 + 7, 1, 1, 4};
+    static const uint8_t idle[23] = {0};
+#define ENTRY(name, id, bytes) same(name, 0, (size_t)(memcmp(table + 23 * (id), bytes, 23) != 0))
+#define ASK(op, id, flags, map, prec, key, list, n)                                                                              \
+    qamhudeer_call(QAMHUDEER_DESK_A, op, id, flags, map, (uint8_t)(prec), key, list, n, state, sizeof state, table, sizeof table, \
+                   display, sizeof display, replies, sizeof replies, answer, sizeof answer)
+    same("the table", QAMHUDEER_TABLE_SIZE, 64 * 23);
+    same("fresh", 0, qamhudeer_fresh(4, state, sizeof state, table, sizeof table, display, sizeof display));
+    ASK(QAMHUDEER_OPEN, 0, 0, 0, 5, 258, combos, 1);
+    ASK(CMD_WRITE, 3, 0, 4, 0, 258, numbers, 6);
+    ASK(ADCMD_WAITCYCLE, 7, 0, 4, 0, 258, combos, 0);
+    ASK(ADCMD_FINISH, 5, ADIOF_SYNCCYCLE, 4, 0, 258, combos, 0);
+    ASK(ADCMD_PERVOL, 6, ADIOF_SYNCCYCLE, 4, 0, 258, others, 6);
+    ASK(ADCMD_LOCK, 9, 0, 4, 0, 258, combos, 0);
+    ENTRY("a write's entry", 3, write);
+    ENTRY("a WAITCYCLE's entry", 7, waiter);
+    ENTRY("a lock's entry", 9, lock);
+    ASK(ADCMD_ALLOCATE, 11, 0, 0, -6, 0, combos, 2);
+    ASK(ADCMD_ALLOCATE, 12, ADIOF_NOWAIT, 0, 7, 259, combos, 1);
+    ENTRY("a waiting allocation's entry", 11, waits);
+    ENTRY("one with NOWAIT, held by a lock", 12, nowait);
+    ENTRY("an idle entry", 9, idle);
+#undef ASK
+#undef ENTRY
+}
+
+/* The version is one: the line that scripts take, its three numbers, and the library's own. */
+static void version(void)
+{
+    char text[40];
+
+    sprintf(text, "%d.%d.%d", QAMHUDEER_VERSION_MAJOR, QAMHUDEER_VERSION_MINOR, QAMHUDEER_VERSION_PATCH);
+    same("the version's three numbers", 0, (size_t)(strcmp(text, QAMHUDEER_VERSION) != 0));
+    same("the version", QAMHUDEER_VERSION_NUMBER, qamhudeer_version());
+}
+
+/* The names of the NDK, by what its own headers say of them: flags by their bits, the device's commands from CMD_NONSTD on. */
+static void names(void)
+{
+    same("IOF_QUICK", IOF_QUICK, 1u << IOB_QUICK);
+    same("ADIOF_PERVOL", ADIOF_PERVOL, 1u << ADIOB_PERVOL);
+    same("ADIOF_SYNCCYCLE", ADIOF_SYNCCYCLE, 1u << ADIOB_SYNCCYCLE);
+    same("ADIOF_NOWAIT", ADIOF_NOWAIT, 1u << ADIOB_NOWAIT);
+    same("ADIOF_WRITEMESSAGE", ADIOF_WRITEMESSAGE, 1u << ADIOB_WRITEMESSAGE);
+    same("CMD_INVALID", CMD_INVALID, CMD_RESET - 1);
+    same("CMD_NONSTD", CMD_NONSTD, CMD_FLUSH + 1);
+    same("ADCMD_FREE", ADCMD_FREE, CMD_NONSTD);
+    same("ADCMD_WAITCYCLE", ADCMD_WAITCYCLE, CMD_NONSTD + 5);
+    same("precedences", ADALLOC_MAXPREC - ADALLOC_MINPREC, 255);
+}
+
 int main(void)
 {
+    version();
+    names();
+    entries();
     same("state", QAMHUDEER_STATE_SIZE, qamhudeer_state_size());
     same("table", QAMHUDEER_TABLE_SIZE, qamhudeer_table_size());
     same("display", QAMHUDEER_DISPLAY_SIZE, qamhudeer_display_size());

@@ -1,7 +1,8 @@
 #!/bin/sh
 # What a customer takes home: the package is built twice to the same bytes, unpacked, and installed under a prefix; a program in
-# another folder is built against each by pkg-config alone, in C and in C++, and run; the version is one; every command at the top
-# explains itself and refuses a wrong option. The last line is 'N passed, M failed'. What cannot be run here is told by a line
+# another folder is built against each by pkg-config alone, in C and in C++, and run; a desk in Python runs over the shared library;
+# every page that a page names is there; the version is one; every command at the top explains itself and refuses a wrong option.
+# tests/tools.sh has the package of the tools. The last line is 'N passed, M failed'. What cannot be run here is told by a line
 # 'NOT RUN: ..', and counts as neither. scripts/library.sh says which compilers are used.
 . "$(dirname "$0")/begin.sh"
 . "$root/scripts/commit.sh"
@@ -39,10 +40,12 @@ check "./package refuses a word" refuses ./package unpack
 check "./package refuses an install to nowhere" refuses ./package install
 check "./package refuses an option for a prefix" refuses ./package install --prefix
 check "./package refuses two prefixes" refuses ./package install "$work/one" "$work/two"
+check "./package refuses a word behind tools" refuses ./package tools "$work/one"
 check "./trials refuses an option behind its words" refuses ./trials 1 --no-such-option
 check "./trials gate refuses an option" refuses ./trials gate --no-such-option
 check "bench/run refuses an option behind its words" refuses bench/run 1000 --no-such-option
 check "bench/run refuses an --against of no program" refuses bench/run --against
+check "bench/run refuses an --against of no library" refuses bench/run --against second/arbiter2 "$work/none.a"
 
 # ---- The package
 
@@ -66,11 +69,34 @@ unpacked() {
 # has_all: every file that a customer is promised, each as it stands here.
 has_all() {
     cmp target/staticlib/libqamhudeer.a "$tree/lib/libqamhudeer.a" && cmp include/qamhudeer.h "$tree/include/qamhudeer.h" &&
-        [ -s "$tree/lib/pkgconfig/qamhudeer.pc" ] && cmp docs/desk.md "$tree/$documents/desk.md" &&
-        cmp CHANGELOG.md "$tree/$documents/CHANGELOG.md" || return
-    for example in examples/*.c examples/*.out; do
+        cmp include/qamhudeer_desk.h "$tree/include/qamhudeer_desk.h" &&
+        [ -s "$tree/lib/pkgconfig/qamhudeer.pc" ] && cmp CHANGELOG.md "$tree/$documents/CHANGELOG.md" || return
+    for page in desk saved inspector bench PROMISES; do
+        cmp "docs/$page.md" "$tree/$documents/$page.md" || return
+    done
+    for example in examples/*.c examples/*.py examples/*.out; do
         cmp "$example" "$tree/$documents/$example" || return
     done
+}
+
+# ---- The shared library
+
+shared=lib/libqamhudeer.so.${number%%.*}
+
+# exports SHARED: every function of the archive, and no other; its name is its file's.
+exports() {
+    nm -g --defined-only target/staticlib/libqamhudeer.a | awk '$2 == "T" { print $3 }' | sort >"$work/in-archive" &&
+        nm -D --defined-only "$1" | awk '$2 == "T" { print $3 }' | sort >"$work/in-shared" && [ -s "$work/in-archive" ] &&
+        diff "$work/in-archive" "$work/in-shared" && objdump -p "$1" | grep -q "SONAME *${shared##*/}\$"
+}
+
+# in_python SHARED: the desk in Python writes what the one in C does.
+in_python() {
+    python3 "$tree/$documents/examples/desk.py" "$1" >"$work/out" && cmp "$work/out" examples/desk.out
+}
+
+not() {
+    ! "$@"
 }
 
 # says WORDS: the page of the installed package has them.
@@ -117,20 +143,6 @@ made_cxx() {
         (cd "$away" && $cxx -std=c++11 -O2 -Wall -Wextra -pedantic -Werror -o in-c++ program.cc $words) && gives in-c++
 }
 
-# find_cxx: a C++ compiler for x86-64, as linker_ready finds one for C.
-find_cxx() {
-    if [ "$(uname -m)" = x86_64 ]; then
-        set -- ${CXX:-} g++ c++ clang++
-    else
-        set -- "${CXX_X86_64:-x86_64-linux-gnu-g++} -static"
-    fi
-    for cxx; do
-        echo 'int main() { return 0; }' | $cxx -std=c++11 -x c++ -o "$work/try" - >/dev/null 2>&1 && return
-    done
-    cxx=
-    return 1
-}
-
 cxx_ready() {
     find_cxx && return
     if [ "$(uname -m)" = x86_64 ]; then
@@ -158,6 +170,29 @@ check "names in order, one owner, the commit's time" plain_entries
 check "it unpacks to one folder" unpacked
 tree=$work/unpacked/qamhudeer-$number
 check "it has all that it should" has_all
+check "every page that a page names is there" sh tests/closed "$tree/$documents"
+check "the shared library has the archive's functions" exports "$tree/$shared"
+command -v python3 >/dev/null || install_packages python3
+if [ "$(uname -m)" = x86_64 ] && command -v python3 >/dev/null; then
+    check "a desk in Python" in_python "$tree/$shared"
+    sed 's/, error {signed(r\[2\])}/, error {r[2]}/' examples/desk.py >"$work/desk.py"
+    wrong_python() { python3 "$work/desk.py" "$tree/$shared" | cmp - examples/desk.out; }
+    check "a desk in Python that reads errors wrongly is found" not wrong_python
+else
+    leave "a desk in Python: the machine is not x86-64, or no python3 is here, and none could be installed"
+fi
+
+# Wrong packages, which must be found: a page is missing, a page names another, a function is missing.
+for page in saved inspector two-runs; do
+    rm -rf "$work/short" && cp -R "$tree/$documents" "$work/short" && rm "$work/short/$page.md"
+    check "a package without $page.md is found" not sh tests/closed "$work/short"
+done
+rm -rf "$work/short" && cp -R "$tree/$documents" "$work/short" && echo 'See docs/elsewhere.md.' >>"$work/short/bench.md"
+check "a page that names another is found" not sh tests/closed "$work/short"
+echo 'unsigned char qamhudeer_fresh(void) { return 0; }' >"$work/few.c"
+if linker_ready && ${linker% -static} -shared -Wl,-soname,"${shared##*/}" -o "$work/few.so" "$work/few.c"; then
+    check "a shared library without the calls is found" not exports "$work/few.so"
+fi
 prefix=$work/prefix
 check "it is installed" ./package install "$prefix"
 check "what is installed is what is packed" diff -r "$tree" "$prefix"
@@ -167,6 +202,7 @@ kit=$(rt version)
 check "the page says which commit" says "| $here |"
 check "the page says which kit" says "| $kit |"
 check "the page has the library's sum" says "$(sha256sum <target/staticlib/libqamhudeer.a | cut -d ' ' -f 1)"
+check "and the shared library's" says "$(sha256sum <"$tree/$shared" | cut -d ' ' -f 1)"
 left_by "$here" "$kit" '12345 passed, 0 failed'
 case $here in
 *' '*) check "a tree with changes was not checked, whatever was left" owns_up "$work/checked" '12345 passed' ;;
@@ -216,6 +252,4 @@ else
     leave "a program with the package: no pkg-config is here, and none could be installed"
 fi
 
-echo "$passed passed, $failed failed"
-[ $failed -eq 0 ] || exit 1
-[ $left -eq 0 ] || exit $skipped
+finish

@@ -113,6 +113,11 @@ else
     says 1 'not accepted' check 3 0 ''
     says 1 'not accepted' check 0 3 00
     says 1 'not accepted' check 2 1 09
+    says 0 03050A0C 0001 1
+    says 0 03050A0C 1 00000000000000000001
+    says 0 accepted check 0001 01 0C0A0503
+    says 1 'not accepted' check 0003 1 0C0A0503
+    refused 0003 1
     refused 3 0
     refused 0 3
     refused 255 255

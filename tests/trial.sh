@@ -6,10 +6,13 @@
 #   usual          how many logs, where no number is given
 #   parts          the parts of its program in C, folder/name, its own first
 #   play_wrong     the wrong programs: prepare_wrong, then each
-#   log NUMBER     makes a log in $work/log, and says in $made how; also $chance and $board, and the test's $tries, for play
+#   lines, tries   how many lines a log has; how often each of its calls is tried, for play
 #
-# and has these, of which it may say the first three otherwise:
+# and has these, of which it may say the first five otherwise:
 #
+#   styles                     those of second/generate, for log
+#   log NUMBER                 makes a log in $work/log, of each style and for both boards in turn, and says in $made how; also $chance
+#                              and $board, for play
 #   play PROGRAM               plays the log: status 0 where there is no difference, and what the program said in $work/said
 #   tell_counts                what was tried, by sums: status 1 where something was never met
 #   reaches                    status 1 where something else was never met
@@ -22,6 +25,20 @@
 #   must_differ NAME WORDS..   the program made from these finds a difference in one of forty logs
 #   objects_but PART           those of all other parts
 #   wrong NAME FILE OLD NEW    in a copy of the file OLD, which stands there once, is NEW: that must differ
+styles='mix locks nowait queues full aborts precedences refusals malformed lists bytes ties opens cuts cycles desks display'
+styles="$styles many-locks many-steals many-entries many-waiting"
+
+log() {
+    number=$1
+    set -- $styles
+    # At each round the boards change places.
+    board=$((4 + (number % $# + number / $#) % 2 * 4))
+    shift $((number % $#))
+    chance=$((seed * 100000 + number))
+    made="generate $chance $lines $1 $board"
+    second/$made >"$work/log" || die "second/$made fails"
+}
+
 play() {
     run_c "$1" $chance $tries $board <"$work/log" >"$work/said" 2>&1
 }

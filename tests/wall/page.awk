@@ -32,5 +32,6 @@ END {
               " writes " value[c, "writes"] " naming " value[c, "naming"]
     }
     for (i = 1; i <= waits; i++)
-        print "waits " waiting[i, "desk"] " " waiting[i, "id"] " " waiting[i, "precedence"] " held " (waiting[i, "held"] == "held")
+        print "waits " waiting[i, "desk"] " " waiting[i, "id"] " " waiting[i, "precedence"] " held " (waiting[i, "held"] == "held") \
+              " since " waiting[i, "since"]
 }

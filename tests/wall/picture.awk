@@ -4,17 +4,18 @@ function field(from, width,    text) {
     gsub(/ /, "", text)
     return text
 }
-function cell(text,    part, count) {
+function cell(text,    part, count, at) {
     count = split(text, part, " ")
     if (part[1] == "and")
         return "more " part[2]
-    return "waits " part[1] " " part[2] " " part[3] " held " (part[4] == "held" ? 1 : 0)
+    at = index(text, " since ")
+    return "waits " part[1] " " part[2] " " part[3] " held " (part[4] == "held" ? 1 : 0) " since " (substr(text, at + 7) + 0)
 }
 function end(    column, row) {
-    for (column = 0; column < 3; column++)
+    for (column = 0; column < 2; column++)
         for (row = 1; row <= rows; row++)
-            if (substr(cells[row], 26 * column + 1, 26) ~ /[^ ]/)
-                print cell(substr(cells[row], 26 * column + 1, 26))
+            if (substr(cells[row], 39 * column + 1, 39) ~ /[^ ]/)
+                print cell(substr(cells[row], 39 * column + 1, 39))
     rows = waits = 0
 }
 /^AFTER CALL / { print "call " $3 " looks " $NF }

@@ -2,7 +2,7 @@
 #
 #   call N looks L
 #   channel C key K precedence P locked 0|1 stopped 0|1 writes W naming M
-#   waits A|B ID PRECEDENCE held 0|1
+#   waits A|B ID PRECEDENCE held 0|1 since CALL      since it stands there without a break
 #   more N               where there are more than 'room': the last place is taken by their number
 #   reply C0.., answer A0..     with said=1
 #
@@ -34,6 +34,10 @@ function end(    i) {
     }
 }
 /^E1/ {
-    waiting[++waits] = "waits " (byte($0, 4) ? "B" : "A") " " byte($0, 1) " " signed(byte($0, 2)) " held " byte($0, 3)
+    id = byte($0, 1)
+    if (stood[id] != call - 1)
+        since[id] = call
+    stood[id] = call
+    waiting[++waits] = "waits " (byte($0, 4) ? "B" : "A") " " id " " signed(byte($0, 2)) " held " byte($0, 3) " since " since[id]
 }
 END { end() }

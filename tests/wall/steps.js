@@ -16,7 +16,8 @@ window.onload = () => {
                 ` writes ${text(c, "writes")} naming ${text(c, "naming")}`);
     }
     for (const row of document.querySelectorAll("#list tr"))
-      seen.push(`waits ${text(row, "desk")} ${text(row, "id")} ${text(row, "precedence")} held ${+(text(row, "held") === "held")}`);
+      seen.push(`waits ${text(row, "desk")} ${text(row, "id")} ${text(row, "precedence")} held ${+(text(row, "held") === "held")}` +
+                ` since ${text(row, "since")}`);
     for (const c of document.querySelectorAll("article")) {
       const naming = [...document.querySelectorAll("#list tr")].filter(row => text(row, "channels").includes(c.dataset.channel));
       if (naming.length !== Number(text(c, "naming"))) seen.push(`miscounted ${c.dataset.channel}`);

@@ -15,7 +15,7 @@ use Rattle.machine.specs.State.{Channel as ChannelM, Lock, Reply, State as Stat
 use Rattle.machine.specs.Commands.{without, leaving}
 use Rattle.machine.proofs.Tests.{by-test, test-true, test-false, nor-left, nor-right, and-left, and-right}
 use Rattle.machine_laws.proofs.Lists.{among-append, keep-append, keep-length, sub-keep}
-use Rattle.machine_laws.proofs.Sound.{Parts}
+use Rattle.machine_laws.specs.Sound.{Parts}
 use Rattle.store.specs.Store.{Item, writeItem, lockItem, waiterItem, waitItem, writeItems, items, lookup, entries, tableOf, Long, Good}
 use Rattle.store.proofs.Table.{entries-splice, lookup-there, good-sub}
 use Rattle.store.proofs.Store.{parts-long, good-of}

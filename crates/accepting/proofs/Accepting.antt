@@ -18,7 +18,7 @@ use Rattle.store.specs.declared.State.{State as Struct}
 use Rattle.store.specs.Store.{tableOf}
 use Rattle.board.specs.declared.Board.{Board}
 use Rattle.memory.specs.Splice.{splice}
-use Rattle.board.specs.Board.{sized, structOf, stateIn, Held}
+use Rattle.board.specs.Board.{sized, freshBoard, structOf, stateIn, Held}
 use Rattle.board.proofs.Laws.{held-of, held-width, one-state, stateIn-of}
 use Rattle.sound.specs.Sound.{Decides, boardTest}
 use Rattle.sound.proofs.Own.{decides}
@@ -29,7 +29,7 @@ use Rattle.read_back.proofs.WholeText.{text-read}
 use Rattle.hex_lines.specs.HexLines.{Put}
 use Rattle.saving.proofs.Laws.{front}
 use Rattle.accepting.specs.declared.Found.{Found}
-use Rattle.accepting.specs.Accepting.{opening, Yes, Accepts}
+use Rattle.accepting.specs.Accepting.{opening, Yes, Finds, Accepts}
 
 pub false-true : false ≡ true → ⊥
 false-true e = subst (λ (b : Bool). T b) (sym e) tt
@@ -55,16 +55,16 @@ pub text-opens : (s : State) → take 5 (text s) ≡ opening
 unfolding text spelt line hexDigit
 text-opens s = refl
 
-pub short-opening : (t : List ℕ) → length t < 5 → take 5 t ≡ opening → ⊥
-unfolding line hexDigit
-short-opening t h e = let n = ap length e in let k = take-all 5 t (omega arith) in let m = ap length k in omega arith
+pub short-opening : (t l : List ℕ) → length t < length l → take (length l) t ≡ l → ⊥
+short-opening t l h e = let m = ap length e in let k = take-all (length l) t (omega arith) in let q = ap length k in omega arith
 
-pub opens-so : (t : List ℕ) {r : Bool} → Decides r (take 5 t ≡ 68 ∷ 48 ∷ 48 ∷ 49 ∷ 10 ∷ []) → Decides r (take 5 t ≡ opening)
+pub opening-is : opening ≡ 68 ∷ 48 ∷ 48 ∷ 49 ∷ 10 ∷ []
 unfolding line hexDigit
-opens-so t d = record { only = d .only; always = d .always }
+opening-is = refl
 
 pub opening-length : (t : List ℕ) → take 5 t ≡ opening → 5 ≤ length t
-opening-length t e = by-test (leb 5 (length t)) (λ h. leb→le 5 (length t) h) (λ h. absurd (short-opening t (nleb→lt 5 (length t) h) e))
+opening-length t e = by-test (leb 5 (length t)) (λ h. leb→le 5 (length t) h)
+    (λ h. absurd (short-opening t (68 ∷ 48 ∷ 48 ∷ 49 ∷ 10 ∷ []) (nleb→lt 5 (length t) h) (e ∙ opening-is)))
 
 pub took-from : (t : List ℕ) {x tb tb′ : List ℕ} {st : Struct} → tb ≡ x → Took (readFrom t tb) st tb′ → Took (readFrom t x) st tb′
 took-from t {tb′ = tb′} {st = st} e r = subst (λ z. Took (readFrom t z) st tb′) e r
@@ -94,18 +94,20 @@ module _ {t : List ℕ} {s : State} (h : TextOf 4 s t) {st : Struct} {tb : List 
 
 -- ---- case by case
 
-pub unopened : {t : List ℕ} (f : Found) (tb : List ℕ) → f .ok ≡ false → (take 5 t ≡ opening → ⊥) → Accepts t f tb
+pub unopened : {t : List ℕ} (f : Found) (tb : List ℕ) → f .ok ≡ false → (take 5 t ≡ opening → ⊥) → Finds t f tb
 unopened f tb e n =
     record {
       yes = λ o. absurd (false-true (sym e ∙ o));
       no = λ _ s h. n (ap (take 5) (h .saved) ∙ text-opens s);
     }
 
-pub unsound : {t : List ℕ} (f : Found) {st : Struct} {tb : List ℕ} → f .ok ≡ false → Took (readFrom (drop 5 t) (replicate 1472 0)) st tb → (Held (boardOf st) tb → ⊥) → Accepts t f tb
+pub unsound : {t : List ℕ} (f : Found) {st : Struct} {tb : List ℕ} → f .ok ≡ false
+    → Took (readFrom (drop 5 t) (replicate 1472 0)) st tb → (Held (boardOf st) tb → ⊥) → Finds t f tb
 unsound f e r n = record { yes = λ o. absurd (false-true (sym e ∙ o)); no = λ _ s h. n (read-held h r) }
 
 pub compared : {t : List ℕ} {st : Struct} {tb : List ℕ} {ok : Bool} {z page : List ℕ} {n : ℕ} → Took (readFrom (drop 5 t) (replicate 1472 0)) st tb → Held (boardOf st) tb
-    → Put z 0 (text (stateIn (boardOf st) tb)) n page → Decides ok (t ≡ take n page) → Accepts t (record { ok = ok; board = boardOf st }) tb
+    → Put z 0 (text (stateIn (boardOf st) tb)) n page → Decides ok (t ≡ take n page)
+    → Finds t (record { ok = ok; board = boardOf st }) tb
 compared {t} {st} {tb} {ok} {z} {page} {n} r h p d =
     let u = stateIn (boardOf st) tb in
     let k : n ≡ length (text u) = let m = p .next in omega arith in
@@ -114,6 +116,52 @@ compared {t} {st} {tb} {ok} {z} {page} {n} r h p d =
       yes = λ o. record { held = h; text = record { sane = h .sane; width = sym (held-width h); saved = d .only o ∙ e } };
       no = λ o s q. false-true (sym o ∙ d .always (q .saved ∙ (ap text (sym (read-state q r)) ∙ sym e)));
     }
+
+-- ---- what is handed back
+
+pub blank-found : {b : Board} {w : ℕ} → b ≡ freshBoard w
+    → _≡_ {A = Found} (record { ok = false; board = b }) (record { ok = false; board = freshBoard w })
+blank-found e i = record { ok = false; board = e i }
+
+pub refused : {t : List ℕ} {f g : Found} {tb tb′ : List ℕ} → Finds t f tb → f .ok ≡ false
+    → g ≡ record { ok = false; board = freshBoard 4 } → tb′ ≡ replicate 1472 0
+    → Accepts t g tb′
+refused x o e z =
+    record {
+      yes = λ y. absurd (false-true (sym (ap (λ (h : Found). h .ok) e) ∙ y));
+      no = λ _. x .no o;
+      blank = λ _. (ap (λ (h : Found). h .board) e, z);
+    }
+
+pub kept : {t : List ℕ} {f : Found} {tb : List ℕ} → Finds t f tb → f .ok ≡ true → Accepts t f tb
+kept x o = record { yes = x .yes; no = x .no; blank = λ n. absurd (false-true (sym n ∙ o)) }
+
+-- ---- no second outcome fits
+
+-- a state that is held is handed back in one way
+pub held-once : {b b₂ : Board} {tb tb₂ : List ℕ} → Held b tb → Held b₂ tb₂ → stateIn b tb ≡ stateIn b₂ tb₂
+    → (b ≡ b₂) × (tb ≡ tb₂)
+held-once h g e = (h .struct ∙ ap structOf e ∙ sym (g .struct), h .table ∙ ap tableOf e ∙ sym (g .table))
+
+pub found-same : {f g : Found} → f .ok ≡ g .ok → f .board ≡ g .board → f ≡ g
+found-same a b i = record { ok = a i; board = b i }
+
+pub one-accepting : {t : List ℕ} {f g : Found} {tb tb₂ : List ℕ} → Accepts t f tb → Accepts t g tb₂ → (f ≡ g)
+    × (tb ≡ tb₂)
+one-accepting {t} {f} {g} {tb} {tb₂} x y = go (f .ok) (g .ok) refl refl
+  where
+    go : (a b : Bool) → f .ok ≡ a → g .ok ≡ b → (f ≡ g) × (tb ≡ tb₂)
+    go true true e d =
+        let p = x .yes e in
+        let q = y .yes d in
+        let h = held-once (p .held) (q .held) (one-spelling (p .text) (q .text)) in
+        (found-same (e ∙ sym d) (h .0), h .1)
+    go true false e d = absurd (y .no d _ (x .yes e .text))
+    go false true e d = absurd (x .no e _ (y .yes d .text))
+    go false false e d =
+        let p = x .blank e in
+        let q = y .blank d in
+        (found-same (e ∙ sym d) (p .0 ∙ sym (q .0)), p .1 ∙ sym (q .1))
 
 -- ---- whether there is one
 

@@ -7,15 +7,21 @@ ghost use mathlib.Core.Path.{_≡_};
 ghost use lib.Dec.{T};
 ghost use lib.ListN.{replicate};
 ghost use Rattle.board.specs.Board.{sized};
-ghost use Rattle.accepting2.specs.Accepting2.{Accepts2};
+ghost use Rattle.accepting2.specs.Accepting2.{Finds2, Accepts2};
 
-// The board that a text of `width` channels holds, and its table.
-pub fn accept2(width: u8, text: &[u8], table: &mut [u8]) -> Found
+// What the text's lines behind the first two were read to, and whether it is what is saved of that.
+fn compare2(width: u8, text: &[u8], table: &mut [u8]) -> Found
     requires { ⌜ T (sized width) × (now table ≡ replicate 1472 0) ⌝ }
-    ensures { λ r. ⌜ Accepts2 width (now (text .entry)) r (now (table .exit)) ⌝ }
+    ensures { λ r. ⌜ Finds2 width (now (text .entry)) r (now (table .exit)) ⌝ }
 {
     let none = Board::fresh(width);
     if text.len() < 10 {
+        return Found {
+            ok: false,
+            board: none,
+        };
+    }
+    if !accepting::opens(text, b"D002\n") {
         return Found {
             ok: false,
             board: none,
@@ -35,4 +41,16 @@ pub fn accept2(width: u8, text: &[u8], table: &mut [u8]) -> Found
         ok: accepting::same(text, &page[..n]),
         board: b,
     }
+}
+
+// The board that a text of `width` channels holds, and its table.
+pub fn accept2(width: u8, text: &[u8], table: &mut [u8]) -> Found
+    requires { ⌜ T (sized width) × (now table ≡ replicate 1472 0) ⌝ }
+    ensures { λ r. ⌜ Accepts2 width (now (text .entry)) r (now (table .exit)) ⌝ }
+{
+    let f = compare2(width, text, table);
+    if !f.ok {
+        return accepting::blank(width, table);
+    }
+    f
 }

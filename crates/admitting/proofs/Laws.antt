@@ -17,15 +17,9 @@ use Rattle.image.proofs.Round.{bytes-each}
 use Rattle.gathering.specs.Lumps.{LINE}
 use Rattle.sizes.specs.Sizes.{PORT, ROOM}
 use Rattle.port.specs.Port.{startedIn, lineIn, portOf}
-use Rattle.admitting.specs.Admitting.{isPort, refusalFor, refusal}
+use Rattle.admitting.specs.Admitting.{isPort, refusalFor, refusal, Proper}
 
 -- ---- the tests
-
--- what `isPort` tests
-pub record Proper (p : List ℕ) : Type 0 where
-  pub long : length p ≡ PORT
-  pub few : startedIn p ≤ LINE
-  pub bytes : T (all isByte p)
 
 proper : (p : List ℕ) → T (isPort p) → Proper p
 unfolding isPort

@@ -19,7 +19,7 @@
 // beyond the replies. These are compared with copies made before the call.
 mod same;
 mod scene;
-mod words;
+mod terms;
 
 use scene::Scene;
 
@@ -32,24 +32,24 @@ struct Stage {
 
 fn change(p: Stage, text: &[u8], sign: u8, from: usize) -> Stage {
     let mut w = [0u8; 8];
-    words::spell(text, from, &mut w);
+    terms::spell(text, from, &mut w);
     let kept = p.kept;
     let s = p.now;
     let now = s.changed(sign, &w);
-    let next = words::after(text, words::find(text, from, b' '));
+    let next = terms::after(text, terms::find(text, from, b' '));
     Stage { kept, now, next }
 }
 
 // The array's type has its length, so that nothing is to be proved of it.
 fn made(s: Scene, text: &[u8], from: usize, w: &mut [u8; 1000007]) -> Scene {
-    let n = words::spell(text, from, w);
+    let n = terms::spell(text, from, w);
     s.call(w, s.length(n))
 }
 
 fn call(p: Stage, text: &[u8], sign: u8, from: usize) -> Stage {
-    let end = words::find(text, from, b'\n');
-    let name = words::after(text, words::find(text, from, b' '));
-    show::text(words::part(text, name, end));
+    let end = terms::find(text, from, b'\n');
+    let name = terms::after(text, terms::find(text, from, b' '));
+    show::text(terms::part(text, name, end));
     let mut w = [0u8; 1000007];
     let s = p.now;
     let t = made(s, text, from, &mut w);
@@ -57,14 +57,14 @@ fn call(p: Stage, text: &[u8], sign: u8, from: usize) -> Stage {
     Stage {
         kept,
         now: kept,
-        next: words::after(text, end),
+        next: terms::after(text, end),
     }
 }
 
 // A word, or the rest of the line from the call on.
 fn step(p: Stage, text: &[u8]) -> Stage {
-    let sign = words::at(text, p.next);
-    let from = words::after(text, p.next);
+    let sign = terms::at(text, p.next);
+    let from = terms::after(text, p.next);
     if sign == b'=' || sign == b'!' {
         return call(p, text, sign, from);
     }
@@ -75,7 +75,7 @@ fn step(p: Stage, text: &[u8]) -> Stage {
     Stage {
         kept,
         now: kept,
-        next: words::after(text, words::find(text, p.next, b'\n')),
+        next: terms::after(text, terms::find(text, p.next, b'\n')),
     }
 }
 

@@ -1,7 +1,7 @@
 // What a call is given beside the request, and the ways to change it. Assumes nothing.
 use crate::same;
-use crate::words;
-use crate::words::at;
+use crate::terms;
+use crate::terms::at;
 use answers::Request;
 use board::Board;
 use board::Outcome;
@@ -31,7 +31,7 @@ fn ask(w: &[u8]) -> Request {
         flags: at(w, 2),
         map: at(w, 3),
         prec: handed::stored(at(w, 4)),
-        key: words::pair(at(w, 5), at(w, 6)),
+        key: terms::pair(at(w, 5), at(w, 6)),
     }
 }
 
@@ -55,7 +55,7 @@ fn pattern() -> [u8; 400] {
     list
 }
 
-// The call, on the first bytes of the table and of the reply list.
+// The call on the board's bytes, and on the first bytes of the table and of the reply list.
 fn cut(
     s: Board,
     w: &[u8],
@@ -70,15 +70,24 @@ fn cut(
     let m = least(room, list.len());
     let r = ask(w);
     let op = handed::op_of(r.command);
-    arbiter::call(
+    let mut bytes = [0u8; 823];
+    encoding::save(s, &mut bytes);
+    let d = arbiter::call(
         op,
         r,
-        s,
-        words::part(w, 7, n),
+        &mut bytes,
+        terms::part(w, 7, n),
         &mut table[..k],
         display,
         &mut list[..m],
-    )
+    );
+    let a = d.answer;
+    let t = decoding::load(&bytes);
+    Outcome {
+        answer: a,
+        state: t,
+        n: d.n,
+    }
 }
 
 // The same with arrays, whose lengths need no proof.
@@ -121,13 +130,13 @@ fn tell(
 
 // Where byte k of an id's entry stands in the table.
 fn place(id: u8, k: u8) -> usize {
-    words::large(id) * 23 + words::large(k)
+    terms::large(id) * 23 + terms::large(k)
 }
 
 // The queue with another count, and another id at a place.
 fn edited(q: Queue, w: &[u8]) -> Queue {
     let mut ids = q.ids;
-    let k = words::large(at(w, 2));
+    let k = terms::large(at(w, 2));
     if k < 64 {
         ids[k] = at(w, 3);
     }
@@ -137,9 +146,9 @@ fn edited(q: Queue, w: &[u8]) -> Queue {
 // The open keys with another count, and another key at a place.
 fn opened(q: Keys, w: &[u8]) -> Keys {
     let mut keys = q.keys;
-    let k = words::large(at(w, 1));
+    let k = terms::large(at(w, 1));
     if k < Keys::ROOM {
-        keys[k] = words::pair(at(w, 2), at(w, 3));
+        keys[k] = terms::pair(at(w, 2), at(w, 3));
     }
     Keys { n: at(w, 0), keys }
 }
@@ -289,7 +298,7 @@ impl Scene {
         let c = self.channel(i);
         let writes = c.writes;
         let d = Channel {
-            key: words::pair(at(w, 1), at(w, 2)),
+            key: terms::pair(at(w, 1), at(w, 2)),
             prec: handed::stored(at(w, 3)),
             locked: at(w, 4) == 1,
             stopped: at(w, 5) == 1,
@@ -318,10 +327,10 @@ impl Scene {
         match kind {
             b'N' => Scene::new(first),
             b'B' => self.with_byte(place(first, at(w, 1)), at(w, 2)),
-            b'C' => self.with_numbers(words::large(first), w),
-            b'W' => self.with_edit(words::large(first), w),
+            b'C' => self.with_numbers(terms::large(first), w),
+            b'W' => self.with_edit(terms::large(first), w),
             b'O' => self.with_opens(w),
-            _ => self.with_size(kind, words::triple(first, at(w, 1), at(w, 2))),
+            _ => self.with_size(kind, terms::triple(first, at(w, 1), at(w, 2))),
         }
     }
 }

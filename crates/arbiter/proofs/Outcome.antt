@@ -14,8 +14,10 @@ use Rattle.machine.specs.Commands.{done}
 use Rattle.machine.specs.Call.{call, inRange}
 use Rattle.machine.proofs.Tests.{and-both}
 use Rattle.machine_laws.proofs.Sound.{parts}
-use Rattle.machine_laws.proofs.Refusals.{refusals, mute, heard, ownReply, refused-same, refused-mute, refused-heard}
-use Rattle.machine_laws.proofs.KeepingCalls.{Counted, call-sound}
+use Rattle.machine_laws.specs.Refusals.{refusals, mute, heard, ownReply}
+use Rattle.machine_laws.proofs.Refusals.{refused-same, refused-mute, refused-heard}
+use Rattle.machine_laws.specs.Keeping.{Counted}
+use Rattle.machine_laws.proofs.KeepingCalls.{call-sound}
 use Rattle.machine_laws.proofs.Board.{call-wide}
 use Rattle.reply.specs.Replies.{sent}
 use Rattle.store.specs.Store.{tableOf}
@@ -32,12 +34,7 @@ use Rattle.refusals.specs.Refusals.{opIn, askedOf}
 use Rattle.arbiter.specs.Arbiter.{Unmoved, Handled, Called}
 use Rattle.refusing.proofs.Laws.{false-true}
 use Rattle.deciding.proofs.Laws.{bytes-cycles}
-
--- the same answer, board, count, table and list
-pub record Same (d d₂ : Outcome) (tb tb₂ l l₂ : List ℕ) : Type 0 where
-  pub outcome : d ≡ d₂
-  pub table : tb ≡ tb₂
-  pub list : l ≡ l₂
+use Rattle.arbiter.specs.Outcome.{Same}
 
 outcome-parts : (d d₂ : Outcome) → d .answer ≡ d₂ .answer → d .state ≡ d₂ .state → d .n ≡ d₂ .n → d ≡ d₂
 outcome-parts d d₂ a s n i = record { answer = a i; state = s i; n = n i }

@@ -72,7 +72,7 @@ module _ (l : List ℕ) {o : Op} {r : Request} {b : Board} {ms tb : List ℕ} {e
             subst (λ (x : StateM). refusal (opIn o (r .command)) c₀ x ≡ accepted) (sym (held-wide h .1)) (accepted-wide k₀ c₀ u₀ (held-parts h) (omega arith) (opIn o (r .command)) a);
       }
 
-  done-wide : answering (decisionOf e) c₀ (wideIn (b .state) tb) ≡ widenO k₀ (call u₀ c₀)
+  pub done-wide : answering (decisionOf e) c₀ (wideIn (b .state) tb) ≡ widenO k₀ (call u₀ c₀)
   done-wide =
       ap (λ (x : Refusal). answering x c₀ (wideIn (b .state) tb)) decision
       ∙ (ap (answering (refusal (c₀ .op) c₀ u₀) c₀) (held-wide h .1) ∙ call-wide k₀ u₀ c₀ (held-parts h) in-range)

@@ -1,6 +1,6 @@
 -- What the program begins with is ready, and a call of `fill` or `finish` leaves it so. Assumes nothing.
 use Prim.Native.Nat.{ℕ, _+_, _-_, _≤_, _<_}
-use mathlib.Core.Path.{_≡_, ap}
+use mathlib.Core.Path.{_≡_, ap, subst}
 use mathlib.Core.Bool.{Bool, true, false}
 use mathlib.Core.List.{List}
 use native.Mathlib.Nat.{zero-add}
@@ -9,8 +9,11 @@ use lib.ListN.{length, take, drop, length-drop}
 use lib.Seq.{take-all}
 use Rattle.machine.specs.Lists.{if_then_else_}
 use Rattle.taking.specs.declared.Show.{Show}
-use Rattle.taking.specs.declared.Taken.{Taken}
-use Rattle.taking.specs.Desk.{deskOf, needed, filled}
+use Rattle.taking.specs.Desk.{Taken, deskOf, needed, filled, finished}
+use Rattle.board.specs.declared.Board.{Board}
+use Rattle.board.specs.Board.{Held}
+use Rattle.image.specs.Image.{stateOf, Whole, Saved}
+use Rattle.image.proofs.Round.{saved-state}
 use Rattle.paging.specs.Paging.{Fills}
 use Rattle.finishing.specs.Finishing.{Finishes}
 use Rattle.whole_log.proofs.Progress.{Went, desk-good, fills-went, fills-on, finished-went, left-held, left-shown, left-within, left-inside, left-size, left-used}
@@ -30,15 +33,25 @@ enough show {k} h = go (show .channels) (show .display)
     go false false = omega arith
 
 -- a call of `fill` on an empty page
-module _ {show : Show} {d : Desk} {tb dp l page bs : List ℕ} {t : Taken} {l′ tb′ dp′ page′ : List ℕ} (r : Ready d tb dp page) (w : Fills show (d .state) tb dp l (d .line) bs page 0 t l′ tb′ dp′ page′) where
-  went : Went (deskOf (d .state) tb dp l (d .line) page 0) (length bs) (filled show (deskOf (d .state) tb dp l (d .line) page 0) bs)
+module _ {show : Show} {d : Desk} {st tb dp l page bs : List ℕ} {t : Taken} {l′ tb′ dp′ page′ : List ℕ}
+    (r : Ready d st tb dp page)
+    (w : Fills show (stateOf st) tb dp l (d .line) bs page 0 t l′ tb′ dp′ page′) where
+  went : Went (deskOf (stateOf st) tb dp l (d .line) page 0) (length bs) (filled show (deskOf (stateOf st) tb dp l (d .line) page 0) bs)
   went = fills-went w (r .held) (r .shown) (r .within) (omega arith)
 
-  pub fill-ready : (ok : Bool) → Ready (record { state = t .state; line = t .line; ok = ok }) tb′ dp′ page′
-  fill-ready ok =
+  pub fill-ready : (st′ : List ℕ) → Whole st′ → t .state ≡ stateOf st′ → (ok : Bool)
+      → Ready (record { line = t .line; ok = ok }) st′ tb′ dp′ page′
+  fill-ready st′ f q ok =
       let e = left-size went (w .leaves) in
       let m = r .room in
-      record { held = left-held went (w .leaves); shown = left-shown went (w .leaves); within = left-within went (w .leaves); room = omega arith }
+      record {
+        whole = f;
+        held = subst (λ (b : Board). Held b tb′) q (left-held went (w .leaves));
+        shown = left-shown went
+            (w .leaves);
+        within = left-within went (w .leaves);
+        room = omega arith;
+      }
 
   pub fill-inside : t .at ≤ length page′
   fill-inside = left-inside went (w .leaves)
@@ -50,8 +63,10 @@ module _ {show : Show} {d : Desk} {tb dp l page bs : List ℕ} {t : Taken} {l′
   fill-some h = fills-on w (r .held) (r .shown) (r .within) (enough show (r .room)) h
 
 -- on the rest of a lump: some of it is used, and no more than there is
-pub fill-on : {show : Show} {d : Desk} {tb dp l page : List ℕ} {t : Taken} {l′ tb′ dp′ page′ : List ℕ} (input : List ℕ) (from : ℕ) → Ready d tb dp page → from < length input
-    → Fills show (d .state) tb dp l (d .line) (take (length input - from) (drop from input)) page 0 t l′ tb′ dp′ page′ → (from + t .used ≤ length input) × (from < from + t .used)
+pub fill-on : {show : Show} {d : Desk} {st tb dp l page : List ℕ} {t : Taken} {l′ tb′ dp′ page′ : List ℕ} (input : List ℕ)
+    (from : ℕ) → Ready d st tb dp page → from < length input
+    → Fills show (stateOf st) tb dp l (d .line) (take (length input - from) (drop from input)) page 0 t l′ tb′ dp′ page′
+    → (from + t .used ≤ length input) × (from < from + t .used)
 fill-on input from r h w =
     let e = length-drop from input in
     let c = ap length (take-all (length input - from) (drop from input) (omega arith)) in
@@ -59,22 +74,39 @@ fill-on input from r h w =
     let b = fill-some r w (omega arith) in
     (omega arith, omega arith)
 
-pub finish-inside : {show : Show} {d : Desk} {tb dp l page : List ℕ} {t : Taken} {tb′ dp′ page′ : List ℕ} → Ready d tb dp page → Finishes show (d .state) tb dp l (d .line) page 0 t tb′ dp′ page′
-    → t .at ≤ length page′
-finish-inside {show} {d} {tb} {dp} {l} {page} r w =
-    left-inside (finished-went show (deskOf (d .state) tb dp l (d .line) page 0) (desk-good l (r .held) (r .shown) (r .within) (omega arith))) (w .leaves)
+module _ {show : Show} {d : Desk} {st tb dp l page : List ℕ} {t : Taken} {tb′ dp′ page′ : List ℕ} (r : Ready d st tb dp page)
+    (w : Finishes show (stateOf st) tb dp l (d .line) page 0 t tb′ dp′ page′) where
+  ended : Went (deskOf (stateOf st) tb dp l (d .line) page 0) 0 (finished show (deskOf (stateOf st) tb dp l (d .line) page 0))
+  ended = finished-went show (deskOf (stateOf st) tb dp l (d .line) page 0) (desk-good l (r .held) (r .shown) (r .within) (omega arith))
 
-pub finish-ready : {show : Show} {d : Desk} {tb dp l page : List ℕ} {t : Taken} {tb′ dp′ page′ : List ℕ} → Ready d tb dp page → Finishes show (d .state) tb dp l (d .line) page 0 t tb′ dp′ page′
-    → (ok : Bool) → Ready (record { state = t .state; line = t .line; ok = ok }) tb′ dp′ page′
-finish-ready {show} {d} {tb} {dp} {l} {page} r w ok =
-    let x = deskOf (d .state) tb dp l (d .line) page 0 in
-    let v = finished-went show x (desk-good l (r .held) (r .shown) (r .within) (omega arith)) in
-    let e = left-size v (w .leaves) in
-    let m = r .room in
-    record { held = left-held v (w .leaves); shown = left-shown v (w .leaves); within = left-within v (w .leaves); room = omega arith }
+  pub finish-inside : t .at ≤ length page′
+  finish-inside = left-inside ended (w .leaves)
+
+  pub finish-ready : (st′ : List ℕ) → Whole st′ → t .state ≡ stateOf st′ → (ok : Bool)
+      → Ready (record { line = t .line; ok = ok }) st′ tb′ dp′ page′
+  finish-ready st′ f q ok =
+      let e = left-size ended (w .leaves) in
+      let m = r .room in
+      record {
+        whole = f;
+        held = subst (λ (b : Board). Held b tb′) q (left-held ended (w .leaves));
+        shown = left-shown ended
+            (w .leaves);
+        within = left-within ended (w .leaves);
+        room = omega arith;
+      }
 
 -- where the program begins
 
 module _ {load second : Bool} {w : ℕ} {tb dp : List ℕ} where
-  pub begun-ready : {f : Found} {ok : Bool} {page : List ℕ} → Begins load second w f tb dp → f .ok ≡ true → 65536 ≡ length page → Ready (record { state = f .board; line = 0; ok = ok }) tb dp page
-  begun-ready e o n = record { held = e .held o; shown = e .shown; within = omega arith; room = omega arith }
+  pub begun-ready : {f : Found} {ok : Bool} {st page : List ℕ} → Begins load second w f tb dp → f .ok ≡ true
+      → Saved (f .board) st → 65536 ≡ length page
+      → Ready (record { line = 0; ok = ok }) st tb dp page
+  begun-ready e o v n = record {
+    whole = v .whole;
+    held = rw (← saved-state v)
+        (e .held o);
+    shown = e .shown;
+    within = omega arith;
+    room = omega arith;
+  }

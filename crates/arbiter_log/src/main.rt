@@ -23,10 +23,9 @@ struct Asked {
     second: bool,
 }
 
-// What is kept from lump to lump of input. `line` is how much of a line stands that has not ended; `ok` is whether all was read
-// and written so far.
+// What is kept from lump to lump of input, beside the state in its bytes. `line` is how much of a line stands that has not ended; `ok` is
+// whether all was read and written so far.
 struct Desk {
-    state: Board,
     line: usize,
     ok: bool,
 }
@@ -52,28 +51,33 @@ fn write(page: &[u8], n: usize) -> bool
 fn lump(
     show: Show,
     desk: Desk,
-    line: &mut [u8; 527],
+    state: &mut [u8],
+    line: &mut [u8; audio::LINE_SIZE],
     input: &[u8],
     table: &mut [u8],
-    display: &mut [u8; 18],
+    display: &mut [u8; audio::DISPLAY_SIZE],
     page: &mut [u8],
 ) -> Desk
-    requires { ⌜ Ready desk (now table) (now display) (now page) ⌝ }
-    ensures { λ r. ⌜ Ready r (now (table .exit)) (now (display .exit)) (now (page .exit)) ⌝ }
+    requires { ⌜ Ready desk (now state) (now table) (now display) (now page) ⌝ }
+    ensures { λ r. ⌜ Ready r (now (state .exit)) (now (table .exit)) (now (display .exit)) (now (page .exit)) ⌝ }
 {
     let mut d = desk;
     let mut from: usize = 0;
     while from < input.len() {
-        let s = d.state;
         let n = d.line;
-        let t = paging::fill(show, s, line, n, &input[from..], table, display, page, 0);
+        let t = paging::fill(
+            show,
+            state,
+            line,
+            n,
+            &input[from..],
+            table,
+            display,
+            page,
+            0,
+        );
         let ok = write(page, t.at);
-        let q = t.state;
-        d = Desk {
-            state: q,
-            line: t.line,
-            ok,
-        };
+        d = Desk { line: t.line, ok };
         if !ok {
             return d;
         }
@@ -86,22 +90,21 @@ fn lump(
 fn turn(
     show: Show,
     d: Desk,
-    line: &mut [u8; 527],
+    state: &mut [u8],
+    line: &mut [u8; audio::LINE_SIZE],
     input: &mut [u8],
     table: &mut [u8],
-    display: &mut [u8; 18],
+    display: &mut [u8; audio::DISPLAY_SIZE],
     page: &mut [u8],
 ) -> Turned
-    requires { ⌜ Ready d (now table) (now display) (now page) ⌝ }
-    ensures { λ r. ⌜ Ready (r .desk) (now (table .exit)) (now (display .exit)) (now (page .exit)) ⌝ }
+    requires { ⌜ Ready d (now state) (now table) (now display) (now page) ⌝ }
+    ensures { λ r. ⌜ Ready (r .desk) (now (state .exit)) (now (table .exit)) (now (display .exit)) (now (page .exit)) ⌝ }
 {
     let got = libc::read(libc::STDIN_FILENO, input);
     // no bytes are the end of the log; an error is not, so what stands of a line is not answered
     if got < 0 {
         os::fail(b"read");
-        let s = d.state;
         let failed = Desk {
-            state: s,
             line: d.line,
             ok: false,
         };
@@ -117,7 +120,7 @@ fn turn(
             more: false,
         };
     }
-    let e = lump(show, d, line, &input[..k], table, display, page);
+    let e = lump(show, d, state, line, &input[..k], table, display, page);
     Turned {
         desk: e,
         more: e.ok,
@@ -128,19 +131,20 @@ fn turn(
 fn turns(
     show: Show,
     desk: Desk,
-    line: &mut [u8; 527],
+    state: &mut [u8],
+    line: &mut [u8; audio::LINE_SIZE],
     input: &mut [u8],
     table: &mut [u8],
-    display: &mut [u8; 18],
+    display: &mut [u8; audio::DISPLAY_SIZE],
     page: &mut [u8],
 ) -> Desk
-    requires { ⌜ Ready desk (now table) (now display) (now page) ⌝ }
-    ensures { λ r. ⌜ Ready r (now (table .exit)) (now (display .exit)) (now (page .exit)) ⌝ }
+    requires { ⌜ Ready desk (now state) (now table) (now display) (now page) ⌝ }
+    ensures { λ r. ⌜ Ready r (now (state .exit)) (now (table .exit)) (now (display .exit)) (now (page .exit)) ⌝ }
 {
     let mut d = desk;
     let mut left = u64::MAX;
     while left > 0 {
-        let t = turn(show, d, line, input, table, display, page);
+        let t = turn(show, d, state, line, input, table, display, page);
         let e = t.desk;
         d = e;
         if !t.more {
@@ -155,27 +159,22 @@ fn turns(
 fn last(
     show: Show,
     d: Desk,
-    line: &[u8; 527],
+    state: &mut [u8],
+    line: &[u8; audio::LINE_SIZE],
     table: &mut [u8],
-    display: &mut [u8; 18],
+    display: &mut [u8; audio::DISPLAY_SIZE],
     page: &mut [u8],
 ) -> Desk
-    requires { ⌜ Ready d (now table) (now display) (now page) ⌝ }
-    ensures { λ r. ⌜ Ready r (now (table .exit)) (now (display .exit)) (now (page .exit)) ⌝ }
+    requires { ⌜ Ready d (now state) (now table) (now display) (now page) ⌝ }
+    ensures { λ r. ⌜ Ready r (now (state .exit)) (now (table .exit)) (now (display .exit)) (now (page .exit)) ⌝ }
 {
     if !d.ok {
         return d;
     }
-    let s = d.state;
     let n = d.line;
-    let t = finishing::finish(show, s, line, n, table, display, page, 0);
+    let t = finishing::finish(show, state, line, n, table, display, page, 0);
     let ok = write(page, t.at);
-    let q = t.state;
-    Desk {
-        state: q,
-        line: t.line,
-        ok,
-    }
+    Desk { line: t.line, ok }
 }
 
 // A text, to where it is saved.
@@ -252,36 +251,43 @@ fn words() -> Asked {
 fn main() {
     let a = words();
     let w = width();
-    let mut table = [0u8; 1472];
-    let mut display = [0u8; 18];
+    let mut table = [0u8; audio::TABLE_SIZE];
+    let mut display = [0u8; audio::DISPLAY_SIZE];
     let f = beginning::begin(a.load, a.second, w, &mut table, &mut display);
     if !f.ok {
         io::write_all(libc::STDERR_FILENO, b"the text is refused\n");
         return;
     }
     let s = f.board;
-    let d = Desk {
-        state: s,
-        line: 0,
-        ok: true,
-    };
+    let mut state = [0u8; audio::STATE_SIZE];
+    encoding::save(s, &mut state);
+    let d = Desk { line: 0, ok: true };
     let show = a.show;
-    let mut line = [0u8; 527];
+    let mut line = [0u8; audio::LINE_SIZE];
     let mut input = io::large_buffer();
     let mut page = io::large_buffer();
     let e = turns(
         show,
         d,
+        &mut state,
         &mut line,
         &mut input,
         &mut table,
         &mut display,
         &mut page,
     );
-    let z = last(show, e, &line, &mut table, &mut display, &mut page);
+    let z = last(
+        show,
+        e,
+        &mut state,
+        &line,
+        &mut table,
+        &mut display,
+        &mut page,
+    );
     if a.save {
         if z.ok {
-            let b = z.state;
+            let b = decoding::load(&state);
             if a.second {
                 keep2(b, &table);
             } else {

@@ -17,7 +17,7 @@ use Rattle.machine.specs.Sound.{ids, writesOf}
 use Rattle.machine.specs.Commands.{playing, done, pending, finished, silent, doWaitcycle}
 use Rattle.machine.proofs.Tests.{and-both}
 use Rattle.machine_laws.proofs.Lists.{pigeon}
-use Rattle.machine_laws.proofs.Sound.{Parts}
+use Rattle.machine_laws.specs.Sound.{Parts}
 use Rattle.queue.specs.declared.Queue.{Queue}
 use Rattle.queue.specs.Queue.{queueOf, pushed}
 use Rattle.queue.proofs.Laws.{pushed-of}

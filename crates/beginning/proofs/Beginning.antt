@@ -39,22 +39,24 @@ module _ {load second : Bool} {w : ℕ} {tb dp : List ℕ} where
         shown = ap length b;
       }
 
-  pub begins-loaded : {t : List ℕ} {f : Found} → load ≡ true → second ≡ false → Resumes t f tb dp → length dp ≡ 18 → Begins load second w f tb dp
-  begins-loaded {t} y z r k =
+  pub begins-loaded : {t d : List ℕ} {f : Found} → load ≡ true → second ≡ false → d ≡ blank → Resumes t d f tb dp
+      → length dp ≡ 18 → Begins load second w f tb dp
+  begins-loaded {t} {f = f} y z e r k =
       record {
         fresh = λ n. absurd (false-true (sym n ∙ y));
-        loaded = λ _ _. record { text = t; resumes = r };
+        loaded = λ _ _. record { text = t; resumes = subst (λ (d : List ℕ). Resumes t d f tb dp) e r };
         loaded2 = λ _ m. absurd (false-true (sym z ∙ m));
         held = λ o. r .accepts .yes o .held;
         shown = k;
       }
 
-  pub begins-loaded2 : {t : List ℕ} {f : Found} → load ≡ true → second ≡ true → Resumes2 w t f tb dp → length dp ≡ 18 → Begins load second w f tb dp
-  begins-loaded2 {t} y z r k =
+  pub begins-loaded2 : {t d : List ℕ} {f : Found} → load ≡ true → second ≡ true → d ≡ blank → Resumes2 w t d f tb dp
+      → length dp ≡ 18 → Begins load second w f tb dp
+  begins-loaded2 {t} {f = f} y z e r k =
       record {
         fresh = λ n. absurd (false-true (sym n ∙ y));
         loaded = λ _ m. absurd (false-true (sym m ∙ z));
-        loaded2 = λ _ _. record { text = t; resumes = r };
+        loaded2 = λ _ _. record { text = t; resumes = subst (λ (d : List ℕ). Resumes2 w t d f tb dp) e r };
         held = λ o. r .accepts .yes o .held;
         shown = k;
       }

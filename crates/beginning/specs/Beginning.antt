@@ -16,11 +16,11 @@ use Rattle.carrying.specs.Carrying.{Resumes, Resumes2}
 
 pub record Loaded (f : Found) (tb dp : List ℕ) : Type 0 where
   pub text : List ℕ
-  pub resumes : Resumes text f tb dp
+  pub resumes : Resumes text blank f tb dp
 
 pub record Loaded2 (w : ℕ) (f : Found) (tb dp : List ℕ) : Type 0 where
   pub text : List ℕ
-  pub resumes : Resumes2 w text f tb dp
+  pub resumes : Resumes2 w text blank f tb dp
 
 pub record Begins (load second : Bool) (w : ℕ) (f : Found) (tb dp : List ℕ) : Type 0 where
   pub fresh : load ≡ false → (f ≡ record { ok = true; board = freshBoard w }) × (tb ≡ replicate 1472 0) × (dp ≡ blank)

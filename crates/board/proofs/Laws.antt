@@ -15,7 +15,8 @@ use Rattle.machine.specs.Numbers.{ENTRIES}
 use Rattle.machine.specs.Lists.{all}
 use Rattle.machine.specs.Machine.{machine}
 use Rattle.machine.specs.Refusals.{accepted, refusal}
-use Rattle.machine_laws.proofs.Sound.{Parts, parts, unparts}
+use Rattle.machine_laws.specs.Sound.{Parts}
+use Rattle.machine_laws.proofs.Sound.{parts, unparts}
 use Rattle.channel.specs.declared.Channel.{Channel}
 use Rattle.channel.specs.Channel.{channelOf, channelIn}
 use Rattle.store.specs.declared.State.{State}

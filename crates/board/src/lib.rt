@@ -22,6 +22,9 @@ impl Board {
 
     pub const EIGHT: u8 = 8;
 
+    // The highest map of four channels; that of eight is `State::TOP`.
+    pub const TOP: u8 = 15;
+
     // Whether there is a board with so many channels.
     pub fn sized(width: u8) -> bool
         ensures { λ r. ⌜ r ≡ sizedM width ⌝ }
@@ -33,7 +36,11 @@ impl Board {
     pub fn top(width: u8) -> u8
         ensures { λ r. ⌜ r ≡ topOf width ⌝ }
     {
-        if width == Board::FOUR { 15 } else { State::TOP }
+        if width == Board::FOUR {
+            Board::TOP
+        } else {
+            State::TOP
+        }
     }
 
     pub fn fresh(width: u8) -> Self

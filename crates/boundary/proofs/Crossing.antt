@@ -9,32 +9,33 @@ use lib.Dec.{T, T-not, eqb}
 use lib.ListN.{length, getD, replicate, replicate-append-replicate}
 use borrow.Author.Tests.{eqb-true, eqb-false}
 use Rattle.machine.specs.Lists.{if_then_else_, among}
-use Rattle.machine.specs.State.{State as StateM, Op as OpM, OPEN, CLOSE, ABORT, EVENT, CYCLE·ENDED, GAVE·UP, COMMAND, frees, freshOn}
+use Rattle.machine.specs.State.{Op as OpM, OPEN, CLOSE, ABORT, EVENT, CYCLE·ENDED, GAVE·UP, COMMAND, frees, freshOn}
 use Rattle.machine.specs.Desks.{HALF}
 use Rattle.machine.specs.Log.{opOf}
 use Rattle.machine.specs.Call.{call}
 use Rattle.machine_laws.proofs.Sound.{parts}
 use Rattle.machine.proofs.Tests.{by-test}
-use Rattle.machine_laws.proofs.Refusals.{refusals}
-use Rattle.machine_laws.proofs.KeepingCalls.{Counted}
+use Rattle.machine_laws.specs.Refusals.{refusals}
+use Rattle.machine_laws.specs.Keeping.{Counted}
 use Rattle.store.specs.Store.{items, writeItems, lookup, entries, tableOf}
 use Rattle.board.specs.declared.Board.{Board}
 use Rattle.board.specs.Board.{sized, structOf, stateIn, Held}
 use Rattle.board.proofs.Laws.{held-next, fresh-sane, table-wide}
 use Rattle.widening.proofs.Maps.{length-frees}
-use Rattle.image.specs.Image.{STATE, imageOf, stateOf, isWhole, Whole}
+use Rattle.image.specs.Image.{STATE, imageOf, stateOf, Whole}
 use Rattle.image.proofs.Round.{imageOf-stateOf, stateOf-imageOf}
 use Rattle.display.specs.Display.{DISPLAY}
 use Rattle.answers.specs.declared.Request.{Request}
 use Rattle.refusals.specs.declared.Op.{Op}
-use Rattle.refusals.specs.Refusals.{opIn, askedOf}
-use Rattle.desk_call.specs.declared.Outcome.{Outcome}
+use Rattle.refusals.specs.Refusals.{opIn, askedOf, opFor}
+use Rattle.arbiter.proofs.Lent.{whole-or-not}
+use Rattle.desk_call.specs.DeskCall.{Outcome}
 use Rattle.desk_call.proofs.Promise.{one-call, one-display, refused-unmoved, few-each-half as few-laid, sound-after as sound-call}
 use Rattle.sizes.specs.Sizes.{TABLE, ANSWER}
-use Rattle.handed.specs.Handed.{opFor, answerBytes}
+use Rattle.handed.specs.Handed.{answerBytes}
 use Rattle.starting.specs.Starting.{Fits, Started}
-use Rattle.bytes_call.specs.BytesCall.{Carried}
-use Rattle.boundary.specs.Boundary.{Room, Unanswered, Unread, Crossed}
+use Rattle.bytes_call.specs.BytesCall.{Carried, Unread}
+use Rattle.boundary.specs.Boundary.{Room, Unanswered, Crossed, Same}
 
 -- ---- which case it is
 
@@ -50,23 +51,7 @@ room-or-not {ℓ} : {R : Type ℓ} (an dp : List ℕ) → (Room an dp → R) →
 room-or-not an dp y z =
     same-or-not (length an) ANSWER (λ a. same-or-not (length dp) DISPLAY (λ d. y (a, d)) (λ d. z (λ h. d (h .1)))) (λ a. z (λ h. a (h .0)))
 
-whole-or-not {ℓ} : {R : Type ℓ} (bs : List ℕ) → (Whole bs → R) → ((Whole bs → ⊥) → R) → R
-whole-or-not {R = R} bs y z = go (isWhole bs) refl
-  where
-    go : (b : Bool) → isWhole bs ≡ b → R
-    go true e = y (subst (λ (b : Bool). T b) (sym e) tt)
-    go false e = z (λ w. subst (λ (b : Bool). T b) e w)
-
 -- ---- no second crossing fits
-
--- the same result and the same bytes
-pub record Same (n n₂ : ℕ) (st st₂ tb tb₂ dp dp₂ l l₂ an an₂ : List ℕ) : Type 0 where
-  pub count : n ≡ n₂
-  pub state : st ≡ st₂
-  pub table : tb ≡ tb₂
-  pub display : dp ≡ dp₂
-  pub list : l ≡ l₂
-  pub answer : an ≡ an₂
 
 module _ {st tb dp l : List ℕ} {n n₂ : ℕ} {st₁ st₂ tb₁ tb₂ dp₁ dp₂ l₁ l₂ an₁ an₂ : List ℕ} where
   unanswered-same : {an : List ℕ} → Unanswered st tb dp l an n st₁ tb₁ dp₁ l₁ an₁ → Unanswered st tb dp l an n₂ st₂ tb₂ dp₂ l₂ an₂ → Same n n₂ st₁ st₂ tb₁ tb₂ dp₁ dp₂ l₁ l₂ an₁ an₂
@@ -153,19 +138,17 @@ module _ {op : ℕ} {r : Request} {ms st tb dp l an : List ℕ} {n : ℕ} {st′
 
   -- ---- an answered call has at most 32 replies in each half, as its answer tells, and 64 in all
 
-  -- the numbers that the answer tells
-  abbrev numbers : ℕ × ℕ
-  numbers = (getD an′ 6 0, getD an′ 7 0)
-
   -- the result is their sum
-  pub halves-told : Room an dp → (n ≡ numbers .0 + numbers .1) × (numbers .0 ≤ HALF) × (numbers .1 ≤ HALF)
+  pub halves-told : Room an dp → (n ≡ getD an′ 6 0 + getD an′ 7 0) × (getD an′ 6 0 ≤ HALF) × (getD an′ 7 0 ≤ HALF)
   unfolding answerBytes
   halves-told h = whole-or-not st (λ w. carried (c .carried h w)) (λ w. unread (c .unread h w))
     where
-      carried : Carried (opFor (opOf op)) r ms st tb dp l n st′ tb′ dp′ l′ an′ → (n ≡ numbers .0 + numbers .1) × (numbers .0 ≤ HALF) × (numbers .1 ≤ HALF)
+      carried : Carried (opFor (opOf op)) r ms st tb dp l n st′ tb′ dp′ l′ an′
+          → (n ≡ getD an′ 6 0 + getD an′ 7 0) × (getD an′ 6 0 ≤ HALF) × (getD an′ 7 0 ≤ HALF)
       carried k = let f = few-laid (k .called) in rw (k .answer) (k .count, f .0, f .1)
 
-      unread : Unread (r .key) st tb dp l n st′ tb′ dp′ l′ an′ → (n ≡ numbers .0 + numbers .1) × (numbers .0 ≤ HALF) × (numbers .1 ≤ HALF)
+      unread : Unread (r .key) st tb dp l n st′ tb′ dp′ l′ an′
+          → (n ≡ getD an′ 6 0 + getD an′ 7 0) × (getD an′ 6 0 ≤ HALF) × (getD an′ 7 0 ≤ HALF)
       unread k = rw (k .answer) (k .count, omega arith, omega arith)
 
   pub few-each-half : Room an dp → (getD an′ 6 0 ≤ HALF) × (getD an′ 7 0 ≤ HALF)
@@ -176,20 +159,18 @@ module _ {op : ℕ} {r : Request} {ms st tb dp l an : List ℕ} {n : ℕ} {st′
 
   -- ---- a sound state is followed by a sound state: the one that the machine names
   module _ (h : Room an dp) (w : Whole st) (s : Held (stateOf st) tb) where
-    abbrev o₀ : Op
-    o₀ = opFor (opOf op)
-
-    abbrev next : StateM
-    next = call (stateIn (stateOf st) tb) (askedOf o₀ r ms (length l)) .next
-
-    pub sound-after : (r .prec ≤ 255) × (r .key ≤ 65535) → Counted (opIn o₀ (r .command)) (askedOf o₀ r ms (length l))
-        → Whole st′ × Held (stateOf st′) tb′ × (stateIn (stateOf st′) tb′ ≡ next)
+    pub sound-after : (r .prec ≤ 255) × (r .key ≤ 65535)
+        → Counted (opIn (opFor (opOf op)) (r .command)) (askedOf (opFor (opOf op)) r ms (length l))
+        → Whole st′ × Held (stateOf st′) tb′
+        × (stateIn (stateOf st′) tb′ ≡ call (stateIn (stateOf st) tb) (askedOf (opFor (opOf op)) r ms (length l)) .next)
     sound-after g y =
         let k = c .carried h w in
         let d = k .outcome in
         let a = sound-call (k .called) s g y in
         let e : d .state ≡ stateOf st′ = sym (ap stateOf (k .state .bytes) ∙ stateOf-imageOf (d .state) (k .state .sized)) in
-        (k .state .whole, subst (λ (x : Board). Held x tb′) e (a .0), subst (λ (x : Board). stateIn x tb′ ≡ next) e (a .1))
+        let z : stateIn (stateOf st′) tb′ ≡ call (stateIn (stateOf st) tb) (askedOf (opFor (opOf op)) r ms (length l)) .next =
+        ap (λ (x : Board). stateIn x tb′) (sym e) ∙ a .1 in
+        (k .state .whole, subst (λ (x : Board). Held x tb′) e (a .0), z)
 
 -- ---- a fresh device is sound
 

@@ -1,20 +1,13 @@
 -- How the functions meet their promises, case by case. Assumes nothing.
 use Prim.Native.Nat.{ℕ, _+_, _%_}
-use mathlib.Core.Path.{_≡_, refl, ap, sym, subst, _∙_}
-use mathlib.Core.Bool.{Bool, false}
+use mathlib.Core.Path.{_≡_, refl, ap, subst}
 use mathlib.Core.List.{List}
-use lib.ListN.{length}
-use Rattle.machine.specs.Commands.{done}
 use Rattle.machine.specs.Log.{opOf}
-use Rattle.machine.proofs.Tests.{test-true}
-use Rattle.image.specs.Image.{isWhole, Whole}
 use Rattle.answers.specs.declared.Request.{Request}
-use Rattle.answers.specs.declared.Answer.{Answer}
-use Rattle.answers.specs.Answers.{answerOf}
 use Rattle.refusals.specs.declared.Op.{Op}
-use Rattle.refusing.proofs.Laws.{false-true}
-use Rattle.handed.specs.Handed.{opFor, requestOf, answerBytes}
-use Rattle.bytes_call.specs.BytesCall.{Carried}
+use Rattle.refusals.specs.Refusals.{opFor}
+use Rattle.handed.specs.Handed.{requestOf}
+use Rattle.bytes_call.specs.BytesCall.{Carries}
 use Rattle.boundary.specs.Boundary.{Room, Crossed}
 
 -- ---- the request
@@ -34,20 +27,10 @@ module _ {op : ℕ} {r : Request} {ms st tb dp l an : List ℕ} where
         carried = λ h. absurd (n h);
       }
 
-  pub not-read : Room an dp → {b : Bool} → b ≡ isWhole st → b ≡ false → {a : Answer} {an′ : List ℕ} → a ≡ answerOf (done 1 0 (r .key) 255) → an′ ≡ answerBytes a 0 0
-      → Crossed op r ms st tb dp l an 0 st tb dp l an′
-  not-read h w q e v =
-      record {
-        unanswered = λ n. absurd (n h);
-        unread = λ _ _. record { count = refl; state = refl; table = refl; display = refl; list = refl; answer = v ∙ ap (λ (a : Answer). answerBytes a 0 0) e };
-        carried = λ _ y. absurd (false-true (sym q ∙ w ∙ test-true _ y));
-      }
-
-  pub was-carried : Room an dp → Whole st → {o : Op} → o ≡ opFor (opOf op) → {x : Request} → x ≡ r → {n : ℕ} {st′ tb′ dp′ l′ an′ : List ℕ}
-      → Carried o x ms st tb dp l n st′ tb′ dp′ l′ an′ → Crossed op r ms st tb dp l an n st′ tb′ dp′ l′ an′
-  was-carried h w {o} e {x} f {n} {st′} {tb′} {dp′} {l′} {an′} c =
-      record {
-        unanswered = λ n. absurd (n h);
-        unread = λ _ y. absurd (y w);
-        carried = λ _ _. subst (λ (o : Op). Carried o r ms st tb dp l n st′ tb′ dp′ l′ an′) e (subst (λ (y : Request). Carried o y ms st tb dp l n st′ tb′ dp′ l′ an′) f c);
-      }
+  pub was-carried : Room an dp → {o : Op} → o ≡ opFor (opOf op) → {x : Request} → x ≡ r → {n : ℕ} {st′ tb′ dp′ l′ an′ : List ℕ}
+      → Carries o x ms st tb dp l n st′ tb′ dp′ l′ an′ → Crossed op r ms st tb dp l an n st′ tb′ dp′ l′ an′
+  was-carried h {o} e {x} f {n} {st′} {tb′} {dp′} {l′} {an′} c =
+      let k : Carries (opFor (opOf op)) r ms st tb dp l n st′ tb′ dp′ l′ an′ =
+      subst (λ (o : Op). Carries o r ms st tb dp l n st′ tb′ dp′ l′ an′) e (subst (λ (y : Request). Carries o y ms st tb dp l n st′ tb′ dp′ l′ an′) f c)
+      in
+      record { unanswered = λ n. absurd (n h); unread = λ _. k .unread; carried = λ _. k .read }

@@ -35,10 +35,6 @@ pub fn call(
     if display.len() != 18 {
         return UNANSWERED;
     }
-    if !image::whole(state) {
-        handed::put_answer(answer, answers::done(1, 0, key, 255), 0, 0);
-        return 0;
-    }
     let r = Request {
         desk,
         command: op,

@@ -1,37 +1,35 @@
-// The desk's call on bytes that hold a struct: the state is loaded, called and saved in its place; the display's bytes and the answer's
-// are lent. `boundary` tests what it is lent and calls `carry`. Assumes nothing.
+// The desk's call on any bytes of a state, where the display's bytes and the answer's are lent too. `boundary` tests that these two have
+// room and calls `carry`. Assumes nothing.
 use answers::Request;
-use board::Board;
-use desk_call::Outcome;
+use desk_call::Answered;
 use refusals::Op;
 ghost use mathlib.Core.Path.{_≡_};
 ghost use lib.ListN.{length};
-ghost use Rattle.arbiter.specs.Arbiter.{Shows};
-ghost use Rattle.desk_call.specs.DeskCall.{Called};
-ghost use Rattle.image.specs.Image.{Whole};
-ghost use Rattle.bytes_call.specs.BytesCall.{Carried};
+ghost use Rattle.desk_call.specs.DeskCall.{Lent};
+ghost use Rattle.bytes_call.specs.BytesCall.{Carries};
 
 // A desk's call, with the display's bytes in an array.
 fn show(
     op: Op,
     r: Request,
-    b: Board,
+    state: &mut [u8],
     combos: &[u8],
     table: &mut [u8],
     display: &mut [u8],
     replies: &mut [u8],
-) -> Outcome
+) -> Answered
     requires { ⌜ length (now display) ≡ 18 ⌝ }
-    ensures { λ d. ⌜ Called op r b (now (combos .entry)) (now (table .entry)) (now (replies .entry)) d (now (table .exit)) (now (replies .exit))
-        × Shows op r b (now (combos .entry)) (now (table .entry)) (now (replies .entry)) (now (display .entry)) (now (display .exit)) ⌝ }
+    ensures { λ d. ⌜ Lent op r (now (combos .entry)) (now (state .entry)) (now (table .entry)) (now (replies .entry))
+        (now (display .entry))
+        d (now (state .exit)) (now (table .exit)) (now (replies .exit)) (now (display .exit)) ⌝ }
 {
     let mut shown = display_bytes::read(display);
-    let d = desk_call::call(op, r, b, combos, table, &mut shown, replies);
+    let d = desk_call::call(op, r, state, combos, table, &mut shown, replies);
     display_bytes::write(display, &shown);
     d
 }
 
-// A call on bytes that hold a struct, with room for the answer.
+// A call with room for the answer.
 pub fn carry(
     op: Op,
     r: Request,
@@ -42,15 +40,13 @@ pub fn carry(
     replies: &mut [u8],
     answer: &mut [u8],
 ) -> usize
-    requires { ⌜ Whole (now state) × (length (now answer) ≡ 8) × (length (now display) ≡ 18) ⌝ }
-    ensures { λ n. ⌜ Carried op r (now (combos .entry)) (now (state .entry)) (now (table .entry)) (now (display .entry)) (now (replies .entry))
+    requires { ⌜ (length (now answer) ≡ 8) × (length (now display) ≡ 18) ⌝ }
+    ensures { λ n. ⌜ Carries op r (now (combos .entry)) (now (state .entry)) (now (table .entry)) (now (display .entry))
+        (now (replies .entry))
         n (now (state .exit)) (now (table .exit)) (now (display .exit)) (now (replies .exit)) (now (answer .exit)) ⌝ }
 {
-    let b = decoding::load(state);
-    let d = show(op, r, b, combos, table, display, replies);
+    let d = show(op, r, state, combos, table, display, replies);
     let a = d.answer;
-    let t = d.state;
-    encoding::save(t, state);
     handed::put_answer(answer, a, d.a, d.b);
     d.a + d.b
 }

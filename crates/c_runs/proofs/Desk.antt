@@ -20,26 +20,28 @@ use Rattle.two_runs.specs.TwoRuns.{ownReplies}
 use Rattle.two_runs.specs.Desk.{ofDesk}
 use Rattle.two_runs.proofs.Desk.{avoids-of}
 use Rattle.code_runs.specs.CodeRuns.{records}
-use Rattle.c_runs.specs.CRuns.{Turn, asked, Took, Move, ours, others, Keeps, Run, ownRecords}
-use Rattle.c_runs.specs.Desk.{KeepsApart, RunOfDesk, half, Demand3·desk·bytes}
-use Rattle.c_runs.proofs.CRuns.{K-sees-the-same-bytes, first-bytes, second-bytes, tells, took-numbers, took-records}
+use Rattle.c_runs.specs.CRuns.{Turn, asked, roomy, Took, Move, ours, others, Chained, Full, ownRecords}
+use Rattle.c_runs.specs.Desk.{KeepsApart, half, Demand3·desk·bytes}
+use Rattle.c_runs.proofs.CRuns.{GoesOn, of-own, of-others, same-bytes, first-bytes, second-bytes, tells, took-numbers, took-records}
 
 -- ---- the claim
 
-keeps-of : (d k f : ℕ) (st tb : List ℕ) (ms : List Move) → KeepsApart d (ofDesk d k f) st tb ms → Keeps (ofDesk d k f) st tb ms
-keeps-of d k f st tb [] h = tt
-keeps-of d k f st tb (ours t ∷ ms) h = (h .0, keeps-of d k f (t .state) (t .table) ms (h .1))
-keeps-of d k f st tb (others t ∷ ms) h = (
-  record { apart = avoids-of d k f (asked t .op) (asked t) (stateIn (stateOf st) tb) (h .0 .other) (h .0 .apart); low = h .0 .low },
-  keeps-of d k f (t .state) (t .table) ms (h .1),
+apart-goes : (d k f : ℕ) (st tb : List ℕ) (ms : List Move) → Chained st tb ms → KeepsApart d (ofDesk d k f) st tb ms → Full ms
+    → GoesOn (ofDesk d k f) st tb ms
+apart-goes d k f st tb [] c h g = tt
+apart-goes d k f st tb (ours t ∷ ms) c h g =
+    (λ o. of-own (ofDesk d k f) (c .0) (g .0 o) (h .0 o), apart-goes d k f (t .state) (t .table) ms (c .1) (h .1) (g .1))
+apart-goes d k f st tb (others t ∷ ms) c h g = (
+  λ o. let b = h .0 o in
+      of-others (ofDesk d k f) (c .0) (g .0 o)
+      (record { apart = avoids-of d k f (asked t .op) (asked t) (stateIn (stateOf st) tb) (b .other) (b .apart); low = b .low }),
+  apart-goes d k f (t .state) (t .table) ms (c .1) (h .1) (g .1),
 )
-
-run-of : (d k f : ℕ) (st tb : List ℕ) (ms : List Move) → RunOfDesk d (ofDesk d k f) st tb ms → Run (ofDesk d k f) st tb ms
-run-of d k f st tb ms r = record { chained = r .chained; keeps = keeps-of d k f st tb ms (r .keeps); full = r .full }
 
 pub desk-sees-the-same-bytes : Demand3·desk·bytes
 desk-sees-the-same-bytes d k f st tb ms ns w h a r s e =
-    K-sees-the-same-bytes (ofDesk d k f) st tb ms ns w h a (run-of d k f st tb ms r) (run-of d k f st tb ns s) e
+    same-bytes (ofDesk d k f) st tb ms ns w h a (r .chained) (apart-goes d k f st tb ms (r .chained) (r .keeps) (r .full)) (r .full)
+    (s .chained) (apart-goes d k f st tb ns (s .chained) (s .keeps) (s .full)) (s .full) e
 
 -- ---- what it reads is its half
 
@@ -69,25 +71,31 @@ own-b : (k f : ℕ) (rs : List Reply) → halves (ownReplies (ofDesk DESK·B k f
 unfolding halves ownReplies repliesTo
 own-b k f rs = ap₂ _++_ (none-of DESK·B DESK·A (λ q. omega arith) rs) (to-twice DESK·B rs)
 
-module _ {st tb : List ℕ} {t : Turn} (k f : ℕ) (w : Whole st) (h : Held (stateOf st) tb) (x : Took st tb t) (g : 384 ≤ length (t .lent)) where
+module _ {st tb : List ℕ} {t : Turn} (w : Whole st) (h : Held (stateOf st) tb) (x : Took st tb t) (o : T (roomy t))
+    (g : 384 ≤ length (t .lent)) where
   abbrev rs₀ : List Reply
   rs₀ = call (stateIn (stateOf st) tb) (asked t) .replies
 
   few : length (repliesTo DESK·A rs₀) ≤ 32
   few = call-halves (stateIn (stateOf st) tb) (asked t) (h .sane) .0
 
-  pub a-reads-its-half : ownRecords (ofDesk DESK·A k f) t ≡ half DESK·A t
+  -- desk A's half of the list is the bytes of its replies
+  pub half-a : half DESK·A t ≡ map encode (repliesTo DESK·A rs₀)
   unfolding half
-  a-reads-its-half =
-      took-records (ofDesk DESK·A k f) w h x g ∙ ap (map encode) (own-a k f rs₀)
-      ∙ sym
-      (ap₂ (λ (n : ℕ) (l : List ℕ). records n (drop 0 l)) (took-numbers w h x .0) (tells w h x .list ∙ first-bytes (ofDesk DESK·A k f) (t .lent) rs₀ g few)
-      ∙ records-encodes (repliesTo DESK·A rs₀) _)
+  half-a =
+      ap₂ (λ (n : ℕ) (l : List ℕ). records n (drop 0 l)) (took-numbers w h x o .0) (tells w h x o .list ∙ first-bytes (t .lent) rs₀ g few)
+      ∙ records-encodes (repliesTo DESK·A rs₀) _
 
-  pub b-reads-its-half : ownRecords (ofDesk DESK·B k f) t ≡ half DESK·B t
+  -- and so is desk B's
+  pub half-b : half DESK·B t ≡ map encode (repliesTo DESK·B rs₀)
   unfolding half
-  b-reads-its-half =
-      took-records (ofDesk DESK·B k f) w h x g ∙ ap (map encode) (own-b k f rs₀)
-      ∙ sym
-      (ap₂ (λ (n : ℕ) (l : List ℕ). records n l) (took-numbers w h x .1) (ap (drop 192) (tells w h x .list) ∙ second-bytes (ofDesk DESK·B k f) (t .lent) rs₀ g few)
-      ∙ records-encodes (repliesTo DESK·B rs₀) _)
+  half-b =
+      ap₂ (λ (n : ℕ) (l : List ℕ). records n l) (took-numbers w h x o .1)
+      (ap (drop 192) (tells w h x o .list) ∙ second-bytes (t .lent) rs₀ g few)
+      ∙ records-encodes (repliesTo DESK·B rs₀) _
+
+  pub a-reads-its-half : (k f : ℕ) → ownRecords (ofDesk DESK·A k f) t ≡ half DESK·A t
+  a-reads-its-half k f = took-records (ofDesk DESK·A k f) w h x o g ∙ ap (map encode) (own-a k f rs₀) ∙ sym half-a
+
+  pub b-reads-its-half : (k f : ℕ) → ownRecords (ofDesk DESK·B k f) t ≡ half DESK·B t
+  b-reads-its-half k f = took-records (ofDesk DESK·B k f) w h x o g ∙ ap (map encode) (own-b k f rs₀) ∙ sym half-b

@@ -11,12 +11,13 @@ use Rattle.machine.specs.Call.{call}
 use Rattle.machine.specs.Machine.{machine}
 use Rattle.store.specs.Store.{tableOf}
 use Rattle.handed.specs.Handed.{answerBytes}
-use Rattle.two_runs.specs.TwoRuns.{Start, Run as RunM, claim, own}
+use Rattle.two_runs.specs.TwoRuns.{Start, Run as RunM, claim}
 use Rattle.two_runs.proofs.Premises.{premises, runs-all, starts-all}
-use Rattle.code_runs.proofs.Made.{OnBoard}
+use Rattle.code_runs.specs.Made.{OnBoard}
 use Rattle.code_runs.proofs.Witness.{party, start}
 use Rattle.c_runs.specs.CRuns.{Run}
-use Rattle.c_runs.proofs.Witness.{Ask, Says, ask, ourAsk, theirAsk, bytesOf, made, moves, spelt, steps, machine-runs-are-runs-of-C}
+use Rattle.c_runs.specs.Made.{Ask, Says, ourAsk, theirAsk, bytesOf, made, moves, ownSays, spelt, steps}
+use Rattle.c_runs.proofs.Witness.{ask, machine-runs-are-runs-of-C}
 
 -- as in Witness.antt, and another's request waits for channel 3
 abbrev unsettled : StateM
@@ -58,7 +59,7 @@ after-runs = runs-all party unsettled (steps after) (unfold machine claim premis
 pub both-run : Run party (bytesOf unsettled) (tableOf unsettled) (moves unsettled alone) × Run party (bytesOf unsettled) (tableOf unsettled) (moves unsettled after)
 both-run = (machine-runs-are-runs-of-C party unsettled alone board alone-runs, machine-runs-are-runs-of-C party unsettled after board after-runs)
 
-pub same-call : own (steps alone) ≡ own (steps after)
+pub same-call : ownSays alone ≡ ownSays after
 unfolding machine claim
 same-call = refl
 

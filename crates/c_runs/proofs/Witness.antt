@@ -1,12 +1,13 @@
 -- Demand 3 of the bytes that a program in C lends is about something: every run of the machine whose calls are numbers of a program
 -- in C is a run of its calls, and two such runs, from one state, meet every premise. K sees the same bytes in both.
 -- Assumes nothing.
-use Prim.Native.Nat.{ℕ, _+_, _≤_}
+use Prim.Native.Nat.{ℕ, _≤_}
 use mathlib.Core.Path.{_≡_, refl, ap, sym, subst, _∙_}
 use mathlib.Core.List.{List, [], _∷_, _++_, map}
+use mathlib.Core.Option.{Option, none, some}
 use native.Mathlib.Omega.{arith}
 use lib.Dec.{T, leb, leb→le}
-use lib.ListN.{length, replicate, length-replicate}
+use lib.ListN.{length, length-replicate}
 use Rattle.machine.specs.Lists.{all}
 use Rattle.machine.specs.State.{Call, Outcome as OutcomeM, State as StateM}
 use Rattle.machine.specs.Desks.{DESK·A, DESK·B, deskOf, repliesTo}
@@ -20,88 +21,40 @@ use Rattle.halves.specs.Halves.{laid}
 use Rattle.store.specs.Store.{tableOf}
 use Rattle.board.specs.declared.Board.{Board}
 use Rattle.board.specs.Board.{structOf, stateIn, Held}
-use Rattle.image.specs.Image.{imageOf, stateOf, Whole}
+use Rattle.image.specs.Image.{stateOf, Whole}
 use Rattle.image.proofs.Round.{stateOf-imageOf}
 use Rattle.images.proofs.Images.{saved-of, sized-of}
 use Rattle.answers.specs.Answers.{answerOf}
-use Rattle.refusals.specs.Refusals.{askedOf}
+use Rattle.refusals.specs.Refusals.{opFor}
 use Rattle.arbiter.specs.Arbiter.{Shows}
-use Rattle.desk_call.specs.declared.Outcome.{Outcome}
-use Rattle.desk_call.specs.DeskCall.{Told, Called}
+use Rattle.desk_call.specs.DeskCall.{Outcome, Told, Called}
 use Rattle.sizes.specs.Sizes.{REPLIES}
-use Rattle.handed.specs.Handed.{opFor, requestOf, answerBytes}
-use Rattle.two_runs.specs.TwoRuns.{Party, Start, Step, our, their, Keeps as KeepsM, Run as RunM, calls, claim, counted, inBytes, own, said}
+use Rattle.two_runs.specs.TwoRuns.{Party, Start, Step, our, their, Keeps as KeepsM, Run as RunM, calls, claim, counted, inBytes, said}
 use Rattle.two_runs.specs.Desk.{KeepsApart as KeepsApartM, RunOfDesk as RunOfDeskM}
 use Rattle.two_runs.proofs.Premises.{premises, runs-all, starts-all}
-use Rattle.code_runs.proofs.Made.{OnBoard, bytes-count, bytes-range, board-held, board-next, board-state, sound-next}
+use Rattle.boundary.specs.Boundary.{UNANSWERED}
+use Rattle.code_runs.specs.Made.{OnBoard}
+use Rattle.code_runs.proofs.Made.{bytes-count, bytes-range, board-held, board-next, board-state, sound-next}
 use Rattle.code_runs.proofs.Witness.{party, start, board, numbers}
-use Rattle.c_runs.specs.CRuns.{Turn, asked, request, Took, Move, ours, others, Chained, Keeps, Full, Run, ownCalls, sights}
+use Rattle.c_runs.specs.CRuns.{Turn, roomy, request, Took, Move, ours, others, Chained, Keeps, Full, Run, ownCalls, sights}
 use Rattle.c_runs.specs.Desk.{KeepsApart, RunOfDesk}
+use Rattle.c_runs.specs.Made.{Ask, records, spelt, bytesOf, made, missed, Says, ourAsk, theirAsk, ourMiss, theirMiss, steps, moves, ownSays}
 use Rattle.c_runs.proofs.CRuns.{K-sees-the-same-bytes}
 
 -- ---- a call as a program in C makes it, with a full reply list, and what it may become
 
-pub record Ask : Type 0 where
-  pub desk : ℕ
-  pub op : ℕ
-  pub id : ℕ
-  pub flags : ℕ
-  pub map : ℕ
-  pub prec : ℕ
-  pub key : ℕ
-  pub combos : List ℕ
+-- it has room
+pub made-roomy : (s : StateM) (a : Ask) → T (roomy (made s a))
+unfolding roomy
+made-roomy s a = tt
 
-abbrev records : List ℕ
-records = replicate 384 0
-
-abbrev pub spelt : Ask → Call
-spelt a = askedOf (opFor (opOf (a .op))) (requestOf (a .desk) (a .op) (a .id) (a .flags) (a .map) (a .prec) (a .key)) (a .combos) (length records)
-
-abbrev pub bytesOf : StateM → List ℕ
-bytesOf s = imageOf (structOf s)
-
-abbrev pub made : StateM → Ask → Turn
-made s a =
-    let o = call s (spelt a) in
-    record {
-      desk = a .desk;
-      op = a .op;
-      id = a .id;
-      flags = a .flags;
-      map = a .map;
-      prec = a .prec;
-      key = a .key;
-      combos = a .combos;
-      wall = blank;
-      lent = records;
-      room = replicate 8 0;
-      n = length (repliesTo DESK·A (o .replies)) + length (repliesTo DESK·B (o .replies));
-      state = bytesOf (o .next);
-      table = tableOf (o .next);
-      display = displayed s (spelt a) blank;
-      list = laid records (o .replies);
-      answer = answerBytes (answerOf (o .answer)) (length (repliesTo DESK·A (o .replies))) (length (repliesTo DESK·B (o .replies)));
-    }
-
-pub data Says : Type 0 where
-  ourAsk : Ask → Says
-  theirAsk : Ask → Says
-
-abbrev pub steps : List Says → List Step
-steps [] = []
-steps (ourAsk a ∷ xs) = our (spelt a) ∷ steps xs
-steps (theirAsk a ∷ xs) = their (spelt a) ∷ steps xs
-
-abbrev pub moves : StateM → List Says → List Move
-moves s [] = []
-moves s (ourAsk a ∷ xs) = ours (made s a) ∷ moves (call s (spelt a) .next) xs
-moves s (theirAsk a ∷ xs) = others (made s a) ∷ moves (call s (spelt a) .next) xs
-
-pub ownCalls-moves : (s : StateM) (xs : List Says) → ownCalls (moves s xs) ≡ own (steps xs)
-unfolding ownCalls own
+pub ownCalls-moves : (s : StateM) (xs : List Says) → ownCalls (moves s xs) ≡ ownSays xs
+unfolding roomy ownCalls
 ownCalls-moves s [] = refl
-ownCalls-moves s (ourAsk a ∷ xs) = ap (λ (cs : List Call). said (spelt a) ∷ cs) (ownCalls-moves (call s (spelt a) .next) xs)
+ownCalls-moves s (ourAsk a ∷ xs) = ap (λ (cs : List (Option Call)). some (said (spelt a)) ∷ cs) (ownCalls-moves (call s (spelt a) .next) xs)
 ownCalls-moves s (theirAsk a ∷ xs) = ownCalls-moves (call s (spelt a) .next) xs
+ownCalls-moves s (ourMiss ∷ xs) = ap (λ (cs : List (Option Call)). none ∷ cs) (ownCalls-moves s xs)
+ownCalls-moves s (theirMiss ∷ xs) = ownCalls-moves s xs
 
 -- ---- it keeps the promise
 
@@ -135,7 +88,7 @@ module _ {s : StateM} (b : OnBoard s) where
     made-shown : Shows (opFor (opOf (a .op))) (request (made s a)) (structOf s) (a .combos) (tableOf s) records blank (displayed s (spelt a) blank)
     made-shown = record { sound = λ _. rw (board-state b); unsound = λ n. absurd (n (board-held b)) }
 
-    made-took : Took (bytesOf s) (tableOf s) (made s a)
+    pub made-took : Took (bytesOf s) (tableOf s) (made s a)
     unfolding inRange
     made-took =
         let o = call s (spelt a) in
@@ -153,10 +106,28 @@ module _ {s : StateM} (b : OnBoard s) where
                   answer = refl;
                 };
               };
-          rooms = (refl, refl);
           key = leb→le (a .key) 65535 (and-right (leb (spelt a .prec) 255) (leb (a .key) 65535) (bytes-range (spelt a) f));
           count = bytes-count (spelt a) f;
         }
+
+-- and so does a call without room
+pub missed-took : (s : StateM) → Took (bytesOf s) (tableOf s) (missed s)
+unfolding opOf counted
+missed-took s =
+    record {
+      crossed =
+          record {
+            unanswered = λ _. record { count = refl; state = refl; table = refl; display = refl; list = refl; answer = refl };
+            unread = λ r _. absurd (let z = r .0 in omega arith);
+            carried = λ r _. absurd (let z = r .0 in omega arith);
+          };
+      key = omega arith;
+      count = tt;
+    }
+
+missed-roomy : (s : StateM) → T (roomy (missed s)) → ⊥
+unfolding roomy
+missed-roomy s t = t
 
 -- ---- so the run is one of a program in C
 
@@ -169,6 +140,8 @@ chained-moves s (ourAsk a ∷ xs) b f =
 chained-moves s (theirAsk a ∷ xs) b f =
     let g = and-left (inBytes (spelt a)) (all inBytes (calls (steps xs))) f in
     (made-took b a g, chained-moves (call s (spelt a) .next) xs (board-next s (spelt a) g b) (and-right (inBytes (spelt a)) (all inBytes (calls (steps xs))) f))
+chained-moves s (ourMiss ∷ xs) b f = (missed-took s, chained-moves s xs b f)
+chained-moves s (theirMiss ∷ xs) b f = (missed-took s, chained-moves s xs b f)
 
 keeps-moves : (p : Party) (s : StateM) (xs : List Says) → OnBoard s → T (all inBytes (calls (steps xs))) → KeepsM p s (steps xs)
     → Keeps p (bytesOf s) (tableOf s) (moves s xs)
@@ -176,22 +149,26 @@ unfolding calls all
 keeps-moves p s [] b f k = tt
 keeps-moves p s (ourAsk a ∷ xs) b f k =
     let g = and-left (inBytes (spelt a)) (all inBytes (calls (steps xs))) f in (
-      rw (bytes-state b, board-state b) (k .0),
+      λ _. rw (bytes-state b, board-state b) (k .0),
       keeps-moves p (call s (spelt a) .next) xs (board-next s (spelt a) g b) (and-right (inBytes (spelt a)) (all inBytes (calls (steps xs))) f) (k .1),
     )
 keeps-moves p s (theirAsk a ∷ xs) b f k =
     let g = and-left (inBytes (spelt a)) (all inBytes (calls (steps xs))) f in (
-      rw (bytes-state b, board-state b) (k .0),
+      λ _. rw (bytes-state b, board-state b) (k .0),
       keeps-moves p (call s (spelt a) .next) xs (board-next s (spelt a) g b) (and-right (inBytes (spelt a)) (all inBytes (calls (steps xs))) f) (k .1),
     )
+keeps-moves p s (ourMiss ∷ xs) b f k = (λ o. absurd (missed-roomy s o), keeps-moves p s xs b f k)
+keeps-moves p s (theirMiss ∷ xs) b f k = (λ o. absurd (missed-roomy s o), keeps-moves p s xs b f k)
 
 enough : REPLIES ≤ length records
 enough = omega (arith, length-replicate {A = ℕ} 384 0)
 
 full-moves : (s : StateM) (xs : List Says) → Full (moves s xs)
 full-moves s [] = tt
-full-moves s (ourAsk a ∷ xs) = (enough, full-moves (call s (spelt a) .next) xs)
-full-moves s (theirAsk a ∷ xs) = (enough, full-moves (call s (spelt a) .next) xs)
+full-moves s (ourAsk a ∷ xs) = (λ _. enough, full-moves (call s (spelt a) .next) xs)
+full-moves s (theirAsk a ∷ xs) = (λ _. enough, full-moves (call s (spelt a) .next) xs)
+full-moves s (ourMiss ∷ xs) = (λ o. absurd (missed-roomy s o), full-moves s xs)
+full-moves s (theirMiss ∷ xs) = (λ o. absurd (missed-roomy s o), full-moves s xs)
 
 pub machine-runs-are-runs-of-C : (p : Party) (s : StateM) (xs : List Says) → OnBoard s → RunM p s (steps xs) → Run p (bytesOf s) (tableOf s) (moves s xs)
 machine-runs-are-runs-of-C p s xs b r =
@@ -205,14 +182,16 @@ unfolding calls all
 apart-moves d p s [] b f k = tt
 apart-moves d p s (ourAsk a ∷ xs) b f k =
     let g = and-left (inBytes (spelt a)) (all inBytes (calls (steps xs))) f in (
-      rw (bytes-state b, board-state b) (k .0),
+      λ _. rw (bytes-state b, board-state b) (k .0),
       apart-moves d p (call s (spelt a) .next) xs (board-next s (spelt a) g b) (and-right (inBytes (spelt a)) (all inBytes (calls (steps xs))) f) (k .1),
     )
 apart-moves d p s (theirAsk a ∷ xs) b f k =
     let g = and-left (inBytes (spelt a)) (all inBytes (calls (steps xs))) f in (
-      rw (bytes-state b, board-state b) (k .0),
+      λ _. rw (bytes-state b, board-state b) (k .0),
       apart-moves d p (call s (spelt a) .next) xs (board-next s (spelt a) g b) (and-right (inBytes (spelt a)) (all inBytes (calls (steps xs))) f) (k .1),
     )
+apart-moves d p s (ourMiss ∷ xs) b f k = (λ o. absurd (missed-roomy s o), apart-moves d p s xs b f k)
+apart-moves d p s (theirMiss ∷ xs) b f k = (λ o. absurd (missed-roomy s o), apart-moves d p s xs b f k)
 
 pub desk-runs-are-runs-of-C : (d : ℕ) (p : Party) (s : StateM) (xs : List Says) → OnBoard s → RunOfDeskM d p s (steps xs) → RunOfDesk d p (bytesOf s) (tableOf s) (moves s xs)
 desk-runs-are-runs-of-C d p s xs b r =
@@ -224,16 +203,20 @@ desk-runs-are-runs-of-C d p s xs b r =
 abbrev pub ask : ℕ → ℕ → ℕ → ℕ → ℕ → List ℕ → Ask
 ask op i m p k l = record { desk = deskOf i; op = op; id = i; flags = 0; map = m; prec = p; key = k; combos = l }
 
--- K writes on channel 1 and waits for a cycle there, its write on channel 0 ends, it stops both
+-- K writes on channel 1, makes a call without room for an answer, waits for a cycle there, its write on channel 0 ends, it stops both
 abbrev quiet : List Says
-quiet = ourAsk (ask 3 9 2 0 1 numbers) ∷ ourAsk (ask 14 11 2 0 1 []) ∷ ourAsk (ask 0xF3 0 1 0 0 []) ∷ ourAsk (ask 6 5 3 0 1 []) ∷ []
+quiet =
+    ourAsk (ask 3 9 2 0 1 numbers) ∷ ourMiss ∷ ourAsk (ask 14 11 2 0 1 []) ∷ ourAsk (ask 0xF3 0 1 0 0 []) ∷ ourAsk (ask 6 5 3 0 1 []) ∷ []
 
--- the others open with a list and steal channel 2, take channel 3, wait for channel 0 and close; the event has a bit more
+-- the others open with a list and steal channel 2, take channel 3, wait for channel 0 and close, and make a call without room; the
+-- event has a bit more
 abbrev busy : List Says
 busy =
     theirAsk (ask 0xF0 0 0 10 0 (4 ∷ []))
     ∷ ourAsk (ask 3 9 2 0 1 numbers)
+    ∷ theirMiss
     ∷ theirAsk (ask 32 31 0 10 0 (8 ∷ []))
+    ∷ ourMiss
     ∷ ourAsk (ask 14 11 2 0 1 [])
     ∷ theirAsk (ask 32 32 0 10 0 (1 ∷ []))
     ∷ ourAsk (ask 0xF3 0 5 0 0 [])
@@ -250,7 +233,7 @@ quiet-runs = runs-all party start (steps quiet) (unfold machine claim premises i
 busy-runs : RunM party start (steps busy)
 busy-runs = runs-all party start (steps busy) (unfold machine claim premises in tt)
 
-same-calls : own (steps quiet) ≡ own (steps busy)
+same-calls : ownSays quiet ≡ ownSays busy
 unfolding machine claim
 same-calls = refl
 

@@ -8,19 +8,24 @@
 --   Demand3·desk·bytes       two runs with the same calls of the desk show it the same
 use Prim.Native.Nat.{ℕ, _+_, _*_}
 use mathlib.Core.Path.{_≡_}
+use mathlib.Core.Logic.{_⊎_}
 use mathlib.Core.List.{List, [], _∷_}
+use lib.Dec.{T}
 use lib.ListN.{getD, drop}
 use Rattle.board.specs.Board.{stateIn, Held}
 use Rattle.image.specs.Image.{stateOf, Whole}
 use Rattle.two_runs.specs.TwoRuns.{Party, Start, ByK}
+use Rattle.two_runs.specs.Core.{misses}
 use Rattle.two_runs.specs.Desk.{ofDesk, ByOtherDesk}
 use Rattle.code_runs.specs.CodeRuns.{records}
-use Rattle.c_runs.specs.CRuns.{Turn, asked, Move, ours, others, Chained, Full, ownCalls, sights}
+use Rattle.c_runs.specs.CRuns.{Turn, asked, roomy, Move, ours, others, Chained, Full, ownCalls, sights}
 
 abbrev pub KeepsApart : ℕ → Party → List ℕ → List ℕ → List Move → Type 0
 KeepsApart d p st tb [] = Unit {0}
-KeepsApart d p st tb (ours t ∷ ms) = ByK p (stateIn (stateOf st) tb) (asked t) × KeepsApart d p (t .state) (t .table) ms
-KeepsApart d p st tb (others t ∷ ms) = ByOtherDesk d p (stateIn (stateOf st) tb) (asked t) × KeepsApart d p (t .state) (t .table) ms
+KeepsApart d p st tb (ours t ∷ ms) =
+    (T (roomy t) → ByK p (stateIn (stateOf st) tb) (asked t) ⊎ T (misses (asked t .op) (asked t))) × KeepsApart d p (t .state) (t .table) ms
+KeepsApart d p st tb (others t ∷ ms) =
+    (T (roomy t) → ByOtherDesk d p (stateIn (stateOf st) tb) (asked t)) × KeepsApart d p (t .state) (t .table) ms
 
 pub record RunOfDesk (d : ℕ) (p : Party) (st tb : List ℕ) (ms : List Move) : Type 0 where
   pub chained : Chained st tb ms

@@ -1,10 +1,1 @@
-// Demand 3 of the bytes that a program in C lends is a statement (specs/) and its proof (proofs/); this function only makes them a
-// crate.
-// Assumes nothing.
-ghost use mathlib.Core.Path.{_≡_};
-
-pub fn same(x: u8) -> u8
-    ensures { λ r. ⌜ r ≡ x ⌝ }
-{
-    x
-}
+// Demand 3 of the bytes that a program in C lends is a statement (specs/) and its proof (proofs/). Assumes nothing.

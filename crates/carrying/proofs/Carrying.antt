@@ -11,7 +11,8 @@ use lib.ListN.{length, take, length-append}
 use Rattle.machine.specs.State.{State}
 use Rattle.machine.specs.Log.{lines, feed, run}
 use Rattle.machine.proofs.Tests.{by-test, test-true, test-false}
-use Rattle.display.specs.Display.{numbers, looksBytes}
+use Rattle.machine.specs.InBytes.{twoBytes}
+use Rattle.display.specs.Display.{numbers}
 use Rattle.display.proofs.Pinned.{numbers-length}
 use Rattle.board.specs.declared.Board.{Board}
 use Rattle.board.specs.Board.{stateIn, Held}
@@ -21,34 +22,58 @@ use Rattle.gathering.proofs.Lumps.{stands-none}
 use Rattle.taking.specs.declared.Show.{Show}
 use Rattle.taking.specs.Desk.{hidden, runShown}
 use Rattle.hex_lines.specs.HexLines.{Put}
-use Rattle.whole_log.specs.Whole.{joined, Ran, boardAt, tableAt}
-use Rattle.whole_log.proofs.Whole.{none-ended, run-hidden, Ended, ran-run, ran-ends}
+use Rattle.whole_log.specs.Whole.{joined, Ran, boardAt, tableAt, Ended}
+use Rattle.whole_log.proofs.Whole.{none-ended, run-hidden, ran-run, ran-ends}
 use Rattle.saved.specs.Saved.{text, TextOf}
 use Rattle.saved2.specs.Saved2.{text2, TextOf2}
 use Rattle.saving2.proofs.Laws2.{taken-front}
 use Rattle.read_back2.proofs.ReadBack2.{one-spelling2}
 use Rattle.recounting.specs.Recounting.{counted}
 use Rattle.accepting.specs.declared.Found.{Found}
-use Rattle.accepting.proofs.Accepting.{one-spelling}
-use Rattle.carrying.specs.Carrying.{Resumes, Resumes2, Carries}
+use Rattle.accepting.proofs.Accepting.{one-spelling, one-accepting}
+use Rattle.accepting2.proofs.Accepting2.{one-accepting2}
+use Rattle.carrying.specs.Carrying.{Counts, Still, Resumes, Resumes2, Carries}
 
 -- ---- what is loaded
 
 counted-length : (s : State) → length (counted s) ≡ 18
-counted-length s = length-append (numbers s) (looksBytes 0) ∙ ap (λ (n : ℕ). n + 2) (numbers-length s)
+counted-length s = length-append (numbers s) (twoBytes 0) ∙ ap (λ (n : ℕ). n + 2) (numbers-length s)
 
-module _ {t : List ℕ} {f : Found} {tb dp : List ℕ} {s : State} where
-  pub carries : Resumes t f tb dp → TextOf 4 s t → Carries s f tb dp
+module _ {t d : List ℕ} {f : Found} {tb dp : List ℕ} {s : State} where
+  pub carries : Resumes t d f tb dp → TextOf 4 s t → Carries s f tb dp
   carries r h =
       let o = by-test (f .ok) (λ y. test-true (f .ok) y) (λ y. absurd (r .accepts .no (test-false (f .ok) y) s h)) in
       let e = one-spelling (r .accepts .yes o .text) h in
       record { accepted = o; held = r .accepts .yes o .held; state = e; display = r .counts o ∙ ap counted e }
 
-  pub carries2 : {w : ℕ} → Resumes2 w t f tb dp → TextOf2 w s t → Carries s f tb dp
+  pub carries2 : {w : ℕ} → Resumes2 w t d f tb dp → TextOf2 w s t → Carries s f tb dp
   carries2 r h =
       let o = by-test (f .ok) (λ y. test-true (f .ok) y) (λ y. absurd (r .accepts .no (test-false (f .ok) y) s h)) in
       let e = one-spelling2 (r .accepts .yes o .text) h in
       record { accepted = o; held = r .accepts .yes o .held; state = e; display = r .counts o ∙ ap counted e }
+
+-- no second outcome fits
+shown-once : {d : List ℕ} {f g : Found} {tb tb₂ dp dp₂ : List ℕ} → (f ≡ g) × (tb ≡ tb₂) → Counts f tb dp
+    → Counts g tb₂ dp₂ → Still f d dp → Still g d dp₂ → dp ≡ dp₂
+shown-once {f = f} {g = g} (e, q) x y u v =
+    let k : f .ok ≡ g .ok = ap (λ (h : Found). h .ok) e in
+    by-test (f .ok)
+    (λ o. let z = test-true (f .ok) o in x z ∙ ap₂ (λ (h : Found) (b : List ℕ). counted (stateIn (h .board) b)) e q
+    ∙ sym (y (sym k ∙ z)))
+    (λ o. let z = test-false (f .ok) o in u z ∙ sym (v (sym k ∙ z)))
+
+pub one-resuming : {t d : List ℕ} {f g : Found} {tb tb₂ dp dp₂ : List ℕ} → Resumes t d f tb dp → Resumes t d g tb₂ dp₂
+    → (f ≡ g) × (tb ≡ tb₂) × (dp ≡ dp₂)
+one-resuming x y =
+    let e = one-accepting (x .accepts) (y .accepts) in
+    (e .0, e .1, shown-once e (x .counts) (y .counts) (x .still) (y .still))
+
+pub one-resuming2 : {w : ℕ} {t d : List ℕ} {f g : Found} {tb tb₂ dp dp₂ : List ℕ} → Resumes2 w t d f tb dp
+    → Resumes2 w t d g tb₂ dp₂
+    → (f ≡ g) × (tb ≡ tb₂) × (dp ≡ dp₂)
+one-resuming2 x y =
+    let e = one-accepting2 (x .accepts) (y .accepts) in
+    (e .0, e .1, shown-once e (x .counts) (y .counts) (x .still) (y .still))
 
 -- from here on nothing depends on the form
 module _ {s : State} {f : Found} {tb dp : List ℕ} (r : Carries s f tb dp) where

@@ -2,12 +2,13 @@
 -- Assumes nothing.
 --
 --   Counts f tb′ dp′          where a text is accepted, the display is counted
---   Resumes t f tb′ dp′       the promise of `resume`: the text is accepted or not, as `accept` says; and where it is, the display is counted
---   Resumes2 w t f tb′ dp′    the promise of `resume2`: the same of a text of the second form, of w channels, as `accept2` says
+--   Still f dp dp′            where it is not, the display stays
+--   Resumes t dp f tb′ dp′    the promise of `resume`: the text is accepted or not, as `accept` says; the display counted, or as it was
+--   Resumes2 w t dp f tb′ dp′ the promise of `resume2`: the same of a text of the second form, of w channels, as `accept2` says
 --   Carries s f tb dp         what is held is the state s, with its display counted: so it is where a text of s, of either form, was
 --                             resumed
 use mathlib.Core.Path.{_≡_}
-use mathlib.Core.Bool.{true}
+use mathlib.Core.Bool.{true, false}
 use mathlib.Core.List.{List}
 use Prim.Native.Nat.{ℕ}
 use Rattle.machine.specs.State.{State}
@@ -21,13 +22,18 @@ use Rattle.recounting.specs.Recounting.{counted}
 abbrev pub Counts : Found → List ℕ → List ℕ → Type 0
 Counts f tb′ dp′ = f .ok ≡ true → dp′ ≡ counted (stateIn (f .board) tb′)
 
-pub record Resumes (t : List ℕ) (f : Found) (tb′ dp′ : List ℕ) : Type 0 where
+abbrev pub Still : Found → List ℕ → List ℕ → Type 0
+Still f dp dp′ = f .ok ≡ false → dp′ ≡ dp
+
+pub record Resumes (t dp : List ℕ) (f : Found) (tb′ dp′ : List ℕ) : Type 0 where
   pub accepts : Accepts t f tb′
   pub counts : Counts f tb′ dp′
+  pub still : Still f dp dp′
 
-pub record Resumes2 (w : ℕ) (t : List ℕ) (f : Found) (tb′ dp′ : List ℕ) : Type 0 where
+pub record Resumes2 (w : ℕ) (t dp : List ℕ) (f : Found) (tb′ dp′ : List ℕ) : Type 0 where
   pub accepts : Accepts2 w t f tb′
   pub counts : Counts f tb′ dp′
+  pub still : Still f dp dp′
 
 pub record Carries (s : State) (f : Found) (tb dp : List ℕ) : Type 0 where
   pub accepted : f .ok ≡ true

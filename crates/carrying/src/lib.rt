@@ -10,7 +10,7 @@ ghost use Rattle.carrying.specs.Carrying.{Resumes, Resumes2};
 // The board that a text holds, its table, and its display counted once. A text that was not saved leaves the display as it was.
 pub fn resume(text: &[u8], table: &mut [u8], display: &mut [u8]) -> Found
     requires { ⌜ (now table ≡ replicate 1472 0) × (length (now display) ≡ 18) ⌝ }
-    ensures { λ r. ⌜ Resumes (now (text .entry)) r (now (table .exit)) (now (display .exit)) ⌝ }
+    ensures { λ r. ⌜ Resumes (now (text .entry)) (now (display .entry)) r (now (table .exit)) (now (display .exit)) ⌝ }
 {
     let f = accepting::accept(text, table);
     if !f.ok {
@@ -24,7 +24,7 @@ pub fn resume(text: &[u8], table: &mut [u8], display: &mut [u8]) -> Found
 // The same of a text of the second form, of a board with `width` channels.
 pub fn resume2(width: u8, text: &[u8], table: &mut [u8], display: &mut [u8]) -> Found
     requires { ⌜ (T (sized width)) × (now table ≡ replicate 1472 0) × (length (now display) ≡ 18) ⌝ }
-    ensures { λ r. ⌜ Resumes2 width (now (text .entry)) r (now (table .exit)) (now (display .exit)) ⌝ }
+    ensures { λ r. ⌜ Resumes2 width (now (text .entry)) (now (display .entry)) r (now (table .exit)) (now (display .exit)) ⌝ }
 {
     let f = accepting2::accept2(width, text, table);
     if !f.ok {

@@ -17,7 +17,7 @@ use Rattle.machine.specs.Kinds.{kind}
 use Rattle.machine.specs.Call.{perform}
 use Rattle.machine.proofs.Tests.{and-both}
 use Rattle.machine_laws.proofs.Lists.{pigeon, keep-length}
-use Rattle.machine_laws.proofs.Sound.{Parts}
+use Rattle.machine_laws.specs.Sound.{Parts}
 use Rattle.store.specs.declared.State.{State}
 use Rattle.store.specs.Store.{stateIn}
 use Rattle.store.specs.Work.{Ready}

@@ -1,10 +1,10 @@
--- The number at a place moves by what joined its queue and what left it; and by the table one tells who waits.
+-- The number at a place moves by what joined its queue and what left it.
 -- Assumes nothing.
-use Prim.Native.Nat.{ℕ, zero, suc, _+_, _-_, _*_, _/_, _%_, _≤_, _<_}
+use Prim.Native.Nat.{ℕ, zero, suc, _+_, _-_, _*_, _/_, _%_, _^_, _≤_, _<_}
 use mathlib.Core.Path.{_≡_, refl, ap, ap₂, sym, subst, _∙_}
 use mathlib.Core.Bool.{Bool, true, false, not, _&&_, _||_}
 use mathlib.Core.List.{List, [], _∷_, _++_, map, append-nil}
-use native.Mathlib.Nat.{add-zero, zero-add}
+use native.Mathlib.Nat.{add-zero, zero-add, div-div-eq-div-mul, pow-suc}
 use native.Mathlib.Omega.{arith}
 use lib.Dec.{T, eqb, eqb→eq}
 use lib.ListN.{length, getD, set, take, drop, replicate, length-append, length-map, List·getD-map}
@@ -13,7 +13,7 @@ use Rattle.machine.specs.Numbers.{ADCMD·ALLOCATE}
 use Rattle.machine.specs.Lists.{if_then_else_, any, keep, among, distinct}
 use Rattle.machine.specs.State.{Write, Channel as ChannelM, Lock, Request, State as StateM, free}
 use Rattle.machine.specs.Maps.{odd, half}
-use Rattle.machine_laws.proofs.Sound.{Parts}
+use Rattle.machine_laws.specs.Sound.{Parts}
 use Rattle.channel.specs.declared.Channel.{Channel}
 use Rattle.channel.specs.Channel.{channelOf}
 use Rattle.channel.proofs.Laws.{Few}
@@ -25,12 +25,13 @@ use Rattle.queue.specs.declared.Queue.{Queue}
 use Rattle.queue.specs.Queue.{listOf}
 use Rattle.store.specs.declared.State.{State}
 use Rattle.store.specs.Store.{Item, writeItem, lockItem, waiterItem, waitItem, writeItems, items, keys, Each, lookup, requestIn, stateIn, Held}
-use Rattle.store.proofs.Store.{parts-long, block-tableOf, apart-items, held-parts, held-waiting, waiting-small, writes-few}
-use Rattle.machine_laws.proofs.Keeping.{waitIds}
+use Rattle.store.proofs.Store.{parts-long, block-tableOf, apart-items, held-parts, held-waiting, waiting-count, writes-few}
+use Rattle.machine_laws.specs.Keeping.{waitIds}
 use Rattle.display.specs.Display.{names, naming, writesOn, number, corrected}
 use Rattle.display.proofs.Acting.{waiting-apart}
-use Rattle.display.proofs.Standing.{gone, Agree, moves}
-use Rattle.departed.specs.Departed.{waitsIn, leaves, movedIn}
+use Rattle.lanes.specs.Lanes.{lane, Balanced}
+use Rattle.lanes.proofs.Laws.{balanced-lane}
+use Rattle.channel_numbers.specs.ChannelNumbers.{countAt, moved, Moves}
 use Rattle.shifting.specs.Shifting.{shifted}
 
 -- ---- the lengths of the queues
@@ -60,20 +61,20 @@ lengths-end l cs a b =
 
 -- ---- a byte of the display
 
-corrected-append : (s t : StateM) (j : ℕ) (xs ys : List ℕ) → corrected s t j (xs ++ ys) ≡ corrected s t j xs ++ corrected s t (j + length xs) ys
-unfolding corrected
-corrected-append s t j [] ys = ap (λ (k : ℕ). corrected s t k ys) (sym (add-zero j))
-corrected-append s t j (x ∷ xs) ys =
+moved-append : (m l : ℕ → ℕ) (j : ℕ) (xs ys : List ℕ) → moved m l j (xs ++ ys) ≡ moved m l j xs ++ moved m l (j + length xs) ys
+unfolding moved
+moved-append m l j [] ys = ap (λ (k : ℕ). moved m l k ys) (sym (add-zero j))
+moved-append m l j (x ∷ xs) ys =
     let e : suc j + length xs ≡ j + length (x ∷ xs) = omega arith in
-    ap (λ (l : List ℕ). ((x + number j t + 255 * number j s) % 256) ∷ l) (corrected-append s t (suc j) xs ys ∙ ap (λ (k : ℕ). corrected s t (suc j) xs ++ corrected s t k ys) e)
+    ap (λ (zs : List ℕ). shifted x (m j) (l j) ∷ zs) (moved-append m l (suc j) xs ys ∙ ap (λ (k : ℕ). moved m l (suc j) xs ++ moved m l k ys) e)
 
-pub length-corrected : (s t : StateM) (j : ℕ) (xs : List ℕ) → length (corrected s t j xs) ≡ length xs
-unfolding corrected
-length-corrected s t j [] = refl
-length-corrected s t j (x ∷ xs) = ap suc (length-corrected s t (suc j) xs)
+pub length-moved : (m l : ℕ → ℕ) (j : ℕ) (xs : List ℕ) → length (moved m l j xs) ≡ length xs
+unfolding moved
+length-moved m l j [] = refl
+length-moved m l j (x ∷ xs) = ap suc (length-moved m l (suc j) xs)
 
 -- what joined and what left move a count as far as the count itself has moved
-pub shifted-is : (b m l before after : ℕ) → l ≤ 256 → after + l ≡ before + m → shifted b m l ≡ (b + after + 255 * before) % 256
+shifted-is : (b m l before after : ℕ) → l ≤ 256 → after + l ≡ before + m → shifted b m l ≡ (b + after + 255 * before) % 256
 shifted-is b m l before after h e = omega (arith, h, e)
 
 getD-splice : (l vs : List ℕ) (j : ℕ) → length vs ≡ j → j < length l → getD (splice l 0 vs) j 0 ≡ getD l j 0
@@ -84,126 +85,45 @@ getD-splice l vs j a h =
     ∙ (getD-append-add vs (drop (0 + length vs) l) 0 0
     ∙ (ap (λ (k : ℕ). getD (drop k l) 0 0) (zero-add (length vs) ∙ a) ∙ ap (λ (x : List ℕ). getD x 0 0) (drop-cons l j 0 h)))
 
-module _ (s t : StateM) (d₀ : List ℕ) (j : ℕ) (h : j < length d₀) where
-  pub corrected-turn : (d : List ℕ) (m l : ℕ) → d ≡ splice d₀ 0 (corrected s t 0 (take j d₀)) → l ≤ 256 → number j t + l ≡ number j s + m
-      → splice d j (shifted (getD d j 0) m l ∷ []) ≡ splice d₀ 0 (corrected s t 0 (take (j + 1) d₀))
-  unfolding corrected splice
-  corrected-turn d m l e f q =
-      let vs = corrected s t 0 (take j d₀) in
-      let a : length vs ≡ j = length-corrected s t 0 (take j d₀) ∙ length-take-le j d₀ (omega arith) in
+module _ (m l : ℕ → ℕ) (d₀ : List ℕ) (j : ℕ) (h : j < length d₀) where
+  pub moved-turn : (d : List ℕ) → d ≡ splice d₀ 0 (moved m l 0 (take j d₀)) → splice d j (shifted (getD d j 0) (m j) (l j) ∷ []) ≡ splice d₀ 0 (moved m l 0 (take (j + 1) d₀))
+  unfolding moved splice
+  moved-turn d e =
+      let vs = moved m l 0 (take j d₀) in
+      let a : length vs ≡ j = length-moved m l 0 (take j d₀) ∙ length-take-le j d₀ (omega arith) in
       let b : getD d j 0 ≡ getD d₀ j 0 = ap (λ (x : List ℕ). getD x j 0) e ∙ getD-splice d₀ vs j a h in
-      let y : ℕ = (getD d₀ j 0 + number j t + 255 * number j s) % 256 in
-      let u : shifted (getD d j 0) m l ≡ y = shifted-is (getD d j 0) m l (number j s) (number j t) f q ∙ ap (λ (x : ℕ). (x + number j t + 255 * number j s) % 256) b in
+      let y : ℕ = shifted (getD d₀ j 0) (m j) (l j) in
+      let u : shifted (getD d j 0) (m j) (l j) ≡ y = ap (λ (x : ℕ). shifted x (m j) (l j)) b in
       let k : j + 1 ≡ suc j = omega arith in
-      let w : corrected s t 0 (take (j + 1) d₀) ≡ vs ++ y ∷ [] =
-      ap (λ (x : ℕ). corrected s t 0 (take x d₀)) k
-      ∙ (ap (corrected s t 0) (take-suc d₀ j 0 h) ∙ (corrected-append s t 0 (take j d₀) (getD d₀ j 0 ∷ [])
-      ∙ ap (λ (x : ℕ). vs ++ ((getD d₀ j 0 + number x t + 255 * number x s) % 256) ∷ []) (zero-add (length (take j d₀)) ∙ length-take-le j d₀ (omega arith)))) in
+      let w : moved m l 0 (take (j + 1) d₀) ≡ vs ++ y ∷ [] =
+      ap (λ (x : ℕ). moved m l 0 (take x d₀)) k
+      ∙ (ap (moved m l 0) (take-suc d₀ j 0 h) ∙ (moved-append m l 0 (take j d₀) (getD d₀ j 0 ∷ [])
+      ∙ ap (λ (x : ℕ). vs ++ shifted (getD d₀ j 0) (m x) (l x) ∷ []) (zero-add (length (take j d₀)) ∙ length-take-le j d₀ (omega arith)))) in
       ap₂ (λ (x : List ℕ) (v : ℕ). splice x j (v ∷ [])) e u ∙ (splice-then d₀ 0 vs (y ∷ []) j (omega arith) (omega arith) ∙ ap (splice d₀ 0) (sym w))
 
--- ---- who waits, by the table
+-- ---- what is counted for a place
 
-abbrev Other : Item → Type 0
-Other x = eqb (getD (x .entry) 0 0) ADCMD·ALLOCATE ≡ false
+pub count-even : (ns : List ℕ) (w c : ℕ) → countAt ns w (2 * c) ≡ getD ns c 0
+unfolding odd half
+count-even ns w c =
+    let e : 2 * c % 2 ≡ 0 = omega arith in
+    let f : 2 * c / 2 ≡ c = omega arith in
+    rw (e, f) refl
 
-each-append : (xs ys : List Item) → Each Other xs → Each Other ys → Each Other (xs ++ ys)
-each-append [] ys a b = b
-each-append (x ∷ xs) ys a b = (a .0, each-append xs ys (a .1) b)
+pub count-odd : (ns : List ℕ) (w c : ℕ) → countAt ns w (2 * c + 1) ≡ lane c w
+unfolding odd half
+count-odd ns w c =
+    let e : (2 * c + 1) % 2 ≡ 1 = omega arith in
+    let f : (2 * c + 1) / 2 ≡ c = omega arith in
+    rw (e, f) refl
 
-other-writes : (k : ℕ) (ws : List Write) → Each Other (map (writeItem k) ws)
-unfolding writeEntry
-other-writes k [] = tt
-other-writes k (w ∷ ws) = (refl, other-writes k ws)
-
-other-channels : (cs : List ChannelM) → Each Other (writeItems cs)
-unfolding writeItems
-other-channels [] = tt
-other-channels (c ∷ cs) = each-append (map (writeItem (c .key)) (c .writes)) (writeItems cs) (other-writes (c .key) (c .writes)) (other-channels cs)
-
-other-locks : (ls : List Lock) → Each Other (map lockItem ls)
-unfolding spanEntry
-other-locks [] = tt
-other-locks (l ∷ ls) = (refl, other-locks ls)
-
-other-waiters : (ws : List Lock) → Each Other (map waiterItem ws)
-unfolding spanEntry
-other-waiters [] = tt
-other-waiters (w ∷ ws) = (refl, other-waiters ws)
-
-wait-keys : (rs : List Request) → keys (map waitItem rs) ≡ waitIds rs
-wait-keys [] = refl
-wait-keys (r ∷ rs) = ap (λ (l : List ℕ). r .id ∷ l) (wait-keys rs)
-
-absent-right : (i : ℕ) (xs ys : List Item) → T (not (among i (keys (xs ++ ys)))) → T (not (among i (keys ys)))
-unfolding among any
-absent-right i [] ys n = n
-absent-right i (x ∷ xs) ys n = absent-right i xs ys (nor-right (eqb i (x .id)) (among i (keys (xs ++ ys))) n)
-
-waits-lookup : (i : ℕ) (rs : List Request) → eqb (getD (lookup i (map waitItem rs)) 0 0) ADCMD·ALLOCATE ≡ among i (waitIds rs)
-unfolding lookup among any waitEntry
-waits-lookup i [] = refl
-waits-lookup i (r ∷ rs) = go (eqb i (r .id)) (waits-lookup i rs)
+-- a place is a channel's first or second
+by-place : (P : ℕ → Type 0) → ((c : ℕ) → c < 8 → P (2 * c)) → ((c : ℕ) → c < 8 → P (2 * c + 1)) → (j : ℕ) → j < 16 → P j
+by-place P even odd′ j h = go (j % 2) refl
   where
-    go : (b : Bool) → eqb (getD (lookup i (map waitItem rs)) 0 0) ADCMD·ALLOCATE ≡ among i (waitIds rs)
-        → eqb (getD (if b then waitEntry r else lookup i (map waitItem rs)) 0 0) ADCMD·ALLOCATE ≡ (b || among i (waitIds rs))
-    go true e = unfold waitEntry in refl
-    go false e = e
-
-kind-lookup : (i : ℕ) (xs : List Item) (rs : List Request) → Each Other xs → T (distinct (keys (xs ++ map waitItem rs)))
-    → eqb (getD (lookup i (xs ++ map waitItem rs)) 0 0) ADCMD·ALLOCATE ≡ among i (waitIds rs)
-unfolding lookup distinct
-kind-lookup i [] rs o d = waits-lookup i rs
-kind-lookup i (x ∷ xs) rs o d =
-    by-test (eqb i (x .id))
-    (λ t. let e = eqb→eq i (x .id) t in
-    ap (λ (b : Bool). eqb (getD (if b then x .entry else lookup i (xs ++ map waitItem rs)) 0 0) ADCMD·ALLOCATE) (test-true (eqb i (x .id)) t)
-    ∙ (o .0 ∙ sym (test-false (among i (waitIds rs)) (absent e))))
-    (λ t. ap (λ (b : Bool). eqb (getD (if b then x .entry else lookup i (xs ++ map waitItem rs)) 0 0) ADCMD·ALLOCATE) (test-false (eqb i (x .id)) t)
-    ∙ kind-lookup i xs rs (o .1) (and-right (not (among (x .id) (keys (xs ++ map waitItem rs)))) (distinct (keys (xs ++ map waitItem rs))) d))
-  where
-    absent : i ≡ x .id → T (not (among i (waitIds rs)))
-    absent e =
-        subst (λ (l : List ℕ). T (not (among i l))) (wait-keys rs)
-        (absent-right i xs (map waitItem rs)
-        (subst (λ (k : ℕ). T (not (among k (keys (xs ++ map waitItem rs))))) (sym e)
-        (and-left (not (among (x .id) (keys (xs ++ map waitItem rs)))) (distinct (keys (xs ++ map waitItem rs))) d)))
-
-pub waits-is : {st : State} {tb : List ℕ} → Held st tb → (i : ℕ) → i < 64 → waitsIn tb i ≡ among i (waitIds (stateIn st tb .waiting))
-unfolding items
-waits-is {st} {tb} h i l =
-    let s = stateIn st tb in
-    let p = held-parts h in
-    ap (λ (x : List ℕ). eqb (getD x 0 0) ADCMD·ALLOCATE) (ap (λ (x : List ℕ). block 23 x i) (h .table) ∙ block-tableOf s i (parts-long s p) l)
-    ∙ kind-lookup i (writeItems (s .channels) ++ map lockItem (s .locks) ++ map waiterItem (s .waiters)) (s .waiting)
-    (each-append (writeItems (s .channels) ++ map lockItem (s .locks)) (map waiterItem (s .waiters))
-    (each-append (writeItems (s .channels)) (map lockItem (s .locks)) (other-channels (s .channels)) (other-locks (s .locks)))
-    (other-waiters (s .waiters)))
-    (apart-items s p)
-
--- ---- how many have moved
-
-keep-map : (p : Request → Bool) (q : ℕ → Bool) (f : ℕ → Request) (is : List ℕ) → Each (λ i. q i ≡ p (f i)) is
-    → length (keep q is) ≡ length (keep p (map f is))
-unfolding keep
-keep-map p q f [] e = refl
-keep-map p q f (i ∷ is) e = go (q i) (p (f i)) (e .0) (keep-map p q f is (e .1))
-  where
-    go : (a b : Bool) → a ≡ b → length (keep q is) ≡ length (keep p (map f is))
-        → length (if a then i ∷ keep q is else keep q is) ≡ length (if b then f i ∷ keep p (map f is) else keep p (map f is))
-    go a b x y = ap (λ (z : Bool). length (if z then i ∷ keep q is else keep q is)) x ∙ both b
-      where
-        both : (c : Bool) → length (if c then i ∷ keep q is else keep q is) ≡ length (if c then f i ∷ keep p (map f is) else keep p (map f is))
-        both true = ap suc y
-        both false = y
-
-pub moved-is : {st st′ : State} {tb tb′ : List ℕ} → Held st tb → Held st′ tb′ → (c : ℕ)
-    → movedIn (st .waiting) tb tb′ c ≡ length (keep (λ r. names c r && gone (stateIn st′ tb′ .waiting) r) (stateIn st tb .waiting))
-moved-is {st} {st′} {tb} {tb′} h h′ c =
-    keep-map (λ r. names c r && gone (stateIn st′ tb′ .waiting) r) (leaves tb tb′ c) (requestIn tb) (listOf (st .waiting)) (each (listOf (st .waiting)) (waiting-small h))
-  where
-    each : (is : List ℕ) → Each (λ i. i < 64) is → Each (λ i. leaves tb tb′ c i ≡ (names c (requestIn tb i) && gone (stateIn st′ tb′ .waiting) (requestIn tb i))) is
-    each [] m = tt
-    each (i ∷ is) m = (ap (λ (b : Bool). names c (requestIn tb i) && not b) (waits-is h′ i (m .0)), each is (m .1))
+    go : (r : ℕ) → j % 2 ≡ r → P j
+    go zero e = subst P (let f : 2 * (j / 2) ≡ j = omega (arith, e) in f) (even (j / 2) (omega (arith, h)))
+    go (suc r) e = subst P (let f : 2 * (j / 2) + 1 ≡ j = omega (arith, e) in f) (odd′ (j / 2) (omega (arith, h)))
 
 -- ---- the number at a place
 
@@ -237,48 +157,45 @@ module _ {st st′ : State} {tb tb′ : List ℕ} (h : Held st tb) (h′ : Held 
       → number (2 * c) (stateIn st′ tb′) + o ≡ number (2 * c) (stateIn st tb) + n
   writes-move a b = omega (arith, a, b, writes-are h c, writes-are h′ c, even-is c (stateIn st tb), even-is c (stateIn st′ tb′))
 
-  pub naming-move : {g j : ℕ} → Agree (stateIn st tb .waiting) (stateIn st′ tb′ .waiting) → g ≡ movedIn (st .waiting) tb tb′ c → j ≡ movedIn (st′ .waiting) tb′ tb c
-      → number (2 * c + 1) (stateIn st′ tb′) + g ≡ number (2 * c + 1) (stateIn st tb) + j
+  pub naming-move : {l j : ℕ} → Balanced (stateIn st tb .waiting) (stateIn st′ tb′ .waiting) l j → c < 8
+      → number (2 * c + 1) (stateIn st′ tb′) + lane c l ≡ number (2 * c + 1) (stateIn st tb) + lane c j
   unfolding naming
-  naming-move a b d =
+  naming-move {l} {j} b k =
       let s = stateIn st tb in
       let t = stateIn st′ tb′ in
-      omega (arith, b, d, moved-is h h′ c, moved-is h′ h c, odd-is c s, odd-is c t, moves (names c) (t .waiting) (s .waiting) (waiting-apart s (held-parts h)) a)
+      let n : length (s .waiting) ≤ 64 = omega (arith, length-map (listOf (st .waiting)) (requestIn tb), waiting-count h .0, waiting-count h .1) in
+      omega (arith, odd-is c s, odd-is c t, balanced-lane b n c k)
 
 -- ---- the loop over the channels
 
--- how far each number moves, in the words of the code: by the lengths of the queues, and by who joined and left the waiting list
-pub record Moves (s t : StateM) (old new : List ℕ) (waited waits : Queue) (was table : List ℕ) : Type 0 where
-  pub writes : (c : ℕ) → number (2 * c) t + getD old c 0 ≡ number (2 * c) s + getD new c 0
-  pub few : (c : ℕ) → getD old c 0 ≤ 256
-  pub naming : (c : ℕ) → number (2 * c + 1) t + movedIn waited was table c ≡ number (2 * c + 1) s + movedIn waits table was c
+abbrev pub Corrected : List ℕ → List ℕ → ℕ → ℕ → List ℕ → List ℕ → ℕ → Type 0
+Corrected old new left joined d₀ d c = d ≡ splice d₀ 0 (moved (countAt new joined) (countAt old left) 0 (take (2 * c) d₀))
 
-abbrev pub Corrected : List ℕ → List ℕ → Queue → Queue → List ℕ → List ℕ → List ℕ → List ℕ → ℕ → Type 0
-Corrected old new waited waits was table d₀ d c =
-    (s t : StateM) → Moves s t old new waited waits was table → d ≡ splice d₀ 0 (corrected s t 0 (take (2 * c) d₀))
+module _ (old new : List ℕ) (left joined : ℕ) (d₀ : List ℕ) where
+  pub corrected-start : Corrected old new left joined d₀ d₀ 0
+  unfolding moved
+  corrected-start = sym (splice-none d₀ 0)
 
-module _ (old new : List ℕ) (waited waits : Queue) (was table d₀ : List ℕ) where
-  pub corrected-start : Corrected old new waited waits was table d₀ d₀ 0
-  unfolding corrected
-  corrected-start s t m = sym (splice-none d₀ 0)
-
-  pub corrected-two : {d d₁ d₂ : List ℕ} (c j g : ℕ) → Corrected old new waited waits was table d₀ d c → 2 * c + 1 < length d₀
+  pub corrected-two : {d d₁ d₂ : List ℕ} (c j g : ℕ) → Corrected old new left joined d₀ d c → 2 * c + 1 < length d₀
       → d₁ ≡ splice d (2 * c) (shifted (getD d (2 * c) 0) (getD new c 0) (getD old c 0) ∷ [])
       → d₂ ≡ splice d₁ (2 * c + 1) (shifted (getD d₁ (2 * c + 1) 0) j g ∷ [])
-      → j ≡ movedIn waits table was c → g ≡ movedIn waited was table c → g ≤ 64 → Corrected old new waited waits was table d₀ d₂ (c + 1)
-  corrected-two {d} {d₁} {d₂} c j g i h e f x y l s t m =
-      let a : d₁ ≡ splice d₀ 0 (corrected s t 0 (take (2 * c + 1) d₀)) =
-      e ∙ corrected-turn s t d₀ (2 * c) (omega (arith, h)) d (getD new c 0) (getD old c 0) (i s t m) (m .few c) (m .writes c) in
-      let b = corrected-turn s t d₀ (2 * c + 1) h d₁ j g a (omega (arith, l)) (omega (arith, x, y, m .naming c)) in
+      → j ≡ lane c joined → g ≡ lane c left → Corrected old new left joined d₀ d₂ (c + 1)
+  corrected-two {d} {d₁} {d₂} c j g i h e f x y =
+      let m = countAt new joined in
+      let l = countAt old left in
+      let p : d₁ ≡ splice d (2 * c) (shifted (getD d (2 * c) 0) (m (2 * c)) (l (2 * c)) ∷ []) =
+      e ∙ ap₂ (λ (v w : ℕ). splice d (2 * c) (shifted (getD d (2 * c) 0) v w ∷ [])) (sym (count-even new joined c)) (sym (count-even old left c)) in
+      let a = p ∙ moved-turn m l d₀ (2 * c) (omega (arith, h)) d i in
+      let q : d₂ ≡ splice d₁ (2 * c + 1) (shifted (getD d₁ (2 * c + 1) 0) (m (2 * c + 1)) (l (2 * c + 1)) ∷ []) =
+      f ∙ ap₂ (λ (v w : ℕ). splice d₁ (2 * c + 1) (shifted (getD d₁ (2 * c + 1) 0) v w ∷ [])) (x ∙ sym (count-odd new joined c)) (y ∙ sym (count-odd old left c)) in
       let k : 2 * c + 1 + 1 ≡ 2 * (c + 1) = omega arith in
-      f ∙ (b ∙ ap (λ (n : ℕ). splice d₀ 0 (corrected s t 0 (take n d₀))) k)
+      q ∙ (moved-turn m l d₀ (2 * c + 1) h d₁ a ∙ ap (λ (n : ℕ). splice d₀ 0 (moved m l 0 (take n d₀))) k)
 
-pub queue-long : {st : State} {tb : List ℕ} → Held st tb → st .waiting .n ≤ length (st .waiting .ids)
-queue-long {st} {tb} h =
-    let l = listOf (st .waiting) in
-    let e = ap (λ (q : Queue). q .n) (held-waiting h) in
-    let f = ap (λ (q : Queue). length (q .ids)) (held-waiting h) ∙ length-append l (replicate (64 - length l) 0) in
-    omega (arith, e, f)
+-- the lanes from c on
+pub lanes-next : (w x c : ℕ) → x ≡ w / 256 ^ c → x / 256 ≡ w / 256 ^ (c + 1)
+lanes-next w x c e =
+    let k : c + 1 ≡ suc c = omega arith in
+    ap (λ (y : ℕ). y / 256) e ∙ (div-div-eq-div-mul w (256 ^ c) 256 ∙ ap (λ (y : ℕ). w / y) (sym (pow-suc 256 c) ∙ ap (λ (n : ℕ). 256 ^ n) (sym k)))
 
 few-at : (cs : List ChannelM) → Few cs → (c : ℕ) → length (getD cs c free .writes) ≤ 64
 few-at [] f c = omega arith
@@ -289,12 +206,26 @@ few-on : (s : StateM) → Parts s → (c : ℕ) → writesOn c s ≤ 64
 unfolding writesOn
 few-on s p c = few-at (s .channels) (writes-few s p) c
 
-pub moves-held : {st st′ : State} {tb tb′ old new : List ℕ} → Held st tb → Held st′ tb′ → Agree (stateIn st tb .waiting) (stateIn st′ tb′ .waiting)
-    → old ≡ map (λ x. x .writes .n) (st .channels) → new ≡ map (λ x. x .writes .n) (st′ .channels)
-    → Moves (stateIn st tb) (stateIn st′ tb′) old new (st .waiting) (st′ .waiting) tb tb′
-moves-held {st} {st′} {tb} {tb′} h h′ a o n =
+pub moves-held : {st st′ : State} {tb tb′ : List ℕ} {l j : ℕ} → Held st tb → Held st′ tb′ → Balanced (stateIn st tb .waiting) (stateIn st′ tb′ .waiting) l j
+    → Moves (stateIn st tb) (stateIn st′ tb′) (countAt (map (λ x. x .writes .n) (st′ .channels)) j) (countAt (map (λ x. x .writes .n) (st .channels)) l)
+moves-held {st} {st′} {tb} {tb′} {l} {j} h h′ b =
+    let old = map (λ (x : Channel). x .writes .n) (st .channels) in
+    let new = map (λ (x : Channel). x .writes .n) (st′ .channels) in
+    let s = stateIn st tb in
+    let t = stateIn st′ tb′ in
     record {
-      writes = λ c. writes-move h h′ c (ap (λ (x : List ℕ). getD x c 0) o) (ap (λ (x : List ℕ). getD x c 0) n);
-      few = λ c. let e = ap (λ (x : List ℕ). getD x c 0) o ∙ writes-are h c in omega (arith, e, few-on (stateIn st tb) (held-parts h) c);
-      naming = λ c. naming-move h h′ c a refl refl;
+      few = by-place (λ i. countAt old l i ≤ 256)
+          (λ c k. omega (arith, count-even old l c, writes-are h c, few-on s (held-parts h) c))
+          (λ c k. omega (arith, count-odd old l c));
+      by = by-place (λ i. number i t + countAt old l i ≡ number i s + countAt new j i)
+          (λ c k. writes-move h h′ c (count-even old l c) (count-even new j c))
+          (λ c k. omega (arith, count-odd old l c, count-odd new j c, naming-move h h′ c b k));
     }
+
+-- where each count moves so, the numbers that are moved are those that are corrected
+pub moved-corrected : {s t : StateM} {m l : ℕ → ℕ} → Moves s t m l → (j : ℕ) (bs : List ℕ) → j + length bs ≤ 16 → moved m l j bs ≡ corrected s t j bs
+unfolding moved corrected
+moved-corrected v j [] h = refl
+moved-corrected {s} {t} {m} {l} v j (b ∷ bs) h =
+    let k : j < 16 = omega arith in
+    ap₂ _∷_ (shifted-is b (m j) (l j) (number j s) (number j t) (v .few j k) (v .by j k)) (moved-corrected v (suc j) bs (omega arith))

@@ -17,33 +17,28 @@ use Rattle.machine.specs.State.{Call, Channel as ChannelM, Op as OpM, OPEN, CLO
 use Rattle.machine.specs.Commands.{cyclesIn}
 use Rattle.machine.specs.Call.{call, inRange}
 use Rattle.machine.proofs.Tests.{and-both, or-right}
-use Rattle.machine_laws.proofs.KeepingCalls.{Counted}
+use Rattle.machine_laws.specs.Keeping.{Counted}
 use Rattle.memory.specs.Splice.{splice}
 use Rattle.channel.specs.declared.Channel.{Channel}
 use Rattle.channel.specs.Channel.{channelOf}
 use Rattle.reply.specs.Replies.{encode, encodes, sent}
 use Rattle.board.specs.declared.Board.{Board}
-use Rattle.answers.specs.Answers.{answerOf, answerIn}
+use Rattle.answers.specs.Answers.{answerIn}
 use Rattle.board.specs.Board.{stateIn, Held, Told}
 use Rattle.board.proofs.Laws.{held-channels}
 use Rattle.board.specs.declared.Outcome.{Outcome}
 use Rattle.answers.specs.declared.Request.{Request}
 use Rattle.refusals.specs.declared.Op.{Op}
-use Rattle.arbiter.proofs.Outcome.{Same, held-after, one-outcome}
-use Rattle.two_runs.specs.TwoRuns.{Party, Start, Step, our, their, Keeps as KeepsM, Run as RunM, reached, calls, counted, inBytes, lends, own, said, mask, view, waitersOf, ownReplies, Seen, answered, received, owning, seen}
+use Rattle.arbiter.specs.Outcome.{Same}
+use Rattle.arbiter.proofs.Outcome.{held-after, one-outcome}
+use Rattle.two_runs.specs.TwoRuns.{Party, Start, their, Keeps as KeepsM, Run as RunM, reached, calls, counted, inBytes, lends, own, said, mask, view, waitersOf, ownReplies, answered, received, owning, seen}
 use Rattle.two_runs.specs.Part.{project}
 use Rattle.two_runs.proofs.TwoRuns.{K-sees-its-part, others-leave-K-alone}
-use Rattle.code_runs.specs.CodeRuns.{Turn, asked, Took, Move, ours, others, Chained, Keeps, Full, Run, ownCalls, records, recordsTo, ownRecords, maskOf, viewOf, storedOf, Sight, told, got, has, sights, Demand3·code, stateAfter, tableAfter}
-use Rattle.code_runs.proofs.Stored.{storedIn, stored-of}
+use Rattle.code_runs.specs.CodeRuns.{Turn, asked, Took, Move, ours, others, Chained, Keeps, Full, Run, ownCalls, records, recordsTo, ownRecords, maskOf, viewOf, storedOf, Sight, got, has, sights, Demand3·code, stateAfter, tableAfter, step, steps, spelt}
+use Rattle.code_runs.specs.Stored.{storedIn}
+use Rattle.code_runs.proofs.Stored.{stored-of}
 
 -- ---- the machine's steps of a run
-
-abbrev pub step : Move → Step
-step (ours t) = our (asked t)
-step (others t) = their (asked t)
-
-abbrev pub steps : List Move → List Step
-steps ms = map step ms
 
 ownCalls-steps : (ms : List Move) → ownCalls ms ≡ own (steps ms)
 unfolding ownCalls own
@@ -128,11 +123,6 @@ pub stores : {st : Board} {tb : List ℕ} (p : Party) → Held st tb → storedO
 stores p h = stored-of p h (view-of p h)
 
 -- ---- what the K party sees is what it sees of the machine's run
-
-abbrev pub spelt : Seen → Sight
-spelt (answered a) = told (answerOf a)
-spelt (received r) = got (encode r)
-spelt (owning cs ws) = has (map channelOf cs) (storedIn cs ws)
 
 spelt-received : (rs : List Reply) → map spelt (map received rs) ≡ map got (map encode rs)
 spelt-received [] = refl

@@ -13,7 +13,7 @@ use Rattle.board.specs.Board.{structOf}
 use Rattle.two_runs.specs.TwoRuns.{Step, our, their, claim}
 use Rattle.two_runs.proofs.Premises.{premises, runs-all, starts-all}
 use Rattle.code_runs.specs.CodeRuns.{allRecords, Alike, codeClaim}
-use Rattle.code_runs.proofs.Made.{OnBoard, moves}
+use Rattle.code_runs.specs.Made.{OnBoard, moves}
 use Rattle.code_runs.proofs.Witness.{party, ask, numbers, run-alike}
 
 abbrev start : StateM

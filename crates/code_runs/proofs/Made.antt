@@ -8,9 +8,9 @@ use mathlib.Core.List.{List, [], _∷_, map}
 use native.Mathlib.Omega.{arith}
 use native.Mathlib.Nat.{zero-add}
 use lib.Dec.{T, leb, leb→le}
-use lib.ListN.{length, replicate, length-replicate}
+use lib.ListN.{length, length-replicate}
 use Rattle.machine.specs.Lists.{all}
-use Rattle.machine.specs.State.{Call, Op as OpM, OPEN, CLOSE, ABORT, EVENT, CYCLE·ENDED, GAVE·UP, COMMAND, Outcome as OutcomeM, State as StateM}
+use Rattle.machine.specs.State.{Call, Op as OpM, OPEN, CLOSE, ABORT, EVENT, CYCLE·ENDED, GAVE·UP, COMMAND, State as StateM}
 use Rattle.machine.specs.Call.{call, inRange}
 use Rattle.machine.specs.Sound.{sound}
 use Rattle.machine.proofs.Tests.{and-left, and-right}
@@ -21,33 +21,15 @@ use Rattle.reply.specs.Replies.{sent}
 use Rattle.store.specs.Store.{tableOf}
 use Rattle.board.specs.Board.{sized, structOf, stateIn, Held, Told}
 use Rattle.board.proofs.Laws.{held-of, stateIn-of}
-use Rattle.board.specs.declared.Outcome.{Outcome}
-use Rattle.answers.specs.Answers.{answerOf}
-use Rattle.refusals.specs.declared.Op.{Op}
-use Rattle.refusals.specs.declared.Op.the-variants.{Open, Close, Abort, CycleEnded, GaveUp, Command}
-use Rattle.refusals.specs.Refusals.{opIn}
+use Rattle.refusals.specs.Refusals.{opIn, opFor}
 use Rattle.two_runs.specs.TwoRuns.{Party, Step, our, their, Keeps as KeepsM, Run as RunM, calls, counted, inBytes, lends, own, said}
-use Rattle.code_runs.specs.CodeRuns.{Turn, asked, Took, Move, ours, others, Chained, Keeps, Full, Run, ownCalls}
+use Rattle.code_runs.specs.CodeRuns.{asked, Took, Chained, Keeps, Full, Run, ownCalls}
+use Rattle.code_runs.specs.Made.{numberOut, blank, outcomeOf, made, moves, OnBoard}
 use Rattle.code_runs.proofs.CodeRuns.{count-of}
 
 -- ---- the call of the code
 
-abbrev pub opOut : OpM → Op
-opOut OPEN = Open
-opOut CLOSE = Close
-opOut ABORT = Abort
-opOut (EVENT CYCLE·ENDED) = CycleEnded
-opOut (EVENT GAVE·UP) = GaveUp
-opOut (COMMAND n) = Command
-
-abbrev pub numberOut : OpM → ℕ
-numberOut OPEN = 0
-numberOut CLOSE = 0
-numberOut ABORT = 0
-numberOut (EVENT v) = 0
-numberOut (COMMAND n) = n
-
-op-out : (o : OpM) → opIn (opOut o) (numberOut o) ≡ o
+op-out : (o : OpM) → opIn (opFor o) (numberOut o) ≡ o
 op-out OPEN = refl
 op-out CLOSE = refl
 op-out ABORT = refl
@@ -55,27 +37,8 @@ op-out (EVENT CYCLE·ENDED) = refl
 op-out (EVENT GAVE·UP) = refl
 op-out (COMMAND n) = refl
 
--- a reply list of n records, all 0
-abbrev pub blank : ℕ → List ℕ
-blank n = replicate (n * 6) 0
-
 length-blank : (n : ℕ) → length (blank n) ≡ n * 6
 length-blank n = length-replicate {A = ℕ} (n * 6) 0
-
-abbrev pub outcomeOf : OutcomeM → Outcome
-outcomeOf o = record { answer = answerOf (o .answer); state = structOf (o .next); n = length (o .replies) }
-
-abbrev pub made : StateM → Call → Turn
-made s c =
-    record {
-      op = opOut (c .op);
-      request = record { desk = c .desk; command = numberOut (c .op); id = c .id; flags = c .flags; map = c .map; prec = c .prec; key = c .key };
-      combos = c .combos;
-      lent = blank (c .room);
-      outcome = outcomeOf (call s c);
-      table = tableOf (call s c .next);
-      list = sent (blank (c .room)) 0 (call s c .replies);
-    }
 
 asked-made : (s : StateM) (c : Call) → asked (made s c) ≡ c
 asked-made s c =
@@ -84,11 +47,6 @@ asked-made s c =
     let b : length (blank (c .room)) / 6 ≡ c .room = omega arith in
     λ i. record { op = a i; desk = c .desk; id = c .id; flags = c .flags; map = c .map; prec = c .prec; key = c .key; combos = c .combos; room = b i }
 
-abbrev pub moves : StateM → List Step → List Move
-moves s [] = []
-moves s (our c ∷ xs) = ours (made s c) ∷ moves (call s c .next) xs
-moves s (their c ∷ xs) = others (made s c) ∷ moves (call s c .next) xs
-
 pub ownCalls-moves : (s : StateM) (xs : List Step) → ownCalls (moves s xs) ≡ own xs
 unfolding ownCalls own
 ownCalls-moves s [] = refl
@@ -96,10 +54,6 @@ ownCalls-moves s (our c ∷ xs) = ap₂ (λ (d : Call) (ds : List Call). said d 
 ownCalls-moves s (their c ∷ xs) = ownCalls-moves (call s c .next) xs
 
 -- ---- it keeps the promise
-
-pub record OnBoard (s : StateM) : Type 0 where
-  pub sane : T (sound s)
-  pub size : T (sized (length (s .channels)))
 
 pub bytes-range : (c : Call) → T (inBytes c) → T (inRange c)
 unfolding inBytes

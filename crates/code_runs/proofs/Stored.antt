@@ -22,18 +22,9 @@ use Rattle.board.specs.Board.{structOf, stateIn, Held}
 use Rattle.board.proofs.Laws.{held-parts}
 use Rattle.two_runs.specs.TwoRuns.{Party, holds, mask, view, waitersOf}
 use Rattle.code_runs.specs.CodeRuns.{viewOf, entryOf, entriesOf, storedOf}
+use Rattle.code_runs.specs.Stored.{writesIn, waitersIn, storedIn}
 
 -- ---- the same of the machine's channels and WAITCYCLEs
-
-unfoldable pub writesIn : List ChannelM → List (List ℕ)
-writesIn [] = []
-writesIn (c ∷ cs) = map (λ (w : Write). w .id ∷ writeEntry (c .key) w) (c .writes) ++ writesIn cs
-
-unfoldable pub waitersIn : List Lock → List (List ℕ)
-waitersIn ws = map (λ (w : Lock). w .id ∷ waiterEntry w) ws
-
-abbrev pub storedIn : List ChannelM → List Lock → List (List ℕ)
-storedIn cs ws = writesIn cs ++ waitersIn ws
 
 -- ---- one kind after the other
 

@@ -21,7 +21,8 @@ use Rattle.board.specs.Board.{structOf}
 use Rattle.two_runs.specs.TwoRuns.{Party, Start, Step, our, own, their, claim, Run as RunM}
 use Rattle.two_runs.proofs.Premises.{premises, runs-all, starts-all}
 use Rattle.code_runs.specs.CodeRuns.{storedOf, allRecords, stateAfter, tableAfter, Alike, codeClaim}
-use Rattle.code_runs.proofs.Made.{OnBoard, board-held, board-state, moves, ownCalls-moves, machine-runs-are-code-runs}
+use Rattle.code_runs.specs.Made.{OnBoard, moves}
+use Rattle.code_runs.proofs.Made.{board-held, board-state, ownCalls-moves, machine-runs-are-code-runs}
 use Rattle.code_runs.proofs.Parts.{answers-replies-channels}
 
 -- K is 1 and P is 10, which stands as 138

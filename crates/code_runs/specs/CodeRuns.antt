@@ -27,6 +27,8 @@
 --   entriesOf tb cs      those of the writes of channels, front first
 --   storedOf p st tb     those of the writes of its channels, and of the WAITCYCLEs with K, oldest first
 --   Sight, sights p st tb ms   answers, records, channels and what is stored of them, in the order of the run
+--   step m, steps ms     a call as the machine's; those of a run
+--   spelt x              what the machine shows the K party, as the code's bytes
 -- The claim
 --   Demand3·code         two runs with the same calls of the K party show it the same
 --   stateAfter st ms, tableAfter tb ms   the board and the table that a run leaves
@@ -53,7 +55,10 @@ use Rattle.board.specs.declared.Outcome.{Outcome}
 use Rattle.refusals.specs.declared.Op.{Op}
 use Rattle.refusals.specs.Refusals.{askedOf}
 use Rattle.arbiter.specs.Arbiter.{Called}
-use Rattle.two_runs.specs.TwoRuns.{Party, Start, ByK, ByOthers, counted, said}
+use Rattle.two_runs.specs.TwoRuns.{Party, Start, ByK, ByOthers, counted, said, Step, our, their, Seen, answered, received, owning}
+use Rattle.reply.specs.Replies.{encode}
+use Rattle.answers.specs.Answers.{answerOf}
+use Rattle.code_runs.specs.Stored.{storedIn}
 
 -- ---- a call of the code
 
@@ -196,3 +201,17 @@ pub record Alike (p : Party) (st : Board) (tb : List ℕ) (ms ns : List Move) : 
 unfoldable pub codeClaim : Unit {0}
 unfolding ownCalls records recordsTo ownRecords maskOf viewOf entryOf entriesOf storedOf sights stateAfter tableAfter ownAnswers allRecords
 codeClaim = tt
+
+-- ---- the same of the machine
+
+abbrev pub step : Move → Step
+step (ours t) = our (asked t)
+step (others t) = their (asked t)
+
+abbrev pub steps : List Move → List Step
+steps ms = map step ms
+
+abbrev pub spelt : Seen → Sight
+spelt (answered a) = told (answerOf a)
+spelt (received r) = got (encode r)
+spelt (owning cs ws) = has (map channelOf cs) (storedIn cs ws)

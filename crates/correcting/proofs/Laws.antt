@@ -15,8 +15,3 @@ whole-display d xs a b h e =
     splice-then d 0 xs (a ∷ b ∷ []) 16 (omega (arith, e)) (omega (arith, e, h))
     ∙ (ap (λ (x : List ℕ). (xs ++ a ∷ b ∷ []) ++ x) (let g : length d ≤ 0 + length (xs ++ a ∷ b ∷ []) = let k = length-append xs (a ∷ b ∷ []) in omega (arith, e, h, k) in lib.ListN.drop-of-length-le d g)
     ∙ append-nil (xs ++ a ∷ b ∷ []))
-
--- a list as long as the room it is copied to
-pub copied : (room from : List ℕ) → length room ≡ length from → splice room 0 from ≡ from
-unfolding splice
-copied room from e = ap (λ (x : List ℕ). from ++ x) (let g : length room ≤ 0 + length from = omega (arith, e) in lib.ListN.drop-of-length-le room g) ∙ append-nil from

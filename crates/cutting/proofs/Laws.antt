@@ -13,7 +13,8 @@ use Rattle.machine.specs.Granting.{abortedIn, cutReplies}
 use Rattle.machine.specs.Commands.{matching, done, each, playing, inProgress, back, frontOnly, frontGone, cutFronts, frontReplies, doFinish}
 use Rattle.machine.specs.Sound.{writesOf}
 use Rattle.machine.proofs.Tests.{if-elim}
-use Rattle.machine_laws.proofs.Lists.{Sub, end, skip, take as both, sub-refl, sub-nil, sub-append, sub-map, sub-length}
+use Rattle.machine_laws.specs.Lists.{Sub, end, skip, take as both}
+use Rattle.machine_laws.proofs.Lists.{sub-refl, sub-nil, sub-append, sub-map, sub-length}
 use Rattle.machine_laws.proofs.Sound.{ids-few}
 use Rattle.channel.specs.declared.Channel.{Channel}
 use Rattle.channel.specs.declared.Change.the-variants.{FrontGone, FrontOnly}

@@ -1,7 +1,7 @@
 -- Why refusal, operation and settling make the machine's call on eight channels: what is refused with a number, what is not, and
 -- what the state before settling gives. Assumes nothing.
 use Prim.Native.Nat.{ℕ, zero, suc, _+_, _≤_, _<_}
-use mathlib.Core.Path.{_≡_, refl, ap, ap₂, sym, _∙_}
+use mathlib.Core.Path.{_≡_, refl, ap, ap₂, sym, subst, _∙_}
 use mathlib.Core.Bool.{Bool, true, false, not, _&&_}
 use mathlib.Core.List.{List, [], _∷_, _++_}
 use native.Mathlib.Omega.{arith}
@@ -22,11 +22,12 @@ use Rattle.machine.specs.Call.{settling, openSettling, accept, answering, call,
 use Rattle.machine.proofs.Tests.{by-test, test-true, test-false, and-right, and-both}
 use Rattle.machine_laws.proofs.Refusals.{first-past}
 use Rattle.machine.proofs.Steps.{first-none}
-use Rattle.machine_laws.proofs.Sound.{Parts}
+use Rattle.machine_laws.specs.Sound.{Parts}
 use Rattle.machine_laws.proofs.Replies.{call-replies}
 use Rattle.machine_laws.proofs.KeepingSettle.{look-unlocked}
 use Rattle.machine_laws.proofs.KeepingCalls.{id-small, range-prec, range-key, open-sound, close-sound, abort-sound, event-sound, perform-sound}
-use Rattle.machine_laws.proofs.Board.{Wide, open-wide, close-wide, abort-wide, event-wide, perform-wide}
+use Rattle.machine_laws.specs.Board.{Wide}
+use Rattle.machine_laws.proofs.Board.{open-wide, close-wide, abort-wide, event-wide, perform-wide}
 use Rattle.reply.specs.Replies.{sent}
 use Rattle.reply.proofs.Laws.{sent-append, length-sent}
 use Rattle.store.specs.declared.State.{State}
@@ -44,7 +45,10 @@ use Rattle.refusals.specs.Refusals.{opIn, askedOf}
 use Rattle.steps.specs.Steps.{numberOf}
 use Rattle.operations.specs.Operations.{act, Allowed}
 use Rattle.display.specs.Looks.{looks, acting, looksAfter, lookedBy}
-use Rattle.deciding.specs.Deciding.{restsAt, decisionOf, Decided}
+use Rattle.lanes.specs.Lanes.{weights, Balanced}
+use Rattle.lanes.proofs.Laws.{balanced-same}
+use Rattle.deciding.proofs.Moves.{acts, act-joins, settle-balanced}
+use Rattle.deciding.specs.Deciding.{restsAt, decisionOf, joinedBy, joinedOf, Moved, Decided}
 use Rattle.refusing.specs.Refusing.{dueReplies, Refused}
 
 -- ---- the number of a refusal
@@ -137,6 +141,18 @@ refused-told {o} {r} {s} {ms} {tb} {l} {e} h n f =
           };
     }
 
+-- nobody comes or goes
+pub refused-moved : {o : Op} {r : Request} {s : State} {ms tb l : List ℕ} {e : ℕ} → Decided o e r s ms tb l → (e ≡ 0 → ⊥)
+    → Moved (decisionOf e) (askedOf o r ms (length l)) (stateIn s tb) 0 0
+unfolding answering joinedOf
+refused-moved {o} {r} {s} {ms} {tb} {l} {e} h n =
+    let c = askedOf o r ms (length l) in
+    let q = ap (λ (x : Refusal). answering x (askedOf o r ms (length l)) (stateIn s tb)) (refused-decided e n) ∙ refuse-due o e r ms (length l) (stateIn s tb) in
+    record {
+      joins = ap (λ (x : Refusal). joinedOf x c (stateIn s tb)) (sym (refused-decided e n));
+      balance = subst (λ (u : OutcomeM). Balanced (stateIn s tb .waiting) (u .next .waiting) 0 0) (sym q) (balanced-same (stateIn s tb .waiting));
+    }
+
 -- ---- a call that is not refused
 
 pub zero-allowed : {o : Op} {r : Request} {s : State} {ms tb l : List ℕ} {e : ℕ} → Decided o e r s ms tb l → e ≡ 0 → Allowed o r s ms tb l
@@ -212,6 +228,18 @@ module _ {o : Op} {r : Request} {s : State} {ms tb l : List ℕ} (a : Allowed o 
   pub resting-told : {e : ℕ} → e ≡ 0 → restsAt o (d .answer .error) ≡ true → Told (answering (decisionOf e) c₀ s₀) l d tb₁ l₁
   resting-told {e} z q = told-as (zero-call e z ∙ (called ∙ ap (λ (b : Bool). if b then o₁ else settling o₁) q)) t
 
+  joins-zero : (e : ℕ) → e ≡ 0 → {j : ℕ} → j ≡ joinedBy (s .waiting .n) (d .state .waiting .n) ms → j ≡ joinedOf (decisionOf e) c₀ s₀
+  joins-zero e z w = act-joins a t w ∙ ap (λ (x : Refusal). joinedOf x c₀ s₀) (sym (zero-decided e z))
+
+  pub resting-moved : {e : ℕ} → e ≡ 0 → restsAt o (d .answer .error) ≡ true → {g j : ℕ} → j ≡ joinedBy (s .waiting .n) (d .state .waiting .n) ms
+      → Balanced (stateIn s tb .waiting) (o₁ .next .waiting) g j → Moved (decisionOf e) c₀ s₀ g j
+  resting-moved {e} z q {g} {j} w b =
+      record {
+        joins = joins-zero e z w;
+        balance =
+            subst (λ (u : OutcomeM). Balanced (stateIn s tb .waiting) (u .next .waiting) g j) (sym (zero-call e z ∙ (called ∙ ap (λ (b : Bool). if b then o₁ else settling o₁) q))) b;
+      }
+
   module _ (q : restsAt o (d .answer .error) ≡ false) where
     settles : call s₀ c₀ ≡ settling o₁
     settles = called ∙ ap (λ (b : Bool). if b then o₁ else settling o₁) q
@@ -250,7 +278,9 @@ module _ {o : Op} {r : Request} {s : State} {ms tb l : List ℕ} (a : Allowed o 
 
       pub settled-told : {st : State} {tb′ l′ : List ℕ} {n : ℕ}
           → Did (settle (stateIn (d .state) tb₁) .state) (settle (stateIn (d .state) tb₁) .replies) l₁ (d .n) st tb′ l′ n
-          → {e : ℕ} → e ≡ 0 → Told (answering (decisionOf e) c₀ s₀) l (record { answer = d .answer; state = st; n = n }) tb′ l′
+          → {e : ℕ} → e ≡ 0
+          → Told (answering (decisionOf e) (askedOf o r ms (length l)) (stateIn s tb)) l
+          (record { answer = d .answer; state = st; n = n }) tb′ l′
       unfolding settling
       settled-told {st} {tb′} {l′} {n} w {e} z =
           let f = few in
@@ -267,15 +297,18 @@ module _ {o : Op} {r : Request} {s : State} {ms tb l : List ℕ} (a : Allowed o 
             };
           }
 
--- ---- the looks of the last settling
+      pub settled-moved : {e : ℕ} → e ≡ 0 → {g j : ℕ} (x : ℕ) → j ≡ joinedBy (s .waiting .n) (d .state .waiting .n) ms → Balanced (stateIn s tb .waiting) (o₁ .next .waiting) g j
+          → weights (settle (stateIn (d .state) tb₁) .state .waiting) + x ≡ weights (stateIn (d .state) tb₁ .waiting)
+          → Moved (decisionOf e) c₀ s₀ (g + x) j
+      unfolding settling
+      settled-moved {e} z {g} {j} x y b w =
+          let v : weights (settle (o₁ .next) .state .waiting) + x ≡ weights (o₁ .next .waiting) = sym (ap (λ (u : StateM). weights (settle u .state .waiting) + x) (next-held .1)) ∙ (w ∙ ap (λ (u : StateM). weights (u .waiting)) (next-held .1)) in
+          record {
+            joins = joins-zero e z y;
+            balance = subst (λ (u : OutcomeM). Balanced (stateIn s tb .waiting) (u .next .waiting) (g + x) j) (sym (zero-call e z ∙ settles)) (settle-balanced (o₁ .next) x b v);
+          }
 
-acts : (o : OpM) (c : Call) (s : StateM) → acting o c s ≡ act o c s
-unfolding acting
-acts OPEN c s = refl
-acts CLOSE c s = refl
-acts ABORT c s = refl
-acts (EVENT v) c s = refl
-acts (COMMAND n) c s = refl
+-- ---- the looks of the last settling
 
 pub refused-looks : {o : Op} {e : ℕ} {r : Request} {s : State} {ms tb l : List ℕ} → Decided o e r s ms tb l → (e ≡ 0 → ⊥)
     → {k : ℕ} → k ≡ lookedBy (decisionOf e) (askedOf o r ms (length l)) (stateIn s tb) k

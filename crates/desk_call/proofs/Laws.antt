@@ -18,7 +18,8 @@ use Rattle.machine.specs.Desks.{DESK·A, DESK·B, HALF, repliesTo}
 use Rattle.machine.specs.Call.{call}
 use Rattle.machine_laws.proofs.Replies.{call-replies}
 use Rattle.machine_laws.proofs.Halves.{call-halves}
-use Rattle.machine_laws.proofs.Rooms.{lent, room-unread, short-mute}
+use Rattle.machine_laws.specs.Rooms.{lent}
+use Rattle.machine_laws.proofs.Rooms.{room-unread, short-mute}
 use Rattle.display.specs.Display.{displayed}
 use Rattle.display.proofs.Rooms.{displayed-room}
 use Rattle.reply.specs.Replies.{encodes, sent}
@@ -33,10 +34,12 @@ use Rattle.board.specs.declared.Outcome.{Outcome as OutcomeI}
 use Rattle.board.specs.Board.{structOf, stateIn, Held, Told as ToldI}
 use Rattle.refusals.specs.declared.Op.{Op}
 use Rattle.refusals.specs.Refusals.{askedOf}
-use Rattle.arbiter.specs.Arbiter.{Unmoved as UnmovedI, Called as CalledI, Shows}
+use Rattle.image.specs.Image.{stateOf}
+use Rattle.arbiter.specs.declared.Answered.{Answered as AnsweredI}
+use Rattle.arbiter.specs.Arbiter.{outcomeIn as outcomeInI, Unmoved as UnmovedI, Called as CalledI, Shows, Unread as UnreadI, Lent as LentI}
 use Rattle.arbiter.proofs.Outcome.{held-or-not}
-use Rattle.desk_call.specs.declared.Outcome.{Outcome}
-use Rattle.desk_call.specs.DeskCall.{roomOf, Told, Unmoved, Called}
+use Rattle.arbiter.proofs.Lent.{whole-or-not}
+use Rattle.desk_call.specs.DeskCall.{roomOf, Outcome, Told, Unmoved, Called, Unread, Lent}
 
 -- ---- the room
 
@@ -78,6 +81,18 @@ made-of {o} m l t e g =
       list = e;
       room = g;
     }
+
+-- where nothing is replied, it may be laid, and nothing is
+laying-none : (l made : List ℕ) {n : ℕ} → n ≡ 0 → Laying made n l
+unfolding repliesTo keep
+laying-none l made {n} e =
+    subst (λ (x : List ℕ). Laying x n l) (splice-none made 0) (laying-replies made [] e (omega arith) (λ x. omega arith) (omega arith) (omega arith))
+
+laid-none : (l made : List ℕ) {n : ℕ} {h : Halves} {l′ : List ℕ} → n ≡ 0 → Laid made n l h l′ → (h .a ≡ 0) × (h .b ≡ 0) × (l′ ≡ l)
+unfolding repliesTo keep
+laid-none l made {n} {h} {l′} e y =
+    let v = laid-replies made [] e (subst (λ (x : List ℕ). Laid x n l h l′) (sym (splice-none made 0)) y) in
+    (v .0, v .1, v .2 ∙ splice-none (splice l 0 []) 192 ∙ splice-none l 0)
 
 none-sent : (l : List ℕ) {rs : List Reply} → rs ≡ [] → sent l 0 rs ≡ l
 none-sent l e = ap (λ (x : List Reply). sent l 0 x) e ∙ splice-none l 0
@@ -125,13 +140,8 @@ module _ {o : Op} {r : Request} {b : Board} {ms tb : List ℕ} (l m : List ℕ) 
 
   -- ---- so it may be laid
 
-  laying-none : (made : List ℕ) → d .n ≡ 0 → Laying made (d .n) l
-  unfolding repliesTo keep
-  laying-none made e =
-      subst (λ (x : List ℕ). Laying x (d .n) l) (splice-none made 0) (laying-replies made [] e (omega arith) (λ x. omega arith) (omega arith) (omega arith))
-
   pub may-lay : Laying (ws ++ drop k m) (d .n) l
-  may-lay = held-or-not b tb sound (λ n. laying-none (ws ++ drop k m) (c .unsound n .count))
+  may-lay = held-or-not b tb sound (λ n. laying-none l (ws ++ drop k m) (c .unsound n .count))
     where
       sound : Held b tb → Laying (ws ++ drop k m) (d .n) l
       sound h =
@@ -155,17 +165,10 @@ module _ {o : Op} {r : Request} {b : Board} {ms tb : List ℕ} (l m : List ℕ) 
         record { answer = u .answer; struct = u .struct; table = u .table; numbers = (v .0, v .1); list = v .2 }
 
     unsound-unmoved : (Held b tb → ⊥) → Unmoved r b tb l out tb′ l′
-    unfolding repliesTo keep
     unsound-unmoved n =
         let u = c .unsound n in
-        let v = laid-replies (ws ++ drop k m) [] (u .count) (subst (λ (x : List ℕ). Laid x (d .n) l h l′) (sym (splice-none (ws ++ drop k m) 0)) y) in
-        record {
-          answer = u .answer;
-          state = u .state;
-          numbers = (v .0, v .1);
-          table = u .table;
-          list = v .2 ∙ splice-none (splice l 0 []) 192 ∙ splice-none l 0;
-        }
+        let v = laid-none l (ws ++ drop k m) (u .count) y in
+        record { answer = u .answer; state = u .state; numbers = (v .0, v .1); table = u .table; list = v .2 }
 
     pub was-called : Called o r b ms tb l out tb′ l′
     was-called = record { sound = sound-told; unsound = unsound-unmoved }
@@ -187,3 +190,19 @@ module _ {o : Op} {r : Request} {b : Board} {ms tb : List ℕ} (l m : List ℕ) 
           let kl : k ≡ 384 = q ∙ sym (room-long (length l) u) in
           ap (λ (n : ℕ). displayed (stateIn b tb) (askedOf o r ms n) dp) (length-take-le k m (omega arith) ∙ kl)
           ∙ displayed-room (askedOf o r ms (length l)) 64 (omega arith) (omega arith) (stateIn b tb) dp
+
+-- ---- on any bytes
+
+module _ {o : Op} {r : Request} {ms st tb dp : List ℕ} (l m : List ℕ) (z : length m ≡ 384) {k : ℕ} (q : k ≡ roomOf (length l)) {d : AnsweredI} {st′ tb′ ws dp′ : List ℕ} (c : LentI o r ms st tb (take k m) dp d st′ tb′ ws dp′) where
+  pub may-lay-any : Laying (ws ++ drop k m) (d .n) l
+  may-lay-any = whole-or-not st (λ w. may-lay l m z q (c .read w .1)) (λ n. laying-none l (ws ++ drop k m) (c .unread n .count))
+
+  pub was-lent : {h : Halves} {l′ : List ℕ} → Laid (ws ++ drop k m) (d .n) l h l′ → Lent o r ms st tb l dp (record { answer = d .answer; a = h .a; b = h .b }) st′ tb′ l′ dp′
+  was-lent y =
+      record {
+        read = λ w. let e = c .read w in (e .0, was-called l m z q (e .1) y, was-shown l m z q (e .2));
+        unread =
+            λ n. let u = c .unread n in
+            let v = laid-none l (ws ++ drop k m) (u .count) y in
+            record { answer = u .answer; numbers = (v .0, v .1); state = u .state; table = u .table; list = v .2; display = u .display };
+      }

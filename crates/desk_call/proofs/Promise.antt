@@ -14,9 +14,10 @@ use Rattle.machine.specs.State.{Reply, Outcome as OutcomeM}
 use Rattle.machine.specs.Desks.{DESK·A, DESK·B, HALF, repliesTo}
 use Rattle.machine.specs.Commands.{done}
 use Rattle.machine.specs.Call.{call}
-use Rattle.machine_laws.proofs.Refusals.{refusals, mute, heard, ownReply, refused-same, refused-mute, refused-heard}
+use Rattle.machine_laws.specs.Refusals.{refusals, mute, heard, ownReply}
+use Rattle.machine_laws.proofs.Refusals.{refused-same, refused-mute, refused-heard}
 use Rattle.machine_laws.proofs.Halves.{call-halves}
-use Rattle.machine_laws.proofs.KeepingCalls.{Counted}
+use Rattle.machine_laws.specs.Keeping.{Counted}
 use Rattle.reply.specs.Replies.{sent}
 use Rattle.halves.specs.Halves.{laid}
 use Rattle.store.specs.Store.{tableOf}
@@ -29,8 +30,7 @@ use Rattle.refusals.specs.declared.Op.{Op}
 use Rattle.refusals.specs.Refusals.{opIn, askedOf}
 use Rattle.arbiter.specs.Arbiter.{Called as CalledI, Shows}
 use Rattle.arbiter.proofs.Outcome.{held-or-not, held-after}
-use Rattle.desk_call.specs.declared.Outcome.{Outcome}
-use Rattle.desk_call.specs.DeskCall.{Told, Unmoved, Called}
+use Rattle.desk_call.specs.DeskCall.{Outcome, Told, Unmoved, Called, Same}
 
 -- ---- the inner call that it stands for
 
@@ -46,12 +46,6 @@ pub inner-called : {o : Op} {r : Request} {b : Board} {ms tb l : List ℕ} {d : 
 inner-called h c = record { sound = λ _. inner-told (c .sound h); unsound = λ n. absurd (n h) }
 
 -- ---- no second outcome fits
-
--- the same answer, board, numbers, table and list
-pub record Same (d d₂ : Outcome) (tb tb₂ l l₂ : List ℕ) : Type 0 where
-  pub outcome : d ≡ d₂
-  pub table : tb ≡ tb₂
-  pub list : l ≡ l₂
 
 outcome-parts : (d d₂ : Outcome) → d .answer ≡ d₂ .answer → d .state ≡ d₂ .state → d .a ≡ d₂ .a → d .b ≡ d₂ .b → d ≡ d₂
 outcome-parts d d₂ a s m n i = record { answer = a i; state = s i; a = m i; b = n i }

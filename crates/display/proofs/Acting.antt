@@ -4,11 +4,13 @@
 --
 --   asking c       the request with which a call waits
 --   Turn c s ws    the waiting requests of s become ws before settling
+--   Stays c s ws   they are the same, or all and its own besides
 use Prim.Native.Nat.{ℕ, zero, suc, _≤_}
 use mathlib.Core.Path.{_≡_, refl, subst, sym}
 use mathlib.Core.Logic.{_⊎_, inl, inr}
 use mathlib.Core.Bool.{Bool, true, false, not}
 use mathlib.Core.List.{List, [], _∷_, _++_}
+use native.Mathlib.Omega.{arith}
 use lib.Dec.{T, eqb, ltb}
 use lib.ListN.{length, length-map}
 use Rattle.machine.specs.Numbers.{nowait, synced, ALLOCFAILED}
@@ -26,9 +28,10 @@ use Rattle.machine.specs.Refusals.{accepted, refusal}
 use Rattle.machine.specs.Call.{perform, settling, openSettling, accept}
 use Rattle.machine.proofs.Tests.{if-elim}
 use Rattle.machine.proofs.Steps.{first-none}
-use Rattle.machine_laws.proofs.Lists.{Sub, end, skip, take, sub-refl, sub-keep, sub-map, sub-all, sub-among, sub-distinct, sub-right, sub-trans, ins-all, ins-distinct, pigeon}
-use Rattle.machine_laws.proofs.Sound.{Parts}
-use Rattle.machine_laws.proofs.Keeping.{lockIds, waitIds}
+use Rattle.machine_laws.specs.Lists.{Sub, end, skip, take}
+use Rattle.machine_laws.proofs.Lists.{sub-refl, sub-keep, sub-map, sub-all, sub-among, sub-distinct, sub-right, sub-trans, ins-all, ins-distinct, pigeon}
+use Rattle.machine_laws.specs.Sound.{Parts}
+use Rattle.machine_laws.specs.Keeping.{lockIds, waitIds}
 use Rattle.machine_laws.proofs.KeepingCalls.{id-small, enqueue-ids}
 use Rattle.display.specs.Looks.{acting}
 use Rattle.display.proofs.Examples.{rows-shown}
@@ -46,7 +49,10 @@ Joins c s ws = T (ltb (c .id) 64) × T (not (among (c .id) (ids s))) × (ws ≡ 
 abbrev pub Turn : Call → State → List Request → Type 0
 Turn c s ws = Sub ws (s .waiting) ⊎ Joins c s ws
 
--- ---- the commands
+-- ---- the commands: but for an ABORT, nobody goes
+
+abbrev pub Stays : Call → State → List Request → Type 0
+Stays c s ws = (ws ≡ s .waiting) ⊎ Joins c s ws
 
 abbrev Same : State → Outcome → Type 0
 Same s o = o .next .waiting ≡ s .waiting
@@ -61,38 +67,35 @@ unfolding happened cut
 event-same CYCLE·ENDED m s = refl
 event-same GAVE·UP m s = refl
 
-allocating-turn : (l : Look) (c : Call) (s : State) → T (ltb (c .id) 64) → T (not (among (c .id) (ids s))) → Turn c s (allocating l c s .next .waiting)
+allocating-stays : (l : Look) (c : Call) (s : State) → T (ltb (c .id) 64) → T (not (among (c .id) (ids s))) → Stays c s (allocating l c s .next .waiting)
 unfolding allocating waits finished silent granted
-allocating-turn fails c s i n = if-elim (λ (o : Outcome). Turn c s (o .next .waiting)) (nowait (c .flags)) (λ _. inl (sub-refl (s .waiting))) (λ _. inr (i, n, refl))
-allocating-turn (held m) c s i n = inr (i, n, refl)
-allocating-turn (grants m) c s i n = inl (sub-refl (s .waiting))
+allocating-stays fails c s i n = if-elim (λ (o : Outcome). Stays c s (o .next .waiting)) (nowait (c .flags)) (λ _. inl refl) (λ _. inr (i, n, refl))
+allocating-stays (held m) c s i n = inr (i, n, refl)
+allocating-stays (grants m) c s i n = inl refl
 
-stays : (c : Call) (s : State) {rs : List Request} → rs ≡ s .waiting → Turn c s rs
-stays c s e = inl (subst (λ (ws : List Request). Sub ws (s .waiting)) (sym e) (sub-refl (s .waiting)))
-
-perform-turn : (k : Kind) (c : Call) (s : State) → T (ltb (c .id) 64) → T (not (among (c .id) (ids s))) → Turn c s (perform k c s .next .waiting)
+perform-stays : (k : Kind) (c : Call) (s : State) → T (ltb (c .id) 64) → T (not (among (c .id) (ids s))) → Stays c s (perform k c s .next .waiting)
 unfolding perform doRead doWrite doFree doFinish doPervol doLock doWaitcycle doAllocate each finished silent freeing cut
-perform-turn RESET c s i n = stays c s (each-same _ _ true c s)
-perform-turn READ c s i n = stays c s (if-elim (Same s) (matches (c .key) (at (lowest (length (s .channels)) (c .map)) (s .channels))) (λ _. refl) (λ _. refl))
-perform-turn WRITE c s i n = stays c s (if-elim (Same s) (matches (c .key) (at (lowest (length (s .channels)) (c .map)) (s .channels))) (λ _. refl) (λ _. refl))
-perform-turn UPDATE c s i n = stays c s (each-same _ _ false c s)
-perform-turn CLEAR c s i n = stays c s (each-same _ _ false c s)
-perform-turn STOP c s i n = stays c s (each-same _ _ false c s)
-perform-turn START c s i n = stays c s (each-same _ _ false c s)
-perform-turn FLUSH c s i n = stays c s (each-same _ _ true c s)
-perform-turn FREE c s i n = inl (sub-refl (s .waiting))
-perform-turn SETPREC c s i n = stays c s (each-same _ _ false c s)
-perform-turn FINISH c s i n = stays c s (if-elim (Same s) (synced (c .flags)) (λ _. each-same _ _ false c s) (λ _. refl))
-perform-turn PERVOL c s i n = stays c s (each-same _ _ false c s)
-perform-turn LOCK c s i n =
-    stays c s
+perform-stays RESET c s i n = inl (each-same _ _ true c s)
+perform-stays READ c s i n = inl (if-elim (Same s) (matches (c .key) (at (lowest (length (s .channels)) (c .map)) (s .channels))) (λ _. refl) (λ _. refl))
+perform-stays WRITE c s i n = inl (if-elim (Same s) (matches (c .key) (at (lowest (length (s .channels)) (c .map)) (s .channels))) (λ _. refl) (λ _. refl))
+perform-stays UPDATE c s i n = inl (each-same _ _ false c s)
+perform-stays CLEAR c s i n = inl (each-same _ _ false c s)
+perform-stays STOP c s i n = inl (each-same _ _ false c s)
+perform-stays START c s i n = inl (each-same _ _ false c s)
+perform-stays FLUSH c s i n = inl (each-same _ _ true c s)
+perform-stays FREE c s i n = inl refl
+perform-stays SETPREC c s i n = inl (each-same _ _ false c s)
+perform-stays FINISH c s i n = inl (if-elim (Same s) (synced (c .flags)) (λ _. each-same _ _ false c s) (λ _. refl))
+perform-stays PERVOL c s i n = inl (each-same _ _ false c s)
+perform-stays LOCK c s i n =
+    inl
     (if-elim (Same s) (mismatch (c .key) (c .map) (s .channels)) (λ _. refl) (λ _. if-elim (Same s) (eqb (c .map) 0) (λ _. refl) (λ _. refl)))
-perform-turn WAITCYCLE c s i n =
+perform-stays WAITCYCLE c s i n =
     let h = at (lowest (length (s .channels)) (c .map)) (s .channels) in
-    stays c s
+    inl
     (if-elim (Same s) (not (matches (c .key) h)) (λ _. refl) (λ _. if-elim (Same s) (playing h) (λ _. refl) (λ _. refl)))
-perform-turn ALLOCATE c s i n = allocating-turn (look (c .prec) (c .combos) (s .channels)) c s i n
-perform-turn UNKNOWN c s i n = inl (sub-refl (s .waiting))
+perform-stays ALLOCATE c s i n = allocating-stays (look (c .prec) (c .combos) (s .channels)) c s i n
+perform-stays UNKNOWN c s i n = inl refl
 
 opening-same : (l : Look) (c : Call) (s : State) → Same s (opening l c s)
 unfolding opening silent granted
@@ -102,16 +105,33 @@ opening-same (grants m) c s = refl
 
 -- ---- acting
 
-pub acting-turn : (o : Op) (c : Call) (s : State) → refusal o c s ≡ accepted → Turn c s (acting o c s .next .waiting)
-unfolding acting refusal doOpen doClose doAbort doEvent silent freeing cut leaving
-acting-turn OPEN c s e = stays c s (opening-same (look (c .prec) (c .combos) (s .channels)) c s)
-acting-turn CLOSE c s e = inl (sub-refl (s .waiting))
-acting-turn ABORT c s e = inl (sub-keep (λ (r : Request). not (eqb (c .id) (r .id))) (s .waiting))
-acting-turn (EVENT v) c s e =
-    stays c s
+pub acting-stays : (o : Op) (c : Call) (s : State) → (o ≡ ABORT → ⊥) → refusal o c s ≡ accepted → Stays c s (acting o c s .next .waiting)
+unfolding acting refusal doOpen doClose doEvent silent freeing cut
+acting-stays OPEN c s n e = inl (opening-same (look (c .prec) (c .combos) (s .channels)) c s)
+acting-stays CLOSE c s n e = inl refl
+acting-stays ABORT c s n e = absurd (n refl)
+acting-stays (EVENT v) c s n e =
+    inl
     (if-elim (Same s) (playing (at (lowest (length (s .channels)) (c .map)) (s .channels))) (λ _. event-same v (lowest (length (s .channels)) (c .map)) s) (λ _. refl))
-acting-turn (COMMAND k) c s e =
-    let n = first-none _ e in perform-turn (kind k) c s (id-small (c .id) (n .1 .1 .0)) (n .1 .1 .1 .1 .0)
+acting-stays (COMMAND k) c s n e =
+    let f = first-none _ e in perform-stays (kind k) c s (id-small (c .id) (f .1 .1 .0)) (f .1 .1 .1 .1 .0)
+
+-- an ABORT takes away whoever has its id
+pub abort-keeps : (c : Call) (s : State) → acting ABORT c s .next .waiting ≡ keep (λ (r : Request). not (eqb (c .id) (r .id))) (s .waiting)
+unfolding acting doAbort silent cut leaving
+abort-keeps c s = refl
+
+stays-turn : (c : Call) (s : State) {ws : List Request} → Stays c s ws → Turn c s ws
+stays-turn c s (inl e) = inl (subst (λ (us : List Request). Sub us (s .waiting)) (sym e) (sub-refl (s .waiting)))
+stays-turn c s (inr j) = inr j
+
+pub acting-turn : (o : Op) (c : Call) (s : State) → refusal o c s ≡ accepted → Turn c s (acting o c s .next .waiting)
+acting-turn OPEN c s e = stays-turn c s (acting-stays OPEN c s (λ q. let z : _≡_ {A = ℕ} 0 1 = cc in omega arith) e)
+acting-turn CLOSE c s e = stays-turn c s (acting-stays CLOSE c s (λ q. let z : _≡_ {A = ℕ} 0 1 = cc in omega arith) e)
+acting-turn ABORT c s e =
+    inl (subst (λ (us : List Request). Sub us (s .waiting)) (sym (abort-keeps c s)) (sub-keep (λ (r : Request). not (eqb (c .id) (r .id))) (s .waiting)))
+acting-turn (EVENT v) c s e = stays-turn c s (acting-stays (EVENT v) c s (λ q. let z : _≡_ {A = ℕ} 0 1 = cc in omega arith) e)
+acting-turn (COMMAND k) c s e = stays-turn c s (acting-stays (COMMAND k) c s (λ q. let z : _≡_ {A = ℕ} 0 1 = cc in omega arith) e)
 
 -- ---- how many wait then, and their ids
 

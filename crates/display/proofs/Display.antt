@@ -14,16 +14,15 @@ use Rattle.machine.specs.Sound.{sound}
 use Rattle.machine.specs.Refusals.{Refusal, refused, refusal}
 use Rattle.machine.specs.Call.{answering, call, inRange}
 use Rattle.machine.proofs.Tests.{by-test}
+use Rattle.machine.specs.InBytes.{twoBytes}
 use Rattle.machine_laws.proofs.Sound.{parts}
 use Rattle.machine_laws.proofs.Refusals.{refuse-same}
-use Rattle.machine_laws.proofs.KeepingCalls.{Counted, call-sound}
+use Rattle.machine_laws.specs.Keeping.{Counted}
+use Rattle.machine_laws.proofs.KeepingCalls.{call-sound}
 use Rattle.display.specs.Looks.{looked}
-use Rattle.display.specs.Display.{NUMBERS, DISPLAY, blank, number, numbers, corrected, looksOf, looksBytes, displayed}
+use Rattle.display.specs.Display.{NUMBERS, DISPLAY, blank, number, numbers, corrected, looksOf, displayed, Bytes}
 use Rattle.display.proofs.Looks.{looked-most, looked-refused}
 use Rattle.display.proofs.Numbers.{number-most, corrected-length, corrected-at, corrected-byte, corrected-agrees, fresh-numbers}
-
-abbrev pub Bytes : List ℕ → Type 0
-Bytes bs = (i : ℕ) → getD bs i 0 < 256
 
 -- ---- lists
 
@@ -62,7 +61,7 @@ take-bytes (suc n) [] h i = omega arith
 take-bytes (suc n) (x ∷ xs) h zero = h 0
 take-bytes (suc n) (x ∷ xs) h (suc i) = take-bytes n xs (λ j. h (suc j)) i
 
-looks-bytes : (k : ℕ) → k < 65536 → Bytes (looksBytes k)
+looks-bytes : (k : ℕ) → k < 65536 → Bytes (twoBytes k)
 looks-bytes k h zero = omega arith
 looks-bytes k h (suc zero) = omega arith
 looks-bytes k h (suc (suc i)) = omega arith
@@ -82,37 +81,38 @@ unfolding call answering
 refused-stays s c e f = ap (λ (r : Refusal). answering r c s .next) f ∙ refuse-same (c .op) e c s
 
 module _ (s : State) (c : Call) (d : List ℕ) (long : length d ≡ DISPLAY) where
-  abbrev t₀ : State
-  t₀ = call s c .next
-
-  numbers-long : length (corrected s t₀ 0 (take NUMBERS d)) ≡ NUMBERS
-  numbers-long = corrected-length s t₀ 0 (take NUMBERS d) ∙ take-length NUMBERS d (omega arith)
+  numbers-long : length (corrected s (call s c .next) 0 (take NUMBERS d)) ≡ NUMBERS
+  numbers-long = corrected-length s (call s c .next) 0 (take NUMBERS d) ∙ take-length NUMBERS d (omega arith)
 
   pub displayed-length : length (displayed s c d) ≡ DISPLAY
   unfolding displayed
   displayed-length =
-      length-append (corrected s t₀ 0 (take NUMBERS d)) (looksBytes (looked s c (looksOf d))) ∙ ap (λ (n : ℕ). n + 2) numbers-long
+      length-append (corrected s (call s c .next) 0 (take NUMBERS d)) (twoBytes (looked s c (looksOf d)))
+      ∙ ap (λ (n : ℕ). n + 2) numbers-long
 
-  pub displayed-numbers : take NUMBERS (displayed s c d) ≡ corrected s t₀ 0 (take NUMBERS d)
+  pub displayed-numbers : take NUMBERS (displayed s c d) ≡ corrected s (call s c .next) 0 (take NUMBERS d)
   unfolding displayed
-  displayed-numbers = take-front NUMBERS (corrected s t₀ 0 (take NUMBERS d)) (looksBytes (looked s c (looksOf d))) numbers-long
+  displayed-numbers = take-front NUMBERS (corrected s (call s c .next) 0 (take NUMBERS d)) (twoBytes (looked s c (looksOf d))) numbers-long
 
-  pub displayed-at : (j : ℕ) → j < NUMBERS → getD (displayed s c d) j 0 ≡ (getD d j 0 + number j t₀ + 255 * number j s) % 256
+  pub displayed-at : (j : ℕ) → j < NUMBERS → getD (displayed s c d) j 0 ≡ (getD d j 0 + number j (call s c .next) + 255 * number j s) % 256
   unfolding displayed
   displayed-at j h =
-      List·getD-append (corrected s t₀ 0 (take NUMBERS d)) (looksBytes (looked s c (looksOf d))) 0 j (let e = numbers-long in omega arith)
-      ∙ corrected-at s t₀ 0 (take NUMBERS d) j (let e = take-length NUMBERS d (omega arith) in omega arith)
-      ∙ ap₂ (λ (b i : ℕ). (b + number i t₀ + 255 * number i s) % 256) (getD-take NUMBERS j d h) (let e : 0 + j ≡ j = omega arith in e)
+      List·getD-append (corrected s (call s c .next) 0 (take NUMBERS d))
+      (twoBytes (looked s c (looksOf d))) 0 j (let e = numbers-long in omega arith)
+      ∙ corrected-at s (call s c .next) 0 (take NUMBERS d) j (let e = take-length NUMBERS d (omega arith) in omega arith)
+      ∙ ap₂ (λ (b i : ℕ). (b + number i (call s c .next) + 255 * number i s) % 256)
+      (getD-take NUMBERS j d h) (let e : 0 + j ≡ j = omega arith in e)
 
   -- "corrected at each call and never recounted": numbers that did not agree are off by as much
-  pub displayed-off : (j : ℕ) → j < NUMBERS → (getD (displayed s c d) j 0 + number j s) % 256 ≡ (getD d j 0 + number j t₀) % 256
+  pub displayed-off : (j : ℕ) → j < NUMBERS
+      → (getD (displayed s c d) j 0 + number j s) % 256 ≡ (getD d j 0 + number j (call s c .next)) % 256
   displayed-off j h = rw (displayed-at j h) (omega arith)
 
   pub displayed-looks : looksOf (displayed s c d) ≡ looked s c (looksOf d)
   unfolding displayed
   displayed-looks =
-      let cs = corrected s t₀ 0 (take NUMBERS d) in
-      let ls = looksBytes (looked s c (looksOf d)) in
+      let cs = corrected s (call s c .next) 0 (take NUMBERS d) in
+      let ls = twoBytes (looked s c (looksOf d)) in
       omega (arith, getD-behind NUMBERS 0 cs ls numbers-long, getD-behind NUMBERS 1 cs ls numbers-long)
 
   pub displayed-bytes : Bytes d → Bytes (displayed s c d)
@@ -121,18 +121,21 @@ module _ (s : State) (c : Call) (d : List ℕ) (long : length d ≡ DISPLAY) whe
       let a = h 16 in
       let b = h 17 in
       let l = looked-most 65535 (looksOf d) (omega arith) (omega arith) s c in
-      append-bytes (corrected s t₀ 0 (take NUMBERS d)) (looksBytes (looked s c (looksOf d))) (corrected-byte s t₀ 0 (take NUMBERS d))
+      append-bytes (corrected s (call s c .next) 0 (take NUMBERS d)) (twoBytes (looked s c (looksOf d)))
+      (corrected-byte s (call s c .next) 0 (take NUMBERS d))
       (looks-bytes (looked s c (looksOf d)) (omega arith))
 
   -- "where they agreed with a count over the state before a call, have them agree after it"
-  pub displayed-agrees : T (sound s) → T (inRange c) → Counted (c .op) c → take NUMBERS d ≡ numbers s → take NUMBERS (displayed s c d) ≡ numbers t₀
+  pub displayed-agrees : T (sound s) → T (inRange c) → Counted (c .op) c → take NUMBERS d ≡ numbers s
+      → take NUMBERS (displayed s c d) ≡ numbers (call s c .next)
   displayed-agrees a r y e =
-      displayed-numbers ∙ ap (corrected s t₀ 0) e
-      ∙ corrected-agrees s t₀ (λ j. omega (arith, number-most j t₀ (parts t₀ (call-sound s c r y a)))) NUMBERS 0
+      displayed-numbers ∙ ap (corrected s (call s c .next) 0) e
+      ∙ corrected-agrees s (call s c .next)
+      (λ j. omega (arith, number-most j (call s c .next) (parts (call s c .next) (call-sound s c r y a)))) NUMBERS 0
 
   -- no other 18 bytes do this
   pub displayed-only : (b : List ℕ) → length b ≡ DISPLAY → Bytes b → Bytes d
-      → ((j : ℕ) → j < NUMBERS → (getD b j 0 + number j s) % 256 ≡ (getD d j 0 + number j t₀) % 256)
+      → ((j : ℕ) → j < NUMBERS → (getD b j 0 + number j s) % 256 ≡ (getD d j 0 + number j (call s c .next)) % 256)
       → looksOf b ≡ looked s c (looksOf d) → b ≡ displayed s c d
   displayed-only b e h g off k = same-places b (displayed s c d) (e ∙ sym displayed-length) place
     where

@@ -17,14 +17,9 @@ use Rattle.machine.specs.Granting.{granted}
 use Rattle.machine.specs.Commands.{ended}
 use Rattle.machine.specs.Settling.{Found, nobody, somebody, Walk, replied, staying, saying, onLook, walk, walked}
 use Rattle.machine_laws.proofs.Settling.{walk-shorter}
-use Rattle.machine_laws.proofs.Looking.{fronted}
-use Rattle.display.specs.Looks.{beyond, reached, lookOn, looksIn, looks}
+use Rattle.machine_laws.specs.Looking.{fronted}
+use Rattle.display.specs.Looks.{beyond, reached, lookOn, looksIn, looks, further}
 use Rattle.display.proofs.Looks.{lookOn-enough, looks-enough}
-
-unfoldable pub further : List Request → List Request → State → ℕ
-further front rest s =
-    let w = walk (s .channels) rest (s .locks) in
-    reached (s .channels) rest + lookOn (w .found) (fronted front w) s looks
 
 -- ---- lookOn
 

@@ -6,7 +6,7 @@
 --   ending l, stops cs r    the look is a grant; the request is granted
 use Prim.Native.Nat.{ℕ, zero, suc, _+_, _*_, _≤_, _<_}
 use mathlib.Core.Path.{_≡_, refl, ap, subst, sym, _∙_}
-use mathlib.Core.Bool.{Bool, true, false, not}
+use mathlib.Core.Bool.{not}
 use mathlib.Core.List.{List, [], _∷_, _++_}
 use native.Mathlib.Omega.{arith}
 use lib.Dec.{T, eqb}
@@ -24,14 +24,10 @@ use Rattle.machine.specs.Refusals.{Refusal, accepted, refused, refusal}
 use Rattle.machine.proofs.Tests.{if-elim, and-left, and-right, eqb-false}
 use Rattle.machine_laws.proofs.Sound.{parts}
 use Rattle.machine_laws.proofs.Settling.{Fewer, walk-shorter}
-use Rattle.display.specs.Looks.{beyond, reached, lookOn, looksIn, looks, acting, looksAfter, lookedBy, looked}
+use Rattle.display.specs.Looks.{beyond, reached, lookOn, looksIn, looks, acting, looksAfter, lookedBy, looked, triangle, ending, stops}
 use Rattle.display.proofs.Acting.{accepted-sound, acting-turn, turn-few}
 
 -- ---- the bound
-
-unfoldable pub triangle : ℕ → ℕ
-triangle zero = 0
-triangle (suc w) = suc w + triangle w
 
 pub triangle-twice : (w : ℕ) → 2 * triangle w ≡ w * suc w
 unfolding triangle
@@ -57,11 +53,6 @@ unfolding reached
 reached-most cs [] = omega arith
 reached-most cs (r ∷ rs) =
     omega (arith, reached-most cs rs, beyond-most (look (r .prec) (r .combos) cs) (reached cs rs))
-
-unfoldable pub ending : Look → Bool
-ending fails = false
-ending (held m) = false
-ending (grants m) = true
 
 ending-ends : (l : Look) → T (ending l) → (n : ℕ) → beyond l n ≡ 0
 unfolding ending beyond
@@ -216,9 +207,6 @@ pub looked-nobody : (s : State) (c : Call) (k : ℕ) → refusal (c .op) c s ≡
 looked-nobody s c k a o e = looked-settles s c k a o ∙ looks-nobody (acting (c .op) c s .next) e
 
 -- ---- reached: as far as the first that is granted, or all
-
-abbrev pub stops : List Channel → Request → Bool
-stops cs r = ending (look (r .prec) (r .combos) cs)
 
 pub reached-first : (cs : List Channel) (qs : List Request) (r : Request) (rs : List Request) → T (all (λ q. not (stops cs q)) qs) → T (stops cs r)
     → reached cs (qs ++ r ∷ rs) ≡ suc (length qs)

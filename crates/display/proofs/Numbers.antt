@@ -12,7 +12,8 @@ use Rattle.machine.specs.Rule.{channel}
 use Rattle.machine.specs.Sound.{writesOf}
 use Rattle.machine.proofs.Tests.{if-elim}
 use Rattle.machine_laws.proofs.Lists.{keep-length}
-use Rattle.machine_laws.proofs.Sound.{Parts, ids-few}
+use Rattle.machine_laws.specs.Sound.{Parts}
+use Rattle.machine_laws.proofs.Sound.{ids-few}
 use Rattle.display.specs.Display.{NUMBERS, blank, names, naming, writesOn, number, numbersFrom, numbers, corrected}
 use Rattle.display.proofs.Wide.{free-behind}
 

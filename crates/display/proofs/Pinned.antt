@@ -1,9 +1,6 @@
 -- The words of #110 as a reader would state them, without walks over lists: which request names a channel, how many do, where each number
 -- and each record stands. The definitions are these, and nothing else is.
 -- Assumes nothing.
---
---   nobody               a request to read beyond the end of a list
---   Counts p rs n        n of the requests rs pass the test p: as many as a list has that has each of their places once
 use Prim.Native.Nat.{ℕ, zero, suc, _+_, _*_, _/_, _%_, _^_, _≤_, _<_}
 use mathlib.Core.Path.{_≡_, refl, ap, sym, _∙_}
 use mathlib.Core.Logic.{_↔_}
@@ -12,16 +9,22 @@ use mathlib.Core.List.{List, [], _∷_, _++_, map, append-assoc}
 use native.Mathlib.Omega.{arith}
 use lib.Dec.{T, eqb, eqb→eq, eqb·suc-zero, not-T}
 use lib.ListN.{length, getD, take, drop, length-append, length-drop, length-map}
+use Rattle.machine.specs.Numbers.{CMD·WRITE}
 use Rattle.machine.specs.Lists.{if_then_else_, any, keep, among, distinct}
-use Rattle.machine.specs.State.{Channel, Request, State}
+use Rattle.machine.specs.State.{Channel, Request, State, OPEN, COMMAND}
 use Rattle.machine.specs.Maps.{odd, half}
 use Rattle.machine.specs.Desks.{deskOf}
 use Rattle.machine.specs.Choosing.{Look, fails, held, grants, look}
 use Rattle.machine.specs.Rule.{Names, channel}
 use Rattle.machine.specs.Log.{line}
+use Rattle.machine.specs.Walks.{wait, asks}
+use Rattle.machine.specs.Machine.{machine}
 use Rattle.machine.proofs.Tests.{if-elim, by-test, test-true, test-false, or-left, or-right, eqb-false}
 use Rattle.machine_laws.proofs.Lists.{within-length, among-zero, among-suc, distinct-suc}
-use Rattle.display.specs.Display.{NUMBERS, DISPLAY, names, writesOn, naming, number, numbersFrom, numbers, holds, recordOf, records, loadLine, requestLines}
+use Rattle.display.specs.Display.{NUMBERS, DISPLAY, names, writesOn, naming, number, numbersFrom, numbers, holds, recordOf, records, loadLine, requestLines, Bytes}
+use Rattle.display.specs.Runs.{Orderly}
+use Rattle.display.specs.Standing.{gone, Agree}
+use Rattle.display.specs.Pinned.{nobody, Counts}
 use Rattle.display.proofs.Examples.{rows-shown}
 use Rattle.display.proofs.Display.{take-length}
 
@@ -48,15 +51,6 @@ names-rule i r = (
 )
 
 -- ---- naming: how many requests name the channel
-
-abbrev pub nobody : Request
-nobody = record { id = 0; key = 0; prec = 0; impatient = false; combos = [] }
-
-pub record Counts (p : Request → Bool) (rs : List Request) (n : ℕ) : Type 0 where
-  pub places : List ℕ
-  pub all : (k : ℕ) → T (among k places) ↔ ((k < length rs) × T (p (getD rs k nobody)))
-  pub once : T (distinct places)
-  pub many : length places ≡ n
 
 placesOf : (Request → Bool) → List Request → List ℕ
 placesOf p [] = []
@@ -233,3 +227,30 @@ request-lines cs [] qs = refl
 request-lines cs (r ∷ rs) qs =
     ap (λ (bs : List ℕ). line (0xE1 ∷ recordOf cs r) ++ bs) (request-lines cs rs qs)
     ∙ sym (append-assoc (line (0xE1 ∷ recordOf cs r)) (requestLines cs rs) (requestLines cs qs))
+
+-- ---- runs
+
+-- a WRITE of as many cycles as there are, and an OPEN of the highest precedence and key; a precedence of two bytes
+pub orderly-most : Orderly (asks (COMMAND CMD·WRITE) 2 0 1 128 1 (255 ∷ 255 ∷ 0 ∷ 0 ∷ 124 ∷ 64 ∷ []) 64
+    ∷ asks OPEN 0 0 0 255 65535 [] 64 ∷ [])
+unfolding machine
+orderly-most = ((tt, λ _. omega arith), ((tt, λ e. absurd (let z : _≡_ {A = ℕ} 0 1 = cc in omega arith)), tt))
+
+pub second-unorderly : Orderly (asks OPEN 0 0 0 128 1 [] 64 ∷ asks OPEN 0 0 0 256 1 [] 64 ∷ []) → ⊥
+unfolding machine
+second-unorderly o = o .1 .0 .0
+
+pub byte-most : Bytes (255 ∷ 256 ∷ []) → ⊥
+byte-most h = let e : 256 < 256 = h 1 in absurd (omega arith)
+
+-- ---- who waits before and after
+
+pub gone-told : map (gone (wait 9 1 128 false [] ∷ [])) (wait 9 1 128 false [] ∷ wait 8 1 128 false [] ∷ []) ≡ false ∷ true ∷ []
+unfolding machine
+gone-told = refl
+
+-- a request that stayed with another key
+pub another-not-agrees : Agree (wait 9 1 128 false [] ∷ []) (wait 9 2 128 false [] ∷ []) → ⊥
+unfolding machine
+another-not-agrees a =
+    let e : _≡_ {A = ℕ} 2 1 = ap (λ (rs : List Request). getD (map (λ r. r .key) rs) 0 0) (a 9 tt tt) in absurd (omega arith)

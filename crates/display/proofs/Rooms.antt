@@ -12,9 +12,11 @@ use Rattle.machine.specs.Commands.{silent, doEvent, doClose, doAbort}
 use Rattle.machine.specs.Allocating.{doOpen}
 use Rattle.machine.specs.Kinds.{kind}
 use Rattle.machine.specs.Refusals.{Refusal, accepted, refused, refusal}
-use Rattle.machine_laws.proofs.Rooms.{lent, refusal-lent, open-lent, perform-lent, room-unread, short-refused}
+use Rattle.machine.specs.InBytes.{twoBytes}
+use Rattle.machine_laws.specs.Rooms.{lent}
+use Rattle.machine_laws.proofs.Rooms.{refusal-lent, open-lent, perform-lent, room-unread, short-refused}
 use Rattle.display.specs.Looks.{acting, looksAfter, lookedBy, looked}
-use Rattle.display.specs.Display.{NUMBERS, corrected, looksOf, looksBytes, displayed}
+use Rattle.display.specs.Display.{NUMBERS, corrected, looksOf, displayed}
 use Rattle.display.proofs.Looks.{looked-refused}
 use Rattle.display.proofs.Display.{refused-stays}
 
@@ -38,18 +40,18 @@ module _ (c : Call) (n : ℕ) (h : 64 ≤ n) (g : 64 ≤ c .room) where
   pub displayed-room : (s : State) (d : List ℕ) → displayed s (lent n c) d ≡ displayed s c d
   unfolding displayed
   displayed-room s d =
-      ap₂ (λ (u : Outcome) (k : ℕ). corrected s (u .next) 0 (take NUMBERS d) ++ looksBytes k) (room-unread c n h g s) (looked-room s (looksOf d))
+      ap₂ (λ (u : Outcome) (k : ℕ). corrected s (u .next) 0 (take NUMBERS d) ++ twoBytes k) (room-unread c n h g s) (looked-room s (looksOf d))
 
 -- ---- too short a list
 
 module _ (s : State) (c : Call) (h : c .room < 64) where
   -- the state stays and nothing settles
-  pub short-displayed : (d : List ℕ) → displayed s c d ≡ corrected s s 0 (take NUMBERS d) ++ looksBytes (looksOf d)
+  pub short-displayed : (d : List ℕ) → displayed s c d ≡ corrected s s 0 (take NUMBERS d) ++ twoBytes (looksOf d)
   short-displayed d = ⊎-elim (same 1) (same 5) (short-refused s c h (c .op))
     where
-      same : (e : ℕ) → refusal (c .op) c s ≡ refused e → displayed s c d ≡ corrected s s 0 (take NUMBERS d) ++ looksBytes (looksOf d)
+      same : (e : ℕ) → refusal (c .op) c s ≡ refused e → displayed s c d ≡ corrected s s 0 (take NUMBERS d) ++ twoBytes (looksOf d)
       same e r =
-          unfold displayed in ap₂ (λ (u : State) (k : ℕ). corrected s u 0 (take NUMBERS d) ++ looksBytes k) (refused-stays s c e r) (looked-refused s c (looksOf d) e r)
+          unfold displayed in ap₂ (λ (u : State) (k : ℕ). corrected s u 0 (take NUMBERS d) ++ twoBytes k) (refused-stays s c e r) (looked-refused s c (looksOf d) e r)
 
 pub displayed-short : (s : State) (c : Call) (n : ℕ) → n < 64 → c .room < 64 → (d : List ℕ) → displayed s (lent n c) d ≡ displayed s c d
 displayed-short s c n h g d = short-displayed s (lent n c) h d ∙ sym (short-displayed s c g d)

@@ -11,16 +11,12 @@ use lib.Dec.{T}
 use lib.ListN.{length, take}
 use Rattle.machine.specs.State.{State, Call, freshOn}
 use Rattle.machine.specs.Sound.{sound}
-use Rattle.machine.specs.Call.{call, inRange}
-use Rattle.machine_laws.proofs.KeepingCalls.{Counted, call-sound}
+use Rattle.machine.specs.Call.{call}
+use Rattle.machine_laws.proofs.KeepingCalls.{call-sound}
 use Rattle.display.specs.Display.{NUMBERS, DISPLAY, blank, numbers, looksOf, displayed}
-use Rattle.display.specs.Runs.{afterCalls, shownAfter}
+use Rattle.display.specs.Runs.{afterCalls, shownAfter, Orderly}
 use Rattle.display.proofs.Looks.{looked-few}
 use Rattle.display.proofs.Display.{displayed-length, displayed-agrees, displayed-looks, blank-agrees}
-
-abbrev pub Orderly : List Call → Type 0
-Orderly [] = Unit {0}
-Orderly (c ∷ cs) = (T (inRange c) × Counted (c .op) c) × Orderly cs
 
 pub shown-agrees : (s : State) (cs : List Call) (d : List ℕ) → length d ≡ DISPLAY → T (sound s) → Orderly cs → take NUMBERS d ≡ numbers s
     → take NUMBERS (shownAfter s cs d) ≡ numbers (afterCalls s cs)

@@ -18,22 +18,16 @@ use Rattle.machine.specs.Allocating.{enqueue}
 use Rattle.machine.specs.Refusals.{Refusal, accepted, refused, refusal}
 use Rattle.machine.specs.Call.{accept, answering, call}
 use Rattle.machine.proofs.Tests.{if-elim, by-test, test-true, test-false, and-left, and-right, nor-left, nor-right, or-left, or-right, eqb-flip, eqb-false}
-use Rattle.machine_laws.proofs.Lists.{Sub, end, skip, take, sub-map, sub-among}
-use Rattle.machine_laws.proofs.Keeping.{waitIds}
-use Rattle.machine_laws.proofs.Sound.{Parts, parts}
+use Rattle.machine_laws.specs.Lists.{Sub, end, skip, take}
+use Rattle.machine_laws.proofs.Lists.{sub-map, sub-among}
+use Rattle.machine_laws.specs.Keeping.{waitIds}
+use Rattle.machine_laws.specs.Sound.{Parts}
+use Rattle.machine_laws.proofs.Sound.{parts}
 use Rattle.machine_laws.proofs.Refusals.{refuse-same}
 use Rattle.display.specs.Looks.{acting}
 use Rattle.display.specs.Display.{names, naming}
+use Rattle.display.specs.Standing.{being, gone, Agree}
 use Rattle.display.proofs.Acting.{asking, Turn, accepted-sound, acting-turn, turn-apart, waiting-apart, idle-waiting, accept-sub}
-
-abbrev pub being : ℕ → List Request → List Request
-being x us = keep (λ r. eqb x (r .id)) us
-
-abbrev pub gone : List Request → Request → Bool
-gone us r = not (among (r .id) (waitIds us))
-
-abbrev pub Agree : List Request → List Request → Type 0
-Agree ws vs = (x : ℕ) → T (among x (waitIds ws)) → T (among x (waitIds vs)) → being x vs ≡ being x ws
 
 -- ---- being
 

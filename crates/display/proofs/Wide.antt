@@ -24,19 +24,21 @@ use Rattle.machine.specs.Rule.{channel}
 use Rattle.machine.specs.Call.{perform, answering, call, inRange}
 use Rattle.machine.proofs.Tests.{if-elim, and-left, and-right, and-both, nor-left, nor-right}
 use Rattle.machine.proofs.Steps.{first-none}
+use Rattle.machine.specs.InBytes.{twoBytes}
 use Rattle.machine_laws.proofs.Maps.{length-change}
-use Rattle.machine_laws.proofs.Sound.{Parts}
+use Rattle.machine_laws.specs.Sound.{Parts}
 use Rattle.machine_laws.proofs.KeepingSettle.{look-unlocked}
 use Rattle.machine_laws.proofs.KeepingCalls.{open-sound, close-sound, abort-sound, event-sound, perform-sound, range-prec, range-key, id-small}
-use Rattle.machine_laws.proofs.Lists.{Sub, sub-all, sub-length}
-use Rattle.widening.specs.Widening.{wider, widen, widenO, smallList}
+use Rattle.machine_laws.specs.Lists.{Sub}
+use Rattle.machine_laws.proofs.Lists.{sub-all, sub-length}
+use Rattle.widening.specs.Widening.{wider, widen, widenO, smallList, Few, Waits}
 use Rattle.widening.proofs.Choosing.{look-wide}
-use Rattle.widening.proofs.Keys.{Few, granted-wide}
-use Rattle.widening.proofs.Settling.{Waits, FoundFits, walk-fits, walk-wide}
+use Rattle.widening.proofs.Keys.{granted-wide}
+use Rattle.widening.proofs.Settling.{FoundFits, walk-fits, walk-wide}
 use Rattle.widening.proofs.Calls.{locks-fit, few-fit, Fit, sound-fit, write-fit, map-on, maps-on, perform-wide, call-wide}
 use Rattle.widening.proofs.Commands.{event-wide, close-wide, abort-wide, open-wide}
 use Rattle.display.specs.Looks.{beyond, reached, lookOn, looksIn, looks, acting, looksAfter, lookedBy, looked}
-use Rattle.display.specs.Display.{NUMBERS, names, naming, writesOn, number, corrected, looksOf, looksBytes, displayed}
+use Rattle.display.specs.Display.{NUMBERS, names, naming, writesOn, number, corrected, looksOf, displayed}
 use Rattle.display.proofs.Acting.{walk-sub}
 
 -- ---- a walk
@@ -183,9 +185,9 @@ corrected-wide k s t j (b ∷ bs) =
 -- the display of a board is the one that its call, done on the wide board, shows
 pub displayed-wide : (k : ℕ) (s : State) (c : Call) (d : List ℕ) → Parts s → T (inRange c)
     → corrected (widen k s) (answering (refusal (c .op) c s) c (widen k s) .next) 0 (take NUMBERS d)
-    ++ looksBytes (lookedBy (refusal (c .op) c s) c (widen k s) (looksOf d)) ≡ displayed s c d
+    ++ twoBytes (lookedBy (refusal (c .op) c s) c (widen k s) (looksOf d)) ≡ displayed s c d
 unfolding displayed
 displayed-wide k s c d p r =
-    ap₂ (λ (t : State) (n : ℕ). corrected (widen k s) t 0 (take NUMBERS d) ++ looksBytes n)
+    ap₂ (λ (t : State) (n : ℕ). corrected (widen k s) t 0 (take NUMBERS d) ++ twoBytes n)
     (ap (λ (o : Outcome). o .next) (call-wide k s c p r)) (looked-wide k s c (looksOf d) p r)
-    ∙ ap (λ (xs : List ℕ). xs ++ looksBytes (looked s c (looksOf d))) (corrected-wide k s (call s c .next) 0 (take NUMBERS d))
+    ∙ ap (λ (xs : List ℕ). xs ++ twoBytes (looked s c (looksOf d))) (corrected-wide k s (call s c .next) 0 (take NUMBERS d))

@@ -11,7 +11,7 @@
 --   number j s             the count at place j of the 16; numbersFrom n j s: n of them, from place j on
 --   numbers s              all 16
 --   corrected s t j bs     the numbers bs, which stand from place j on, after the state s became t
---   looksOf d, looksBytes  the looks that a display has; a number of looks as two bytes
+--   looksOf d              the looks that a display has
 --   displayed s c d        the display d after the call c in the state s
 --   displayedBy s c d      the same after a line of a log, given its call, if it is one
 --   holds l, recordOf cs r the request is held; its record: id, precedence (two's complement), held or not, desk
@@ -19,7 +19,8 @@
 --   loadLine s d           E0, for each channel of the board its two numbers, then the looks
 --   requestLines cs rs     E1 and its record for each request
 --   displayLines s d       the lines of a display in a state
-use Prim.Native.Nat.{ℕ, zero, suc, _+_, _*_, _/_, _%_, _^_}
+--   Bytes bs               each number is a byte
+use Prim.Native.Nat.{ℕ, zero, suc, _+_, _*_, _/_, _%_, _^_, _<_}
 use mathlib.Core.Bool.{Bool, true, false}
 use mathlib.Core.List.{List, [], _∷_, _++_}
 use mathlib.Core.Option.{Option, none, some}
@@ -33,6 +34,7 @@ use Rattle.machine.specs.Rule.{channel}
 use Rattle.machine.specs.Call.{call}
 use Rattle.display.specs.Looks.{looked}
 use Rattle.machine.specs.Log.{line}
+use Rattle.machine.specs.InBytes.{twoBytes}
 
 abbrev pub NUMBERS : ℕ
 NUMBERS = 16
@@ -79,11 +81,8 @@ corrected s t j (b ∷ bs) = ((b + number j t + 255 * number j s) % 256) ∷ cor
 abbrev pub looksOf : List ℕ → ℕ
 looksOf d = 256 * getD d 16 0 + getD d 17 0
 
-abbrev pub looksBytes : ℕ → List ℕ
-looksBytes k = (k / 256) ∷ (k % 256) ∷ []
-
 unfoldable pub displayed : State → Call → List ℕ → List ℕ
-displayed s c d = corrected s (call s c .next) 0 (take NUMBERS d) ++ looksBytes (looked s c (looksOf d))
+displayed s c d = corrected s (call s c .next) 0 (take NUMBERS d) ++ twoBytes (looked s c (looksOf d))
 
 unfoldable pub displayedBy : State → Option Call → List ℕ → List ℕ
 displayedBy s none d = d
@@ -118,3 +117,8 @@ requestLines cs (r ∷ rs) = line (0xE1 ∷ recordOf cs r) ++ requestLines cs rs
 
 unfoldable pub displayLines : State → List ℕ → List ℕ
 displayLines s d = loadLine s d ++ requestLines (s .channels) (s .waiting)
+
+-- ---- bytes
+
+abbrev pub Bytes : List ℕ → Type 0
+Bytes bs = (i : ℕ) → getD bs i 0 < 256

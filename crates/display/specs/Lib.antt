@@ -1,3 +1,5 @@
 pub mod Looks
 pub mod Display
 pub mod Runs
+pub mod Pinned
+pub mod Standing

@@ -9,8 +9,12 @@
 --   acting o c s       what an accepted call does before settling
 --   looksAfter o u k   the looks of the last settling, after a call that came to u before it settled: k is the number before
 --   looked s c k       the same after any call
+--   triangle w         1 + 2 + .. + w: at most so many looks, where w requests wait
+--   ending l, stops cs r   the look is a grant, so that the walk ends there; so it is of the request r
+--   further front rest s   the looks that are left in the middle of a walk
 use Prim.Native.Nat.{ℕ, zero, suc, _+_}
 use mathlib.Core.List.{List, [], _∷_}
+use mathlib.Core.Bool.{Bool, true, false}
 use lib.Dec.{eqb}
 use lib.ListN.{length}
 use Rattle.machine.specs.Numbers.{ALLOCFAILED}
@@ -24,6 +28,7 @@ use Rattle.machine.specs.Settling.{Found, nobody, somebody, Walk, walk, walked}
 use Rattle.machine.specs.Kinds.{kind}
 use Rattle.machine.specs.Refusals.{Refusal, accepted, refused, refusal}
 use Rattle.machine.specs.Call.{perform}
+use Rattle.machine_laws.specs.Looking.{fronted}
 
 -- those behind a request are reached unless it is granted
 unfoldable pub beyond : Look → ℕ → ℕ
@@ -72,3 +77,23 @@ lookedBy (refused e) c s k = k
 
 unfoldable pub looked : State → Call → ℕ → ℕ
 looked s c k = lookedBy (refusal (c .op) c s) c s k
+
+-- each walk but the last grants one, and the next has one request fewer
+unfoldable pub triangle : ℕ → ℕ
+triangle zero = 0
+triangle (suc w) = suc w + triangle w
+
+-- after a grant the walk starts again at the head
+unfoldable pub ending : Look → Bool
+ending fails = false
+ending (held m) = false
+ending (grants m) = true
+
+abbrev pub stops : List Channel → Request → Bool
+stops cs r = ending (look (r .prec) (r .combos) cs)
+
+-- of the requests in front each was looked at and stays
+unfoldable pub further : List Request → List Request → State → ℕ
+further front rest s =
+    let w = walk (s .channels) rest (s .locks) in
+    reached (s .channels) rest + lookOn (w .found) (fronted front w) s looks

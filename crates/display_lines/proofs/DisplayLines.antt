@@ -1,21 +1,22 @@
--- The lines of a display: how long they are, how they grow by a record, that they are those that crate `display` says, and that they fit
+-- The lines of a display: how long they are, how they grow by a struct, that they are those that crate `display` says, and that they fit
 -- the memory that is lent. Assumes nothing.
-use Prim.Native.Nat.{ℕ, zero, suc, _+_, _-_, _*_, _/_, _%_, _≤_, _<_}
+use Prim.Native.Nat.{ℕ, suc, _+_, _-_, _*_, _/_, _%_, _≤_, _<_}
 use mathlib.Core.Path.{_≡_, refl, ap, sym, _∙_}
-use mathlib.Core.List.{List, [], _∷_, _++_, append-assoc, append-nil}
+use mathlib.Core.List.{List, [], _∷_, _++_, map, append-assoc, append-nil}
 use native.Mathlib.Omega.{arith}
 use native.Mathlib.Numerals.{add-one}
-use lib.ListN.{length, take, drop, getD, set, length-append, length-drop}
-use lib.Seq.{take-suc, drop-drop, length-take-le}
+use lib.ListN.{length, take, drop, getD, set, length-append, length-drop, length-map}
+use lib.Seq.{take-suc, length-take-le}
 use Rattle.memory.specs.Splice.{splice}
 use Rattle.memory.proofs.Splice.{splice-then, splice-snoc}
 use Rattle.machine.specs.State.{Channel, Request, State}
 use Rattle.machine.specs.Log.{hexDigit, line}
 use Rattle.spelling.specs.Spelling.{digits}
 use Rattle.hex_lines.proofs.HexLines.{length-digits, digits-append, length-line, line-ends}
-use Rattle.display.specs.Display.{recordOf, records, loadLine, requestLines, displayLines}
-use Rattle.display.proofs.Pinned.{records-length}
-use Rattle.display_lines.specs.DisplayLines.{loadOf, recordLines, displayOf, Shows}
+use Rattle.display.specs.Display.{recordOf, loadLine, requestLines, displayLines}
+use Rattle.record_structs.specs.declared.Waiter.{Waiter}
+use Rattle.record_structs.specs.RecordStructs.{waiterOf, waitersIn}
+use Rattle.display_lines.specs.DisplayLines.{loadOf, fourOf, recordLines, displayOf, Shows}
 
 -- ---- a line, put in parts
 
@@ -45,32 +46,36 @@ load-shown : loadOf 4 (0 ∷ 1 ∷ 0 ∷ 2 ∷ 3 ∷ 4 ∷ 5 ∷ 6 ∷ 7 ∷ 7 �
 unfolding loadOf line hexDigit
 load-shown = refl
 
--- ---- records one behind the other
+-- ---- structs one behind the other
 
-pub length-recordLines : (n : ℕ) (bs : List ℕ) → n * 4 ≤ length bs → length (recordLines n bs) ≡ n * 11
+pub length-recordLines : (ws : List Waiter) → length (recordLines ws) ≡ length ws * 11
 unfolding recordLines
-length-recordLines zero bs h = refl
-length-recordLines (suc n) bs h =
-    let a = length-drop 4 bs in
-    let b = length-take-le 4 bs (omega arith) in
-    let e = length-recordLines n (drop 4 bs) (omega arith) in
-    let f = length-line (0xE1 ∷ take 4 bs) in
-    rw length-append (omega arith)
+length-recordLines [] = refl
+length-recordLines (w ∷ ws) =
+    let e = length-recordLines ws in let f = length-line (0xE1 ∷ fourOf w) in rw length-append (omega arith)
 
--- one record more
-pub recordLines-more : (n : ℕ) (bs : List ℕ) → recordLines (suc n) bs ≡ recordLines n bs ++ line (0xE1 ∷ take 4 (drop (n * 4) bs))
+recordLines-append : (vs ws : List Waiter) → recordLines (vs ++ ws) ≡ recordLines vs ++ recordLines ws
 unfolding recordLines
-recordLines-more zero bs = append-nil (line (0xE1 ∷ take 4 bs))
-recordLines-more (suc n) bs =
-    let k : 4 + n * 4 ≡ suc n * 4 = omega arith in
-    let e : drop (n * 4) (drop 4 bs) ≡ drop (suc n * 4) bs = drop-drop (n * 4) 4 bs ∙ ap (λ (x : ℕ). drop x bs) k in
-    rw (recordLines-more n (drop 4 bs), e) (sym (append-assoc (line (0xE1 ∷ take 4 bs)) (recordLines n (drop 4 bs)) _))
+recordLines-append [] ws = refl
+recordLines-append (v ∷ vs) ws =
+    rw (recordLines-append vs ws) (sym (append-assoc (line (0xE1 ∷ fourOf v)) (recordLines vs) (recordLines ws)))
 
-pub record-turn : (out : List ℕ) (at : ℕ) (bs : List ℕ) (i k : ℕ) → i * 4 ≤ length bs → at + i * 11 ≤ length out → k ≡ 4
-    → splice (splice out at (recordLines i bs)) (at + i * 11) (line (0xE1 ∷ take k (drop (i * 4) bs))) ≡ splice out at (recordLines (i + 1) bs)
-record-turn out at bs i k h g f =
-    let e = length-recordLines i bs h in
-    rw (add-one i, recordLines-more i bs, f) (splice-then out at (recordLines i bs) (line (0xE1 ∷ take 4 (drop (i * 4) bs))) (at + i * 11) (omega arith) (omega arith))
+-- one struct more
+recordLines-more : (ws : List Waiter) (i : ℕ) (d : Waiter) → i < length ws
+    → recordLines (take (suc i) ws) ≡ recordLines (take i ws) ++ line (0xE1 ∷ fourOf (getD ws i d))
+unfolding recordLines
+recordLines-more ws i d h =
+    ap recordLines (take-suc ws i d h) ∙ recordLines-append (take i ws) (getD ws i d ∷ [])
+    ∙ ap (λ l. recordLines (take i ws) ++ l) (append-nil (line (0xE1 ∷ fourOf (getD ws i d))))
+
+pub record-turn : (out : List ℕ) (at : ℕ) (ws : List Waiter) (i k : ℕ) (d : Waiter) → i < length ws → at + i * 11 ≤ length out
+    → k ≡ at + i * 11 → splice (splice out at (recordLines (take i ws))) k (line (0xE1 ∷ fourOf (getD ws i d)))
+    ≡ splice out at (recordLines (take (i + 1) ws))
+record-turn out at ws i k d h g p =
+    let a = length-take-le i ws (omega arith) in
+    let e = length-recordLines (take i ws) in
+    rw (add-one i, recordLines-more ws i d h)
+    (splice-then out at (recordLines (take i ws)) (line (0xE1 ∷ fourOf (getD ws i d))) k (omega arith) (omega arith))
 
 -- ---- both
 
@@ -83,41 +88,44 @@ length-loadOf w d h k =
     let e = length-append (take (2 * w) d) (drop 16 d) in
     omega arith
 
-pub spelt : {w : ℕ} {d bs : List ℕ} {n : ℕ} {out out₁ out₂ : List ℕ} → w ≤ 8 → n ≤ 64 → 18 ≡ length d → 256 ≡ length bs → 743 ≡ length out → out₁ ≡ splice out 0 (loadOf w d)
-    → out₂ ≡ splice out₁ (7 + 4 * w) (recordLines n bs) → Shows w d bs n out (7 + 4 * w + n * 11) out₂
-spelt {w} {d} {bs} {n} {out} h k e f g p q =
+pub spelt : {w : ℕ} {d : List ℕ} (ws : List Waiter) {n : ℕ} {out out₁ out₂ : List ℕ} → w ≤ 8 → n ≤ 64 → 18 ≡ length d → 64 ≡ length ws
+    → 743 ≡ length out → out₁ ≡ splice out 0 (loadOf w d) → out₂ ≡ splice out₁ (7 + 4 * w) (recordLines (take n ws))
+    → Shows w d (take n ws) out (7 + 4 * w + n * 11) out₂
+spelt {w} {d} ws {n} {out} h k e f g p q =
     let a = length-loadOf w d h (sym e) in
-    let b = length-recordLines n bs (omega arith) in
-    let c : 7 + 4 * w + n * 11 ≡ length (displayOf w d bs n) = rw length-append (omega arith) in
+    let m = length-take-le n ws (omega arith) in
+    let b = length-recordLines (take n ws) in
+    let c : 7 + 4 * w + n * 11 ≡ length (displayOf w d (take n ws)) = rw length-append (omega arith) in
     record {
       count = c;
-      bytes = q ∙ ap (λ l. splice l (7 + 4 * w) (recordLines n bs)) p ∙ splice-then out 0 (loadOf w d) (recordLines n bs) (7 + 4 * w) (omega arith) (omega arith);
+      bytes = q ∙ ap (λ l. splice l (7 + 4 * w) (recordLines (take n ws))) p
+          ∙ splice-then out 0 (loadOf w d) (recordLines (take n ws)) (7 + 4 * w) (omega arith) (omega arith);
       few = omega arith;
     }
 
 -- ---- they are the lines of a display
 
 -- E1 and a record for each
-pub record-lines : (cs : List Channel) (rs : List Request) (rest : List ℕ) → recordLines (length rs) (records cs rs ++ rest) ≡ requestLines cs rs
-unfolding recordLines records requestLines recordOf
-record-lines cs [] rest = refl
-record-lines cs (r ∷ rs) rest = ap (λ l. line (0xE1 ∷ recordOf cs r) ++ l) (record-lines cs rs rest)
+pub record-lines : (cs : List Channel) (rs : List Request) → recordLines (map (waiterOf cs) rs) ≡ requestLines cs rs
+unfolding recordLines requestLines recordOf
+record-lines cs [] = refl
+record-lines cs (r ∷ rs) = ap (λ l. line (0xE1 ∷ recordOf cs r) ++ l) (record-lines cs rs)
 
-pub display-lines : (s : State) (d rest : List ℕ) → displayOf (length (s .channels)) d (records (s .channels) (s .waiting) ++ rest) (length (s .waiting)) ≡ displayLines s d
+pub display-lines : (s : State) (d : List ℕ) → displayOf (length (s .channels)) d (waitersIn s) ≡ displayLines s d
 unfolding displayLines loadLine loadOf
-display-lines s d rest = ap (λ l. loadOf (length (s .channels)) d ++ l) (record-lines (s .channels) (s .waiting) rest)
+display-lines s d = ap (λ l. loadOf (length (s .channels)) d ++ l) (record-lines (s .channels) (s .waiting))
 
 -- and fit the memory that is lent: 64 wait at most, on eight channels at most
-pub display-few : (s : State) (d : List ℕ) → length (s .channels) ≤ 8 → length (s .waiting) ≤ 64 → length d ≡ 18 → length (displayLines s d) ≤ 743
+pub display-few : (s : State) (d : List ℕ) → length (s .channels) ≤ 8 → length (s .waiting) ≤ 64 → length d ≡ 18
+    → length (displayLines s d) ≤ 743
 display-few s d h k e =
-    let rs = records (s .channels) (s .waiting) ++ [] in
     let a = length-loadOf (length (s .channels)) d h e in
-    let c = length-append (records (s .channels) (s .waiting)) [] in
-    let z = records-length (s .channels) (s .waiting) in
-    let b = length-recordLines (length (s .waiting)) rs (omega arith) in
-    let n = length-append (loadOf (length (s .channels)) d) (recordLines (length (s .waiting)) rs) in
-    rw (sym (display-lines s d [])) (omega arith)
+    let c = length-map (s .waiting) (waiterOf (s .channels)) in
+    let b = length-recordLines (waitersIn s) in
+    let n = length-append (loadOf (length (s .channels)) d) (recordLines (waitersIn s)) in
+    rw (sym (display-lines s d)) (omega arith)
 
 -- no second showing fits
-pub one-showing : {w : ℕ} {d bs : List ℕ} {n : ℕ} {out : List ℕ} {r r₂ : ℕ} {o p : List ℕ} → Shows w d bs n out r o → Shows w d bs n out r₂ p → (r ≡ r₂) × (o ≡ p)
+pub one-showing : {w : ℕ} {d : List ℕ} {ws : List Waiter} {out : List ℕ} {r r₂ : ℕ} {o p : List ℕ} → Shows w d ws out r o
+    → Shows w d ws out r₂ p → (r ≡ r₂) × (o ≡ p)
 one-showing x y = (x .count ∙ sym (y .count), x .bytes ∙ sym (y .bytes))

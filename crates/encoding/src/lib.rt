@@ -7,7 +7,8 @@ use queue::Queue;
 ghost use mathlib.Core.Path.{_≡_};
 ghost use Prim.Native.Nat.{_+_, _≤_, _<_};
 ghost use lib.ListN.{length, set};
-ghost use Rattle.image.specs.Image.{markOf, keysBytes, openBytes, queueBytes, channelBytes, Wrote, Entered, Saved};
+ghost use Rattle.machine.specs.InBytes.{markOf};
+ghost use Rattle.image.specs.Image.{keysBytes, openBytes, queueBytes, channelBytes, Wrote, Entered, Saved};
 
 fn mark(on: bool) -> u8
     ensures { λ r. ⌜ r ≡ markOf on ⌝ }

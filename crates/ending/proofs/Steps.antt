@@ -143,7 +143,7 @@ module _ {st : State} {tb : List ℕ} (h : Held st tb) (i : ℕ) (g : i < 8) (a 
   pub cycle-on : turnOf (a .first) ≡ On → {l : List ℕ} {n m : ℕ} {b tb′ : List ℕ} → m ≡ 2 ^ i → b ≡ 0 ∷ 0 ∷ 0 ∷ 0 ∷ 0 ∷ 0 ∷ 0 ∷ 0 ∷ 0 ∷ 0 ∷ 0 ∷ 0 ∷ []
       → Tunes Next b m st tb tb′ → EndsCycle i st tb l n (record { state = st; n = n }) tb′ l
   cycle-on e {l} {n} {tb′ = tb′} em eb t =
-      let w = t (record { id = 0; cycles = 0; period = 0; volume = 0; finish = false; pervol = none }) (eb ∙ (unfold numberBytes in refl)) in
+      let w = t .stands (record { id = 0; cycles = 0; period = 0; volume = 0; finish = false; pervol = none }) (eb ∙ (unfold numberBytes in refl)) in
       let q = ap (λ (x : ℕ). withChannels (change (onFront nextOf) x (s .channels)) s) em ∙ on-state e in
       subst (λ (rs : List Reply). Did (withCycle i s) rs l n st tb′ l n) (sym (turn-told On e))
       (subst (λ (u : StateM). Did u [] l n st tb′ l n) q (record { struct = w .0; table = w .1; list = sym (splice-none l (n * 6)); count = omega arith }))

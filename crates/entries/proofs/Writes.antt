@@ -15,8 +15,8 @@ use Rattle.memory.proofs.Splice.{block-byte}
 use Rattle.table.specs.Entry.{padded, numberBytes, writeEntry, listIn, numbersIn}
 use Rattle.machine.specs.Sound.{soundWrite, forgets}
 use Rattle.machine.proofs.Tests.{by-test, test-true, test-false, and-left, and-right}
-use Rattle.numbers.specs.Numbers.{soundNumbers}
-use Rattle.numbers.proofs.Laws.{Bytes, numbers-told}
+use Rattle.numbers.specs.Numbers.{soundNumbers, Bytes}
+use Rattle.numbers.proofs.Laws.{numbers-told}
 use Rattle.store.specs.Store.{writeIn}
 use Rattle.store.proofs.Store.{write-list}
 use Rattle.entries.specs.Entries.{same, writeTest}

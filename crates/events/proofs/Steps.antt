@@ -18,8 +18,10 @@ use Rattle.machine.specs.Granting.{onChannels, cut}
 use Rattle.machine.specs.Commands.{done, silent, met, frontCycled, cutFronts, frontReplies, eventReplies, happened, doEvent}
 use Rattle.machine.specs.Sound.{writesOf, soundWaiter}
 use Rattle.machine_laws.proofs.Lists.{sub-refl, all-keep, keep-length}
-use Rattle.machine_laws.proofs.Sound.{Parts, ids-few}
-use Rattle.machine_laws.proofs.Keeping.{lockIds, waitIds, ids-sub, parts-sub, cut-ids}
+use Rattle.machine_laws.specs.Sound.{Parts}
+use Rattle.machine_laws.proofs.Sound.{ids-few}
+use Rattle.machine_laws.specs.Keeping.{lockIds, waitIds}
+use Rattle.machine_laws.proofs.Keeping.{ids-sub, parts-sub, cut-ids}
 use Rattle.store.specs.declared.State.{State}
 use Rattle.store.specs.Store.{lockItem, waiterItem, waitItem, writeItems, items, entries, tableOf, structOf, stateIn, Held}
 use Rattle.store.specs.Work.{Ready, Did}

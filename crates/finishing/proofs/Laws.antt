@@ -12,10 +12,9 @@ use Rattle.board.specs.declared.Board.{Board}
 use Rattle.board.specs.Board.{stateIn, Held}
 use Rattle.gathering.specs.Lumps.{used}
 use Rattle.taking.specs.declared.Show.{Show}
-use Rattle.taking.specs.declared.Taken.{Taken}
-use Rattle.taking.specs.Desk.{hidden, Desk, deskOf, fits, closed, finished, Ends}
+use Rattle.taking.specs.Desk.{Taken, hidden, Desk, deskOf, fits, closed, finished, Ends, Same}
 use Rattle.taking.proofs.Kept.{held-fine, closed-fine, leaves-held}
-use Rattle.taking.proofs.Laws.{Same, one-leaving, closed-none, closed-some}
+use Rattle.taking.proofs.Laws.{one-leaving, closed-none, closed-some}
 use Rattle.putting.specs.Putting.{Puts}
 use Rattle.putting.proofs.Laws.{nothing-put, answered-few, answered-size, answer-put}
 use Rattle.one_line.proofs.Laws.{stays}

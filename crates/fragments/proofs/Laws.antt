@@ -14,10 +14,10 @@ use Rattle.gathering.specs.declared.Gathered.{Gathered}
 use Rattle.gathering.specs.Lumps.{LINE, front, ended, used, kept, Gathers}
 use Rattle.gathering.proofs.Lumps.{used-within, used-open}
 use Rattle.port.specs.Port.{startedIn, lineIn, portOf}
-use Rattle.admitting.specs.Admitting.{refusal}
-use Rattle.admitting.proofs.Laws.{Proper, allowed, port-again}
-use Rattle.telling.specs.Telling.{Says, Still, Moves}
-use Rattle.telling.proofs.Laws.{cons-cons, none-or-not, SameCall, one-porting}
+use Rattle.admitting.specs.Admitting.{refusal, Proper}
+use Rattle.admitting.proofs.Laws.{allowed, port-again}
+use Rattle.telling.specs.Telling.{Says, Still, Moves, SameCall}
+use Rattle.telling.proofs.Laws.{cons-cons, none-or-not, one-porting}
 use Rattle.fragments.specs.Fragments.{grown, lineWith, lineFed, portFed, Feeds}
 
 -- ---- a fragment

@@ -8,10 +8,10 @@ use native.Mathlib.Omega.{arith}
 use native.Mathlib.Nat.{add-zero, zero-add}
 use borrow.Author.Tests.{eq-eqb, ne-eqb}
 use lib.Dec.{T, eqb}
-use lib.ListN.{length, getD, take, drop, replicate, length-append, length-map, length-take, length-drop, drop-of-length-le}
+use lib.ListN.{length, getD, take, drop, replicate, length-append, length-map, length-take, length-drop}
 use lib.Seq.{take-suc, length-take-le, take-take}
 use Rattle.memory.specs.Splice.{splice, block}
-use Rattle.memory.proofs.Splice.{splice-then, splice-none}
+use Rattle.memory.proofs.Splice.{splice-all, splice-then, splice-none}
 use Rattle.table.proofs.Laws.{part-in}
 use Rattle.machine.specs.Log.{line}
 use Rattle.machine.proofs.Tests.{if-elim}
@@ -22,10 +22,11 @@ use Rattle.queue.specs.Queue.{listOf}
 use Rattle.channel.specs.declared.Channel.{Channel}
 use Rattle.channel.specs.Channel.{channelOf}
 use Rattle.machine.specs.State.{free}
+use Rattle.machine.specs.InBytes.{markOf}
 use Rattle.table.specs.Entry.{keyIn, listIn}
 use Rattle.store.specs.Store.{requestIn}
 use Rattle.waiting.specs.Waiting.{Readable}
-use Rattle.saved.specs.Saved.{markOf, requestFrame, spelt}
+use Rattle.saved.specs.Saved.{requestFrame, spelt}
 use Rattle.frame_lines.specs.FrameLines.{requestLine, spanLine, writeLine, entryFrame, keptIn, channelLine, writesIn, AllListed}
 
 -- ---- lines one behind the other
@@ -152,10 +153,6 @@ unfolding channelLine
 channel-line tb c ep em en ek = rw (ep, em, en, ek)
 
 -- ---- what is remembered
-
-splice-all : (z vs : List ℕ) → length vs ≡ length z → splice z 0 vs ≡ vs
-unfolding splice
-splice-all z vs e = let k : length z ≤ length z = omega arith in rw (zero-add, e, drop-of-length-le z k, append-nil vs)
 
 pub kept-none : (tb : List ℕ) (q : Queue) → q .n ≡ 0 → replicate 6 0 ≡ keptIn tb q
 unfolding keptIn

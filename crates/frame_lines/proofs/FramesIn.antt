@@ -11,7 +11,8 @@ use lib.ListN.{length, getD, take, drop, replicate, length-append, length-map}
 use Rattle.memory.specs.Splice.{block}
 use Rattle.machine.specs.State.{Write, Channel as ChannelM, Lock, Request, State as StateM, free}
 use Rattle.machine.specs.Sound.{writesOf}
-use Rattle.machine_laws.proofs.Sound.{Parts, ids-few}
+use Rattle.machine_laws.specs.Sound.{Parts}
+use Rattle.machine_laws.proofs.Sound.{ids-few}
 use Rattle.queue.specs.declared.Queue.{Queue}
 use Rattle.queue.specs.Queue.{queueOf, listOf}
 use Rattle.queue.proofs.Laws.{listOf-queueOf, at-queueOf, length-pad}
@@ -31,9 +32,10 @@ use Rattle.open_keys.specs.declared.Keys.{Keys}
 use Rattle.open_keys.proofs.Laws.{length-pad as length-keys}
 use Rattle.hex_lines.proofs.HexLines.{length-line}
 use Rattle.machine.specs.Log.{line}
+use Rattle.machine.specs.InBytes.{twoBytes, markOf}
 use Rattle.waiting.specs.Waiting.{Readable}
 use Rattle.waiting.proofs.Finding.{readable}
-use Rattle.saved.specs.Saved.{two, markOf, kept, channelFrame, requestFrame, LOCK, WAITCYCLE, spanFrame, writeFrame, writeFrames, OPEN, LAST, keyFrame, frames, spelt}
+use Rattle.saved.specs.Saved.{kept, channelFrame, requestFrame, LOCK, WAITCYCLE, spanFrame, writeFrame, writeFrames, OPEN, LAST, keyFrame, frames, spelt}
 use Rattle.frame_lines.specs.FrameLines.{spanLine, writeLine, entryFrame, keptIn, channelLine, writesIn, requestLines, keyLines, Listed, AllListed}
 use Rattle.frame_lines.proofs.FrameLines.{spelt-append, entry-request, entry-write, entry-span}
 
@@ -43,7 +45,7 @@ span-frame : (first n : ℕ) (l : Lock) → first ∷ l .id ∷ take 3 (drop 1 (
 unfolding spanEntry spanFrame
 span-frame first n l = refl
 
-numbers-front : (k : ℕ) (w : Write) → take 6 (drop 7 (writeEntry k w)) ≡ two (w .cycles) ++ toneBytes (w .period) (w .volume)
+numbers-front : (k : ℕ) (w : Write) → take 6 (drop 7 (writeEntry k w)) ≡ twoBytes (w .cycles) ++ toneBytes (w .period) (w .volume)
 unfolding writeEntry numberBytes
 numbers-front k w = refl
 

@@ -21,10 +21,11 @@ use Rattle.channel.specs.declared.Channel.{Channel}
 use Rattle.open_keys.specs.declared.Keys.{Keys}
 use Rattle.open_keys.specs.OpenKeys.{keysIn}
 use Rattle.machine.specs.Log.{line}
+use Rattle.machine.specs.InBytes.{twoBytes, markOf, signed}
 use Rattle.store.specs.declared.State.{State}
 use Rattle.store.specs.Store.{requestIn}
 use Rattle.waiting.specs.Waiting.{Readable}
-use Rattle.saved.specs.Saved.{two, markOf, signed, requestFrame, OPEN, LAST, keyFrame, spelt}
+use Rattle.saved.specs.Saved.{requestFrame, OPEN, LAST, keyFrame, spelt}
 
 abbrev pub requestLine : List ℕ → ℕ → List ℕ
 requestLine tb id = requestFrame (requestIn tb id)
@@ -43,7 +44,7 @@ unfoldable pub keptIn : List ℕ → Queue → List ℕ
 keptIn tb q = if eqb (q .n) 0 then replicate 6 0 else take 6 (drop 13 (block 23 tb (getD (q .ids) 0 0)))
 
 unfoldable pub channelLine : List ℕ → Channel → List ℕ
-channelLine tb c = 0xD1 ∷ two (c .key) ++ (signed (c .prec) ∷ markOf (c .locked) ∷ markOf (c .stopped) ∷ keptIn tb (c .writes))
+channelLine tb c = 0xD1 ∷ twoBytes (c .key) ++ (signed (c .prec) ∷ markOf (c .locked) ∷ markOf (c .stopped) ∷ keptIn tb (c .writes))
 
 unfoldable pub writesIn : List ℕ → ℕ → List Channel → List (List ℕ)
 writesIn tb i [] = []

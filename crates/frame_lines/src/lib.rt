@@ -7,9 +7,10 @@ ghost use Prim.Native.Nat.{_+_, _*_, _%_, _≤_, _<_};
 ghost use lib.ListN.{length, getD};
 ghost use Rattle.memory.specs.Splice.{block};
 ghost use Rattle.machine.specs.Log.{line};
+ghost use Rattle.machine.specs.InBytes.{markOf};
 ghost use Rattle.queue.specs.Queue.{listOf};
 ghost use Rattle.hex_lines.specs.HexLines.{Put};
-ghost use Rattle.saved.specs.Saved.{markOf, spelt};
+ghost use Rattle.saved.specs.Saved.{spelt};
 ghost use Rattle.frame_lines.specs.FrameLines.{requestLine, spanLine, writeLine, entryFrame, Listed};
 
 pub fn mark(on: bool) -> u8

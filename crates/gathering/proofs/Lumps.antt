@@ -18,7 +18,7 @@ use Rattle.machine.specs.Log.{LF, opened, lines, unhex, frame, feed}
 use Rattle.machine.proofs.Tests.{by-test, test-true, test-false}
 use Rattle.gathering.specs.declared.Gathered.{Gathered}
 use Rattle.digits.proofs.Laws.{take-527-malformed}
-use Rattle.gathering.specs.Lumps.{front, ended, used, LINE, kept, Gathers}
+use Rattle.gathering.specs.Lumps.{front, ended, used, LINE, kept, Gathers, Stands}
 
 -- ---- by the first byte
 
@@ -226,11 +226,6 @@ module _ (n : ℕ) (bs : List ℕ) (k : ℕ) (h : k ≤ length (front bs)) (g : 
         record { answer = rw (kept-take, ← taken-length, z, u); filled = w ∙ rw kept-take }
 
 -- ---- lump by lump
-
--- n bytes stand of a line whose bytes so far are p: all, or the first 527
-pub record Stands (l : List ℕ) (n : ℕ) (p : List ℕ) : Type 0 where
-  pub bytes : take n l ≡ take LINE p
-  pub count : n ≡ length (take LINE p)
 
 pub stands-none : (l : List ℕ) → Stands l 0 []
 stands-none l = record { bytes = refl; count = refl }

@@ -6,6 +6,7 @@
 --   LINE                  527: how many bytes of a line are kept. The longest frame has 526, so a cut line is malformed as well
 --   kept n bs             what is kept of a lump behind n bytes
 --   gatheredOf n bs       what `gather` answers
+--   Stands l n p          n bytes stand in l, of a line whose bytes so far are p
 --   Gathers l n bs g l′   the promise of `gather`, for what stands in l
 use Prim.Native.Nat.{ℕ, suc, _+_, _-_}
 use mathlib.Core.Path.{_≡_}
@@ -42,3 +43,8 @@ gatheredOf n bs = record { n = n + length (kept n bs); used = used bs; ended = e
 pub record Gathers (l : List ℕ) (n : ℕ) (bs : List ℕ) (g : Gathered) (l′ : List ℕ) : Type 0 where
   pub answer : g ≡ gatheredOf n bs
   pub filled : l′ ≡ splice l n (kept n bs)
+
+-- all of them, or the first 527
+pub record Stands (l : List ℕ) (n : ℕ) (p : List ℕ) : Type 0 where
+  pub bytes : take n l ≡ take LINE p
+  pub count : n ≡ length (take LINE p)

@@ -42,7 +42,7 @@ fn fill(half: &mut [u8], made: &[u8], n: usize, desk: u8) -> usize
 }
 
 // The first n records of `made`. Where there are none, the list may be of any length.
-pub fn lay(made: &[u8; 384], n: usize, replies: &mut [u8]) -> Halves
+pub fn lay(made: &[u8; audio::REPLIES_SIZE], n: usize, replies: &mut [u8]) -> Halves
     requires { ⌜ Laying (now made) n (now replies) ⌝ }
     ensures { λ r. ⌜ Laid (now (made .entry)) n (now (replies .entry)) r (now (replies .exit)) ⌝ }
 {
@@ -50,12 +50,12 @@ pub fn lay(made: &[u8; 384], n: usize, replies: &mut [u8]) -> Halves
         return Halves { a: 0, b: 0 };
     }
     let a = fill(replies, made, n, 0);
-    let b = fill(&mut replies[192..], made, n, 1);
+    let b = fill(&mut replies[audio::HALF_SIZE..], made, n, 1);
     Halves { a, b }
 }
 
 // The first n records of `made`, desk A's before desk B's.
-pub fn order(made: &[u8; 384], n: usize, out: &mut [u8])
+pub fn order(made: &[u8; audio::REPLIES_SIZE], n: usize, out: &mut [u8])
     requires { ⌜ Ordering (now made) n (now out) ⌝ }
     ensures { λ _. ⌜ now (out .exit) ≡ splice (now (out .entry)) 0 (inOrder n (now (made .entry))) ⌝ }
 {

@@ -8,11 +8,12 @@ use borrow.Author.Tests.{eq-eqb, ne-eqb}
 use Rattle.memory.specs.Splice.{splice}
 use Rattle.memory.proofs.Splice.{stores-splice}
 use Rattle.machine.specs.Log.{opOf}
-use Rattle.image.specs.Image.{markOf}
+use Rattle.machine.specs.InBytes.{markOf}
 use Rattle.image.proofs.Laws.{splice-whole}
 use Rattle.answers.specs.declared.Answer.{Answer}
 use Rattle.refusals.specs.declared.Op.the-variants.{Open, Close, Abort, CycleEnded, GaveUp, Command}
-use Rattle.handed.specs.Handed.{opFor, answerBytes}
+use Rattle.refusals.specs.Refusals.{opFor}
+use Rattle.handed.specs.Handed.{answerBytes}
 
 -- ---- the operation
 

@@ -1,26 +1,14 @@
 -- What is handed in as numbers, and what comes back as bytes.
 -- Assumes nothing.
 --
---   opFor o                    the machine's operation as the code's; the number of a command stands in the request
 --   requestOf desk op id ..    the request of the numbers that are handed in; the precedence is in two's complement
 --   answerBytes a m n          an answer: outstanding (1) or done (0), error, map, key (high byte first), extra, and how many replies
 --                              desk A and desk B have
 use Prim.Native.Nat.{ℕ, _+_, _/_, _%_}
 use mathlib.Core.List.{List, [], _∷_}
-use Rattle.machine.specs.State.{Op as OpM, OPEN, CLOSE, ABORT, EVENT, CYCLE·ENDED, GAVE·UP, COMMAND}
-use Rattle.image.specs.Image.{markOf}
+use Rattle.machine.specs.InBytes.{markOf}
 use Rattle.answers.specs.declared.Request.{Request}
 use Rattle.answers.specs.declared.Answer.{Answer}
-use Rattle.refusals.specs.declared.Op.{Op}
-use Rattle.refusals.specs.declared.Op.the-variants.{Open, Close, Abort, CycleEnded, GaveUp, Command}
-
-abbrev pub opFor : OpM → Op
-opFor OPEN = Open
-opFor CLOSE = Close
-opFor ABORT = Abort
-opFor (EVENT CYCLE·ENDED) = CycleEnded
-opFor (EVENT GAVE·UP) = GaveUp
-opFor (COMMAND n) = Command
 
 abbrev pub requestOf : ℕ → ℕ → ℕ → ℕ → ℕ → ℕ → ℕ → Request
 requestOf desk op id flags map prec key = record { desk = desk; command = op; id = id; flags = flags; map = map; prec = (prec + 128) % 256; key = key }

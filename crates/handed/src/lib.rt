@@ -7,7 +7,8 @@ ghost use lib.ListN.{length};
 ghost use Rattle.machine.specs.Desks.{HALF};
 ghost use Rattle.machine.specs.Log.{opOf};
 ghost use Rattle.machine.specs.Lists.{if_then_else_};
-ghost use Rattle.handed.specs.Handed.{opFor, answerBytes};
+ghost use Rattle.refusals.specs.Refusals.{opFor};
+ghost use Rattle.handed.specs.Handed.{answerBytes};
 
 // Operations F0 to F4 are OPEN, CLOSE, ABORT and the events; any other number is that of a command.
 pub fn op_of(b: u8) -> Op

@@ -2,35 +2,26 @@
 -- Assumes nothing.
 use Prim.Native.Nat.{ℕ, _≤_}
 use mathlib.Core.Path.{_≡_, refl, ap, sym, subst, _∙_}
-use mathlib.Core.Bool.{Bool, true, false}
 use mathlib.Core.List.{List}
 use mathlib.Core.Option.{Option, none, some}
 use native.Mathlib.Omega.{arith}
-use lib.Dec.{T}
 use lib.ListN.{length}
 use Rattle.machine.specs.State.{Call as CallM}
 use Rattle.machine.specs.Log.{line, answerLine, unhex, frame, feed}
 use Rattle.memory.specs.Splice.{splice}
 use Rattle.board.specs.declared.Board.{Board}
 use Rattle.board.specs.Board.{Held}
-use Rattle.image.specs.Image.{imageOf, stateOf, isWhole, Whole, Saved}
-use Rattle.image.proofs.Round.{imageOf-stateOf, one-image}
+use Rattle.image.specs.Image.{imageOf, stateOf, Whole, Saved}
+use Rattle.image.proofs.Round.{imageOf-stateOf, one-image, whole-saved}
 use Rattle.arbiter.proofs.Outcome.{held-or-not}
-use Rattle.unheard.specs.declared.Fed.{Fed}
-use Rattle.unheard.specs.Unheard.{unheard, Unheard}
+use Rattle.arbiter.proofs.Lent.{whole-or-not}
+use Rattle.unheard.specs.Unheard.{Fed, unheard, Unheard}
 use Rattle.serving.specs.Serving.{Feeds, FeedsDisplay}
 use Rattle.serving.proofs.Laws.{feed-few}
-use Rattle.feeding.specs.Feeding.{FeedsAny, FeedsDisplayAny}
-use Rattle.hearing.specs.Hearing.{Kept, heldIn, Hears, Tells}
+use Rattle.feeding.specs.Feeding.{FeedsAny, FeedsDisplayAny, FeedsLent}
+use Rattle.hearing.specs.Hearing.{Kept, heldIn, Hears, Tells, Same}
 
 -- ---- whether the bytes hold a sound state
-
-whole-or-not {ℓ} : {R : Type ℓ} (bs : List ℕ) → (Whole bs → R) → ((Whole bs → ⊥) → R) → R
-whole-or-not {R = R} bs y z = go (isWhole bs) refl
-  where
-    go : (b : Bool) → isWhole bs ≡ b → R
-    go true e = y (subst (λ (b : Bool). T b) (sym e) tt)
-    go false e = z (λ w. subst (λ (b : Bool). T b) e w)
 
 pub kept-or-not {ℓ} : {R : Type ℓ} (st tb : List ℕ) → (Kept st tb → R) → ((Kept st tb → ⊥) → R) → R
 kept-or-not st tb y z =
@@ -41,7 +32,7 @@ kept-or-not st tb y z =
 -- ---- a line
 
 -- on bytes that hold no struct
-pub unread-tells : {st tb dp l out : List ℕ} {s : Board} {f : Fed} {out′ : List ℕ} {w : ℕ} → (Whole st → ⊥) → Unheard s l out f out′ → w ≡ f .n → Tells l st tb dp out w st tb dp out′
+unread-tells : {st tb dp l out : List ℕ} {s : Board} {f : Fed} {out′ : List ℕ} {w : ℕ} → (Whole st → ⊥) → Unheard s l out f out′ → w ≡ f .n → Tells l st tb dp out w st tb dp out′
 unread-tells {l = l} n u e =
     record {
       text = unheard (frame (unhex l));
@@ -78,8 +69,21 @@ module _ {st tb dp l out : List ℕ} {f : Fed} {st′ tb′ dp′ out′ : List 
       }
 
   -- on the struct that they hold
-  pub read-tells : FeedsAny (stateOf st) tb l out f tb′ out′ × FeedsDisplayAny (stateOf st) tb l dp dp′ → Tells l st tb dp out r st′ tb′ dp′ out′
+  read-tells : FeedsAny (stateOf st) tb l out f tb′ out′ × FeedsDisplayAny (stateOf st) tb l dp dp′ → Tells l st tb dp out r st′ tb′ dp′ out′
   read-tells t = held-or-not (stateOf st) tb (λ h. heard-tells h (t .0 .sound h) (t .1 .sound h)) (λ n. unheard-tells n (t .0 .unsound n) (t .1 .unsound n))
+
+-- on any bytes
+pub lent-tells : {st tb dp l out : List ℕ} {n : ℕ} {st′ tb′ dp′ out′ : List ℕ} → FeedsLent l st tb dp out n st′ tb′ dp′ out′ → Tells l st tb dp out n st′ tb′ dp′ out′
+lent-tells {st} {tb} {dp} {l} {out} {n} {st′} {tb′} {dp′} {out′} c = whole-or-not st read unread
+  where
+    read : Whole st → Tells l st tb dp out n st′ tb′ dp′ out′
+    read w = let e = c .read w in read-tells w (whole-saved _ (e .0)) refl (e .1, e .2)
+
+    unread : (Whole st → ⊥) → Tells l st tb dp out n st′ tb′ dp′ out′
+    unread w =
+        let u = c .unread w in
+        subst (λ (x : List ℕ). Tells l st tb dp out n x tb′ dp′ out′) (sym (u .1))
+        (subst (λ (x : List ℕ). Tells l st tb dp out n st x dp′ out′) (sym (u .2)) (subst (λ (x : List ℕ). Tells l st tb dp out n st tb x out′) (sym (u .3)) (unread-tells w (u .0) refl)))
 
 -- ---- no second outcome fits
 
@@ -88,13 +92,6 @@ one-hearing {st = st} {tb = tb} a b =
     kept-or-not st tb
     (λ k. let x = a .sound k in let y = b .sound k in (x .output ∙ sym (y .output), one-image (x .state) (y .state), x .table ∙ sym (y .table), x .display ∙ sym (y .display)))
     (λ n. let x = a .unsound n in let y = b .unsound n in (x .output ∙ sym (y .output), x .state ∙ sym (y .state), x .table ∙ sym (y .table), x .display ∙ sym (y .display)))
-
-pub record Same (n n₂ : ℕ) (st st₂ tb tb₂ dp dp₂ out out₂ : List ℕ) : Type 0 where
-  pub count : n ≡ n₂
-  pub state : st ≡ st₂
-  pub table : tb ≡ tb₂
-  pub display : dp ≡ dp₂
-  pub output : out ≡ out₂
 
 pub one-telling : {l st tb dp out : List ℕ} {n n₂ : ℕ} {st₁ st₂ tb₁ tb₂ dp₁ dp₂ out₁ out₂ : List ℕ} → Tells l st tb dp out n st₁ tb₁ dp₁ out₁ → Tells l st tb dp out n₂ st₂ tb₂ dp₂ out₂
     → Same n n₂ st₁ st₂ tb₁ tb₂ dp₁ dp₂ out₁ out₂

@@ -8,6 +8,7 @@
 --   Unserved l st tb dp text st′ tb′ dp′  a line on any other: 1 to a frame, with its key, and 7 to what is none; nothing moves
 --   Hears l st tb dp text st′ tb′ dp′     a line on any bytes
 --   Tells l st tb dp out n st′ tb′ dp′ out′   the promise of `hear`: that output, n bytes of it, stands in front of `out`
+--   Same n n₂ st st₂ ..           the same number of bytes, and the same bytes
 use Prim.Native.Nat.{ℕ}
 use mathlib.Core.Path.{_≡_}
 use mathlib.Core.List.{List}
@@ -50,3 +51,11 @@ pub record Tells (l st tb dp out : List ℕ) (n : ℕ) (st′ tb′ dp′ out′
   pub heard : Hears l st tb dp text st′ tb′ dp′
   pub count : n ≡ length text
   pub bytes : out′ ≡ splice out 0 text
+
+-- no second outcome fits the promise: `one-telling` of proofs/Laws.antt
+pub record Same (n n₂ : ℕ) (st st₂ tb tb₂ dp dp₂ out out₂ : List ℕ) : Type 0 where
+  pub count : n ≡ n₂
+  pub state : st ≡ st₂
+  pub table : tb ≡ tb₂
+  pub display : dp ≡ dp₂
+  pub output : out ≡ out₂

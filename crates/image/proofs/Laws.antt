@@ -13,11 +13,12 @@ use Rattle.memory.specs.Splice.{splice}
 use Rattle.memory.proofs.Splice.{splice-none, set-splice, splice-append, splice-then, splice-snoc, length-splice}
 use Rattle.machine.specs.Lists.{all}
 use Rattle.machine.proofs.Tests.{and-left}
+use Rattle.machine.specs.InBytes.{markOf, twoBytes}
 use Rattle.queue.specs.declared.Queue.{Queue}
 use Rattle.open_keys.specs.declared.Keys.{Keys}
 use Rattle.channel.specs.declared.Channel.{Channel}
 use Rattle.board.specs.declared.Board.{Board}
-use Rattle.image.specs.Image.{markOf, keyBytes, keysBytes, openBytes, queueBytes, channelBytes, channelsBytes, imageOf, keyAt, keysFrom, openAt, queueAt, channelAt, channelsAt, stateOf, isByte, marksAt, allMarks, isWhole, Whole, Filled, AllFilled, Wrote, Entered}
+use Rattle.image.specs.Image.{keysBytes, openBytes, queueBytes, channelBytes, channelsBytes, imageOf, keyAt, keysFrom, openAt, queueAt, channelAt, channelsAt, stateOf, isByte, marksAt, allMarks, isWhole, Whole, Filled, AllFilled, Wrote, Entered}
 
 -- ---- the test
 
@@ -109,12 +110,12 @@ unfolding channelAt
 channel-read bs at k p l s q i = record { key = k i; prec = p i; locked = l i; stopped = s i; writes = q i }
 
 pub channel-wrote : (l : List ℕ) (at : ℕ) (c : Channel) {m₁ m₂ : ℕ} {l₁ l₂ : List ℕ} → at + 70 ≤ length l
-    → l₁ ≡ splice l at (keyBytes (c .key)) → m₁ ≡ markOf (c .locked) → m₂ ≡ markOf (c .stopped)
+    → l₁ ≡ splice l at (twoBytes (c .key)) → m₁ ≡ markOf (c .locked) → m₂ ≡ markOf (c .stopped)
     → Wrote (set (set (set l₁ (at + 2) (c .prec)) (at + 3) m₁) (at + 4) m₂) (at + 5) (queueBytes (c .writes)) 65 l₂
     → Wrote l at (channelBytes c) 70 l₂
 unfolding channelBytes
 channel-wrote l at c h p a b w =
-    let k = keyBytes (c .key) in
+    let k = twoBytes (c .key) in
     record {
       bytes =
           w .bytes ∙ (rw (p, a, b, splice-snoc l at k (c .prec) (omega arith), splice-snoc l at (k ++ c .prec ∷ []) (markOf (c .locked)) (omega arith), splice-snoc l at (k ++ c .prec ∷ markOf (c .locked) ∷ []) (markOf (c .stopped)) (omega arith))
@@ -191,9 +192,9 @@ channels-more-at bs cs i {c} h t e =
 keys-append : (js ks : List ℕ) → keysBytes (js ++ ks) ≡ keysBytes js ++ keysBytes ks
 unfolding keysBytes
 keys-append [] ks = refl
-keys-append (j ∷ js) ks = ap (λ (x : List ℕ). keyBytes j ++ x) (keys-append js ks) ∙ sym (append-assoc (keyBytes j) (keysBytes js) (keysBytes ks))
+keys-append (j ∷ js) ks = ap (λ (x : List ℕ). twoBytes j ++ x) (keys-append js ks) ∙ sym (append-assoc (twoBytes j) (keysBytes js) (keysBytes ks))
 
-keys-one : (k : ℕ) → keysBytes (k ∷ []) ≡ keyBytes k
+keys-one : (k : ℕ) → keysBytes (k ∷ []) ≡ twoBytes k
 unfolding keysBytes
 keys-one k = refl
 
@@ -206,16 +207,16 @@ keys-start l at ks = record { bytes = rw keys-none (sym (splice-none l at)); siz
 
 -- one key more
 pub keys-turn : (l : List ℕ) (at : ℕ) (ks : List ℕ) (i : ℕ) {l₁ l₂ : List ℕ} → i < length ks → at + i * 2 ≤ length l
-    → Wrote l at (keysBytes (take i ks)) (i * 2) l₁ → l₂ ≡ splice l₁ (at + 2 * i) (keyBytes (getD ks i 0))
+    → Wrote l at (keysBytes (take i ks)) (i * 2) l₁ → l₂ ≡ splice l₁ (at + 2 * i) (twoBytes (getD ks i 0))
     → Wrote l at (keysBytes (take (i + 1) ks)) ((i + 1) * 2) l₂
 keys-turn l at ks i h g p w =
     let k = getD ks i 0 in
     let vs = keysBytes (take i ks) in
-    let e : keysBytes (take (i + 1) ks) ≡ vs ++ keyBytes k =
+    let e : keysBytes (take (i + 1) ks) ≡ vs ++ twoBytes k =
     rw (add-one, take-suc ks i 0 h) (keys-append (take i ks) (k ∷ []) ∙ ap (λ (x : List ℕ). vs ++ x) (keys-one k)) in
     let z = p .size in
     record {
-      bytes = w ∙ (rw (p .bytes, e) (splice-then l at vs (keyBytes k) (at + 2 * i) (omega arith) (omega arith)));
+      bytes = w ∙ (rw (p .bytes, e) (splice-then l at vs (twoBytes k) (at + 2 * i) (omega arith) (omega arith)));
       size = rw (e, length-append) (omega arith);
     }
 
@@ -258,7 +259,7 @@ regroup t u v w x y z = simp append-assoc
 module _ (l : List ℕ) (b : Board) (h : length l ≡ 823) where
   pub state-wrote : {l₁ l₂ l₃ l₄ l₅ l₆ : List ℕ} → Wrote l 0 (channelsBytes (b .state .channels)) 560 l₁ → Wrote l₁ 560 (queueBytes (b .state .locks)) 65 l₂
       → Wrote l₂ 625 (queueBytes (b .state .waiters)) 65 l₃ → Wrote l₃ 690 (queueBytes (b .state .waiting)) 65 l₄ → Wrote l₄ 755 (openBytes (b .state .opens)) 65 l₅
-      → l₆ ≡ splice l₅ 820 (keyBytes (b .state .last)) → set l₆ 822 (b .width) ≡ imageOf b
+      → l₆ ≡ splice l₅ 820 (twoBytes (b .state .last)) → set l₆ 822 (b .width) ≡ imageOf b
   unfolding imageOf
   state-wrote {l₁} {l₂} {l₃} {l₄} {l₅} {l₆} a b′ g c d e =
       let s = channelsBytes (b .state .channels) in
@@ -266,7 +267,7 @@ module _ (l : List ℕ) (b : Board) (h : length l ≡ 823) where
       let v = queueBytes (b .state .waiters) in
       let w = queueBytes (b .state .waiting) in
       let x = openBytes (b .state .opens) in
-      let y = keyBytes (b .state .last) in
+      let y = twoBytes (b .state .last) in
       let p = a .size in
       let q = b′ .size in
       let k = g .size in

@@ -7,16 +7,17 @@ use native.Mathlib.Omega.{arith}
 use native.Mathlib.Nat.{div-add-mod'}
 use native.Mathlib.Numerals.{add-one}
 use lib.Dec.{T, eqb, ltb→lt}
-use lib.ListN.{length, getD, take, drop, length-append}
-use lib.Seq.{take-at, take-all, take-add, drop-drop, drop-cons, drop-append-add, getD-append-add}
+use lib.ListN.{length, getD, take, drop, length-append, length-drop}
+use lib.Seq.{length-take-le, take-at, take-all, take-add, drop-drop, drop-cons, drop-append-add, getD-append-add}
 use borrow.Author.Tests.{eq-eqb}
 use Rattle.machine.specs.Lists.{all}
 use Rattle.machine.proofs.Tests.{and-left, and-right}
+use Rattle.machine.specs.InBytes.{markOf, twoBytes}
 use Rattle.queue.specs.declared.Queue.{Queue}
 use Rattle.open_keys.specs.declared.Keys.{Keys}
 use Rattle.channel.specs.declared.Channel.{Channel}
 use Rattle.board.specs.declared.Board.{Board}
-use Rattle.image.specs.Image.{markOf, keyBytes, keysBytes, openBytes, queueBytes, channelBytes, channelsBytes, imageOf, keyAt, keysFrom, openAt, queueAt, channelAt, channelsAt, stateOf, isByte, isMark, marksAt, allMarks, isWhole, Whole, Filled, AllFilled, Sized, Saved}
+use Rattle.image.specs.Image.{keysBytes, openBytes, queueBytes, channelBytes, channelsBytes, imageOf, keyAt, keysFrom, openAt, queueAt, channelAt, channelsAt, stateOf, isByte, isMark, marksAt, allMarks, isWhole, Whole, Filled, AllFilled, Sized, Saved}
 use Rattle.image.proofs.Laws.{whole-long, bytes-all}
 
 -- ---- what stands behind a list
@@ -42,9 +43,9 @@ mark-small true = refl
 mark-small false = refl
 
 module _ (us : List ℕ) (at : ℕ) (h : length us ≡ at) (vs : List ℕ) where
-  key-back : (k : ℕ) → keyAt (us ++ (keyBytes k ++ vs)) at ≡ k
+  key-back : (k : ℕ) → keyAt (us ++ (twoBytes k ++ vs)) at ≡ k
   key-back k =
-      rw (first-behind us (keyBytes k ++ vs) at h, byte-behind us (keyBytes k ++ vs) at h 1) (div-add-mod' k 256)
+      rw (first-behind us (twoBytes k ++ vs) at h, byte-behind us (twoBytes k ++ vs) at h 1) (div-add-mod' k 256)
 
   queue-back : (q : Queue) → Filled q → queueAt (us ++ (queueBytes q ++ vs)) at ≡ q
   unfolding queueAt
@@ -118,11 +119,11 @@ keys-back : (vs ks us : List ℕ) (at : ℕ) → length us ≡ at → keysFrom (
 unfolding keysFrom keysBytes
 keys-back vs [] us at h = refl
 keys-back vs (k ∷ ks) us at h =
-    let e : us ++ ((keyBytes k ++ keysBytes ks) ++ vs) ≡ us ++ (keyBytes k ++ (keysBytes ks ++ vs)) = ap (λ (l : List ℕ). us ++ l) (append-assoc (keyBytes k) (keysBytes ks) vs) in
-    let g : us ++ (keyBytes k ++ (keysBytes ks ++ vs)) ≡ (us ++ keyBytes k) ++ (keysBytes ks ++ vs) = sym (append-assoc us (keyBytes k) (keysBytes ks ++ vs)) in
-    let n : length (us ++ keyBytes k) ≡ at + 2 = length-append us (keyBytes k) ∙ omega arith in
+    let e : us ++ ((twoBytes k ++ keysBytes ks) ++ vs) ≡ us ++ (twoBytes k ++ (keysBytes ks ++ vs)) = ap (λ (l : List ℕ). us ++ l) (append-assoc (twoBytes k) (keysBytes ks) vs) in
+    let g : us ++ (twoBytes k ++ (keysBytes ks ++ vs)) ≡ (us ++ twoBytes k) ++ (keysBytes ks ++ vs) = sym (append-assoc us (twoBytes k) (keysBytes ks ++ vs)) in
+    let n : length (us ++ twoBytes k) ≡ at + 2 = length-append us (twoBytes k) ∙ omega arith in
     let a = ap (λ (l : List ℕ). keyAt l at) e ∙ key-back us at h (keysBytes ks ++ vs) k in
-    let b = ap (λ (l : List ℕ). keysFrom (length ks) l (at + 2)) (e ∙ g) ∙ keys-back vs ks (us ++ keyBytes k) (at + 2) n in
+    let b = ap (λ (l : List ℕ). keysFrom (length ks) l (at + 2)) (e ∙ g) ∙ keys-back vs ks (us ++ twoBytes k) (at + 2) n in
     λ i. a i ∷ b i
 
 open-back : (us : List ℕ) (at : ℕ) → length us ≡ at → (vs : List ℕ) (q : Keys) → length (q .keys) ≡ 32 → openAt (us ++ (openBytes q ++ vs)) at ≡ q
@@ -149,7 +150,7 @@ module _ (b : Board) (z : Sized b) where
   M = openBytes (b .state .opens)
 
   abbrev N : List ℕ
-  N = keyBytes (b .state .last)
+  N = twoBytes (b .state .last)
 
   abbrev E : List ℕ
   E = b .width ∷ []
@@ -268,7 +269,7 @@ mark-kept (suc zero) h = refl
 mark-kept (suc (suc b)) h = absurd (omega arith)
 
 module _ (bs : List ℕ) (bytes : (i : ℕ) → getD bs i 0 < 256) where
-  key-part : (at : ℕ) → at + 2 ≤ length bs → keyBytes (keyAt bs at) ≡ take 2 (drop at bs)
+  key-part : (at : ℕ) → at + 2 ≤ length bs → twoBytes (keyAt bs at) ≡ take 2 (drop at bs)
   key-part at h =
       ap₂ (λ (x y : ℕ). x ∷ y ∷ []) (high-byte (getD bs at 0) (getD bs (at + 1) 0) (bytes (at + 1))) (low-byte (getD bs at 0) (getD bs (at + 1) 0) (bytes (at + 1)))
       ∙ sym (part-cons bs at 1 (omega arith) ∙ ap (λ (x : List ℕ). getD bs at 0 ∷ x) (part-cons bs (at + 1) 0 (omega arith)))
@@ -312,7 +313,7 @@ channels-part bs y (suc n) at h t =
     let e : 70 + n * 70 ≡ suc n * 70 = omega arith in
     ap₂ _++_ a b ∙ (part-add bs at 70 (n * 70) ∙ ap (λ (k : ℕ). take k (drop at bs)) e)
 
-keys-part : (bs : List ℕ) → ((i : ℕ) → getD bs i 0 < 256) → (n at : ℕ) → at + n * 2 ≤ length bs → keysBytes (keysFrom n bs at) ≡ take (n * 2) (drop at bs)
+pub keys-part : (bs : List ℕ) → ((i : ℕ) → getD bs i 0 < 256) → (n at : ℕ) → at + n * 2 ≤ length bs → keysBytes (keysFrom n bs at) ≡ take (n * 2) (drop at bs)
 unfolding keysBytes keysFrom
 keys-part bs y zero at h = let e : 0 * 2 ≡ 0 = omega arith in sym (ap (λ (n : ℕ). take n (drop at bs)) e)
 keys-part bs y (suc n) at h =
@@ -340,3 +341,52 @@ imageOf-stateOf bs w =
     let v : getD bs 822 0 ∷ [] ≡ take 1 (drop 822 bs) = sym (part-cons bs 822 0 (omega arith)) in
     ap₂ _++_ cs (ap₂ _++_ q (ap₂ _++_ u (ap₂ _++_ r (ap₂ _++_ m (ap₂ _++_ n v ∙ part-add bs 820 2 1) ∙ part-add bs 755 65 3) ∙ part-add bs 690 65 68) ∙ part-add bs 625 65 133) ∙ part-add bs 560 65 198)
     ∙ part-add bs 0 560 263 ∙ take-all 823 bs (omega arith)
+
+-- ---- bytes that a caller lends: the board that they hold is all that they have
+
+-- what was saved is what the bytes hold
+pub saved-state : {b : Board} {l : List ℕ} → Saved b l → b ≡ stateOf l
+saved-state v = sym (ap stateOf (v .bytes) ∙ stateOf-imageOf _ (v .sized))
+
+-- those that hold the same board are the same
+pub one-state : {l l₂ : List ℕ} → Whole l → Whole l₂ → stateOf l ≡ stateOf l₂ → l ≡ l₂
+one-state {l} {l₂} w v e = sym (imageOf-stateOf l w) ∙ ap imageOf e ∙ imageOf-stateOf l₂ v
+
+module _ (bs : List ℕ) where
+  queue-sized : (at : ℕ) → at + 65 ≤ length bs → Filled (queueAt bs at)
+  unfolding queueAt
+  queue-sized at h = let n = length-drop (at + 1) bs in length-take-le 64 (drop (at + 1) bs) (omega arith)
+
+  channels-sized : (n at : ℕ) → at + n * 70 ≤ length bs → AllFilled (channelsAt n bs at)
+  unfolding channelsAt channelAt
+  channels-sized zero at h = tt
+  channels-sized (suc n) at h = (queue-sized (at + 5) (omega arith), channels-sized n (at + 70) (omega arith))
+
+  channels-many : (n at : ℕ) → length (channelsAt n bs at) ≡ n
+  unfolding channelsAt
+  channels-many zero at = refl
+  channels-many (suc n) at = ap suc (channels-many n (at + 70))
+
+  keys-many : (n at : ℕ) → length (keysFrom n bs at) ≡ n
+  unfolding keysFrom
+  keys-many zero at = refl
+  keys-many (suc n) at = ap suc (keys-many n (at + 2))
+
+  -- whole bytes are what is saved of the board that they hold
+  pub whole-saved : Whole bs → Saved (stateOf bs) bs
+  unfolding stateOf openAt
+  whole-saved w =
+      let h = whole-long bs w in
+      record {
+        bytes = sym (imageOf-stateOf bs w);
+        sized =
+            record {
+              eight = channels-many 8 0;
+              channels = channels-sized 8 0 (omega arith);
+              locks = queue-sized 560 (omega arith);
+              waiters = queue-sized 625 (omega arith);
+              waiting = queue-sized 690 (omega arith);
+              opens = keys-many 32 756;
+            };
+        whole = w;
+      }

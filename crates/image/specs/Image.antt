@@ -4,8 +4,7 @@
 --
 --   CHANNEL, LOCKS, WAITERS, WAITING, OPENS, LAST, CHANNELS, STATE   the size of a channel, where the other parts begin, the size
 --                         of all
---   markOf b              a mark as a byte: 1 or 0
---   keyBytes k            2 bytes, the high one first; keysBytes ks: the bytes of keys, one behind the other
+--   keysBytes ks          the bytes of keys, one behind the other, 2 for each, the high one first
 --   openBytes q           65 bytes: how many keys are open, then 32 keys
 --   queueBytes q          65 bytes: the count, then the 64 ids
 --   channelBytes c        70 bytes: its key, its precedence as it is stored (itself plus 128), its lock mark, its stop mark, its queue
@@ -22,14 +21,15 @@
 --   Filled q, AllFilled cs, Sized b   a queue, the queues of channels, a struct, of the lengths that the code's types keep
 --   Entered l cs l′       the bytes of eight channels were written in front of a list
 --   Saved b l′            what `save` promises: the bytes of the board, which hold it
-use Prim.Native.Nat.{ℕ, zero, suc, _+_, _*_, _/_, _%_}
+use Prim.Native.Nat.{ℕ, zero, suc, _+_, _*_}
 use mathlib.Core.Path.{_≡_}
 use mathlib.Core.Bool.{Bool, true, _&&_}
 use mathlib.Core.List.{List, [], _∷_, _++_}
 use lib.Dec.{T, eqb, ltb}
 use lib.ListN.{length, getD, take, drop}
 use Rattle.memory.specs.Splice.{splice}
-use Rattle.machine.specs.Lists.{if_then_else_, all}
+use Rattle.machine.specs.Lists.{all}
+use Rattle.machine.specs.InBytes.{markOf, twoBytes}
 use Rattle.queue.specs.declared.Queue.{Queue}
 use Rattle.open_keys.specs.declared.Keys.{Keys}
 use Rattle.channel.specs.declared.Channel.{Channel}
@@ -62,24 +62,18 @@ STATE = 823
 
 -- ---- to bytes
 
-abbrev pub markOf : Bool → ℕ
-markOf b = if b then 1 else 0
-
-abbrev pub keyBytes : ℕ → List ℕ
-keyBytes k = (k / 256) ∷ (k % 256) ∷ []
-
 abbrev pub queueBytes : Queue → List ℕ
 queueBytes q = q .n ∷ q .ids
 
 unfoldable pub keysBytes : List ℕ → List ℕ
 keysBytes [] = []
-keysBytes (k ∷ ks) = keyBytes k ++ keysBytes ks
+keysBytes (k ∷ ks) = twoBytes k ++ keysBytes ks
 
 abbrev pub openBytes : Keys → List ℕ
 openBytes q = q .n ∷ keysBytes (q .keys)
 
 unfoldable pub channelBytes : Channel → List ℕ
-channelBytes c = keyBytes (c .key) ++ (c .prec ∷ markOf (c .locked) ∷ markOf (c .stopped) ∷ queueBytes (c .writes))
+channelBytes c = twoBytes (c .key) ++ (c .prec ∷ markOf (c .locked) ∷ markOf (c .stopped) ∷ queueBytes (c .writes))
 
 unfoldable pub channelsBytes : List Channel → List ℕ
 channelsBytes [] = []
@@ -89,7 +83,7 @@ unfoldable pub imageOf : Board → List ℕ
 imageOf b =
     let s = b .state in
     channelsBytes (s .channels)
-    ++ (queueBytes (s .locks) ++ (queueBytes (s .waiters) ++ (queueBytes (s .waiting) ++ (openBytes (s .opens) ++ (keyBytes (s .last) ++ (b .width ∷ []))))))
+    ++ (queueBytes (s .locks) ++ (queueBytes (s .waiters) ++ (queueBytes (s .waiting) ++ (openBytes (s .opens) ++ (twoBytes (s .last) ++ (b .width ∷ []))))))
 
 -- ---- from bytes
 

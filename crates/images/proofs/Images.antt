@@ -13,8 +13,10 @@ use Rattle.machine.specs.Numbers.{KEYS, ENTRIES}
 use Rattle.machine.specs.Sound.{soundWrites, soundChannel, writesOf, ids, soundOpens}
 use Rattle.machine.proofs.Tests.{by-test, test-true, test-false, and-left, and-right, and-both}
 use Rattle.machine.proofs.Closing.{opens-most}
+use Rattle.machine.specs.InBytes.{markOf, twoBytes}
 use Rattle.machine_laws.proofs.Lists.{all-append}
-use Rattle.machine_laws.proofs.Sound.{Parts, ids-few}
+use Rattle.machine_laws.specs.Sound.{Parts}
+use Rattle.machine_laws.proofs.Sound.{ids-few}
 use Rattle.queue.specs.Queue.{queueOf}
 use Rattle.queue.proofs.Laws.{length-pad}
 use Rattle.open_keys.specs.OpenKeys.{keysOf}
@@ -23,7 +25,7 @@ use Rattle.channel.specs.Channel.{channelOf}
 use Rattle.widening.specs.Widening.{widen}
 use Rattle.board.specs.Board.{structOf}
 use Rattle.board.proofs.Laws.{own-wide, own-eight}
-use Rattle.image.specs.Image.{markOf, keyBytes, keysBytes, openBytes, queueBytes, channelBytes, channelsBytes, imageOf, isByte, Filled, AllFilled, Sized, Saved}
+use Rattle.image.specs.Image.{keysBytes, openBytes, queueBytes, channelBytes, channelsBytes, imageOf, isByte, Filled, AllFilled, Sized, Saved}
 use Rattle.image.proofs.Round.{imageOf-whole}
 
 -- ---- all of a list
@@ -56,7 +58,7 @@ no-bytes = tt
 
 -- ---- the parts of an image
 
-pub key-bytes : (k : ℕ) → k ≤ 65535 → Bytes (keyBytes k)
+pub key-bytes : (k : ℕ) → k ≤ 65535 → Bytes (twoBytes k)
 key-bytes k h = one-byte (k / 256) (k % 256 ∷ []) (omega arith) (one-byte (k % 256) [] (omega arith) no-bytes)
 
 pub zero-bytes : (n : ℕ) → Bytes (replicate n 0)
@@ -76,14 +78,14 @@ queue-bytes l h t = one-byte (length l) (l ++ replicate (64 - length l) 0) (omeg
 no-keys : (n : ℕ) → Bytes (keysBytes (replicate n 0))
 unfolding keysBytes
 no-keys zero = no-bytes
-no-keys (suc n) = all-append isByte (keyBytes 0) (keysBytes (replicate n 0)) (key-bytes 0 (omega arith)) (no-keys n)
+no-keys (suc n) = all-append isByte (twoBytes 0) (keysBytes (replicate n 0)) (key-bytes 0 (omega arith)) (no-keys n)
 
 keys-bytes : (ks : List ℕ) (n : ℕ) → T (all (λ k. leb 1 k && leb k KEYS) ks) → Bytes (keysBytes (ks ++ replicate n 0))
 unfolding keysBytes all
 keys-bytes [] n t = no-keys n
 keys-bytes (k ∷ ks) n t =
     let h = leb→le k KEYS (and-right (leb 1 k) (leb k KEYS) (and-left (leb 1 k && leb k KEYS) (all (λ k. leb 1 k && leb k KEYS) ks) t)) in
-    all-append isByte (keyBytes k) (keysBytes (ks ++ replicate n 0)) (key-bytes k h) (keys-bytes ks n (and-right (leb 1 k && leb k KEYS) (all (λ k. leb 1 k && leb k KEYS) ks) t))
+    all-append isByte (twoBytes k) (keysBytes (ks ++ replicate n 0)) (key-bytes k h) (keys-bytes ks n (and-right (leb 1 k && leb k KEYS) (all (λ k. leb 1 k && leb k KEYS) ks) t))
 
 open-bytes : (ks : List ℕ) → T (soundOpens ks) → Bytes (openBytes (keysOf ks))
 unfolding soundOpens
@@ -118,7 +120,7 @@ channel-bytes c t h i =
     let q = queueBytes (queueOf (playing c)) in
     let m = markOf (c .locked) in
     let n = markOf (c .stopped) in
-    all-append isByte (keyBytes (c .key)) (c .prec ∷ m ∷ n ∷ q) (key-bytes (c .key) (f .0))
+    all-append isByte (twoBytes (c .key)) (c .prec ∷ m ∷ n ∷ q) (key-bytes (c .key) (f .0))
     (one-byte (c .prec) (m ∷ n ∷ q) (omega arith) (one-byte m (n ∷ q) (mark-byte (c .locked)) (one-byte n q (mark-byte (c .stopped)) (queue-bytes (playing c) h i))))
 
 channels-bytes : (cs : List ChannelM) → T (all soundChannel cs) → length (writesOf cs) ≤ 64 → Ids (writesOf cs) → Bytes (channelsBytes (map channelOf cs)) × AllFilled (map channelOf cs)
@@ -185,7 +187,7 @@ module _ (s : StateM) (p : Parts s) where
       let v = queueBytes (queueOf (map (λ (v : Lock). v .id) (s .waiters))) in
       let w = queueBytes (queueOf (map (λ (r : Request). r .id) (s .waiting))) in
       let o = openBytes (keysOf (s .opens)) in
-      let k = keyBytes (s .last) in
+      let k = twoBytes (s .last) in
       let n = length (s .channels) ∷ [] in
       let m = leb→le (length (s .channels)) 8 (p .most) in
       all-append isByte c (l ++ (v ++ (w ++ (o ++ (k ++ n))))) (parts-channels .0)

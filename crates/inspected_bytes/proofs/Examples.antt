@@ -18,7 +18,7 @@ use Rattle.store.specs.Store.{items, writeItems, lookup, entries, tableOf}
 use Rattle.image.specs.Image.{channelBytes, channelsBytes, imageOf}
 use Rattle.handed.specs.Handed.{answerBytes}
 use Rattle.c_runs.specs.CRuns.{Turn}
-use Rattle.c_runs.proofs.Witness.{Ask, bytesOf}
+use Rattle.c_runs.specs.Made.{Ask, bytesOf}
 use Rattle.nothing_left.proofs.Witness.{run}
 use Rattle.inspected_bytes.specs.Inspected.{stateAfter, tableAfter, displayAfter, handed, back}
 use Rattle.inspected_bytes.proofs.Made.{made, spelts}

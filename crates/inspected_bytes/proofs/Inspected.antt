@@ -13,6 +13,7 @@ use Rattle.machine.specs.Lists.{if_then_else_, all, keep}
 use Rattle.machine.specs.State.{Call, Reply, State as StateM, freshOn}
 use Rattle.machine.specs.Desks.{DESK·A, DESK·B, HALF, deskOf, repliesTo, halves}
 use Rattle.machine.specs.Call.{call}
+use Rattle.machine.proofs.Tests.{test-true}
 use Rattle.machine_laws.proofs.Lists.{all-append, all-any, all-keep, keep-each}
 use Rattle.display.specs.Display.{NUMBERS, blank}
 use Rattle.display.specs.Runs.{afterCalls, shownAfter}
@@ -23,14 +24,16 @@ use Rattle.boundary.proofs.Crossing.{fresh-after}
 use Rattle.sizes.specs.Sizes.{REPLIES}
 use Rattle.two_runs.specs.TwoRuns.{Party, ownReplies}
 use Rattle.code_runs.specs.CodeRuns.{records, recordsTo}
-use Rattle.c_runs.specs.CRuns.{Turn, asked, Took, ownRecords}
+use Rattle.c_runs.specs.CRuns.{Turn, asked, roomy, Took, ownRecords}
 use Rattle.c_runs.proofs.CRuns.{over, tells, took-records}
 use Rattle.nothing_left.specs.NothingLeft.{NothingLeft}
 use Rattle.nothing_left.proofs.NothingLeft.{nothing-left-standing}
 use Rattle.slipped.specs.Slipped.{mild, settlesOne}
 use Rattle.slipped.proofs.Slipped.{slips-mild, mild-stays, mild-unseen, fresh-left}
-use Rattle.inspected_bytes.specs.Inspected.{Ran, Fresh, calls, stateAfter, tableAfter, displayAfter, holds, handed, reported, Left·bytes, Inserted, Slipped·bytes}
-use Rattle.inspected_bytes.proofs.Runs.{follows, front, rest, left-alone, chain, chain-without, one-chain, calls-same}
+use Rattle.inspected_bytes.specs.Inspected.{Ran, Fresh, calls, stateAfter, tableAfter, displayAfter, holds, handed, reported}
+use Rattle.inspected_bytes.specs.Inspected.{Left·bytes, Inserted, Slipped·bytes}
+use Rattle.inspected_bytes.proofs.Runs.{follows, heardCalls, chain-follows, front, rest, left-alone, chain, heard, heard-without}
+use Rattle.inspected_bytes.proofs.Runs.{one-chain, calls-same}
 
 -- ---- from the bytes of a fresh device
 
@@ -58,7 +61,10 @@ module _ {w : ℕ} {st tb dp : List ℕ} (n : Fresh w st tb dp) where
 -- ---- the first assurance
 
 pub nothing-left-in-the-bytes : Left·bytes
-nothing-left-in-the-bytes w st tb dp ts n r = subst NothingLeft (sym (follows-fresh n ts r .same)) (nothing-left-standing w (calls ts))
+nothing-left-in-the-bytes w st tb dp ts n r =
+    let b = begins n in
+    let e = chain-follows st tb ts (b .0) (b .1) r ∙ ap (λ (s : StateM). afterCalls s (heardCalls ts)) (b .2) in
+    subst NothingLeft (sym e) (nothing-left-standing w (heardCalls ts))
 
 -- ---- the second
 
@@ -96,20 +102,25 @@ one-half (r ∷ []) h = go (ltb (r .id) HALF)
     go false = omega arith
 one-half (r ∷ q ∷ rs) h = absurd (omega arith)
 
-module _ {st tb : List ℕ} {t : Turn} (w : Whole st) (h : Held (stateOf st) tb) (k : Took st tb t) where
+module _ {st tb : List ℕ} {t : Turn} (w : Whole st) (h : Held (stateOf st) tb) (k : Took st tb t) (o : T (roomy t)) where
   abbrev rs₀ : List Reply
   rs₀ = call (holds st tb) (asked t) .replies
 
+  own-reported : ownRecords everyone t
+      ≡ recordsTo everyone (getD (t .answer) 6 0) (t .list) ++ recordsTo everyone (getD (t .answer) 7 0) (drop 192 (t .list))
+  unfolding ownRecords
+  own-reported = rw (test-true (roomy t) o)
+
   took-own : REPLIES ≤ length (t .lent) → T (all (λ r. eqb (r .id) (t .id)) rs₀) → T (all (λ b. eqb (getD b 0 0) (t .id)) (reported t))
-  unfolding reported ownRecords
+  unfolding reported
   took-own g u =
       let e : reported t ≡ map encode (halves rs₀) =
       ap₂ _++_ (sym (all-records (getD (t .answer) 6 0) (t .list))) (sym (all-records (getD (t .answer) 7 0) (drop 192 (t .list))))
-      ∙ took-records everyone w h k g ∙ ap (λ (rs : List Reply). map encode (halves rs)) (all-replies rs₀) in
+      ∙ sym own-reported ∙ took-records everyone w h k o g ∙ ap (λ (rs : List Reply). map encode (halves rs)) (all-replies rs₀) in
       rw (e, first-bytes (t .id) (halves rs₀)) (all-halves (λ r. eqb (r .id) (t .id)) rs₀ u)
 
   took-once : length rs₀ ≤ 1 → t .n ≤ 1
-  took-once g = let c = over w h k in let d = tells w h k in omega (arith, one-half rs₀ g, c .count, d .numbers .0, d .numbers .1)
+  took-once g = let c = over w h k o in let d = tells w h k o in omega (arith, one-half rs₀ g, c .count, d .numbers .0, d .numbers .1)
 
 -- what is asked of the id is not needed
 pub mild-unseen-in-the-bytes : (w : ℕ) (st tb dp : List ℕ) (before : List Turn) (t : Turn) (behind us : List Turn) → Fresh w st tb dp
@@ -118,12 +129,15 @@ pub mild-unseen-in-the-bytes : (w : ℕ) (st tb dp : List ℕ) (before : List Tu
 mild-unseen-in-the-bytes w st tb dp before t behind us n r q e p =
     let f = front st tb dp before (t ∷ behind) r in
     let a = follows-fresh n before f in
-    let k = rest st tb dp before (t ∷ behind) r .0 in
+    let y = rest st tb dp before (t ∷ behind) r in
+    let k = y .0 in
+    let m₀ = y .1 in
     let s = holds (stateAfter st before) (tableAfter tb before) in
-    let stays = mild-stays s (asked t) (nothing-left-in-the-bytes w st tb dp before n f) p in
-    let l = left-alone (a .whole) (a .held) k stays in
+    let stays = mild-stays s (asked t) (nothing-left-in-the-bytes w st tb dp before n (chain st tb dp before f)) p in
+    let l = left-alone (a .whole) (a .held) k m₀ stays in
     let i = begins n in
-    let o = one-chain st tb (before ++ behind) us (i .0) (i .1) (chain-without st tb dp before t behind r (l .0) (l .1)) (chain st tb dp us q) e in
+    let o = one-chain st tb (before ++ behind) us (i .0) (i .1)
+    (heard-without st tb dp before t behind r (l .0) (l .1)) (heard st tb dp us q) e in
     let m = mild-unseen (freshOn w) (calls before) (asked t) (calls behind) (fresh-left w) (subst (λ (x : StateM). T (mild x (asked t))) (a .same) p) in
     let b = follows-fresh n (before ++ t ∷ behind) r .shown ∙ ap (λ (cs : List Call). shownAfter (freshOn w) cs blank) (map-append asked before (t ∷ behind)) in
     let c = follows-fresh n us q .shown ∙ ap (λ (cs : List Call). shownAfter (freshOn w) cs blank) (calls-same (before ++ behind) us e ∙ map-append asked before behind) in
@@ -132,10 +146,10 @@ mild-unseen-in-the-bytes w st tb dp before t behind us n r q e p =
       others = o;
       state = l .0;
       table = l .1;
-      own = λ g. took-own (a .whole) (a .held) k g (subst (λ (rs : List Reply). T (all (λ y. eqb (y .id) (t .id)) rs)) (sym u) (m .own));
-      once = took-once (a .whole) (a .held) k (subst (λ (rs : List Reply). length rs ≤ 1) (sym u) (m .once));
+      own = λ g. took-own (a .whole) (a .held) k m₀ g (subst (λ (rs : List Reply). T (all (λ y. eqb (y .id) (t .id)) rs)) (sym u) (m .own));
+      once = took-once (a .whole) (a .held) k m₀ (subst (λ (rs : List Reply). length rs ≤ 1) (sym u) (m .once));
       numbers = ap (take NUMBERS) b ∙ m .numbers ∙ ap (take NUMBERS) (sym c);
-      looks = λ y. b ∙ m .looks (subst (λ (x : StateM). T (settlesOne x (calls behind))) (a .same) y) ∙ sym c;
+      looks = λ z. b ∙ m .looks (subst (λ (x : StateM). T (settlesOne x (calls behind))) (a .same) z) ∙ sym c;
     }
 
 pub nothing-slipped-into-the-bytes : Slipped·bytes

@@ -15,6 +15,7 @@ use Rattle.machine.specs.State.{Call, Outcome as OutcomeM, State as StateM, fre
 use Rattle.machine.specs.Desks.{DESK·A, DESK·B, repliesTo}
 use Rattle.machine.specs.Log.{opOf}
 use Rattle.machine.specs.Call.{call, inRange}
+use Rattle.refusals.specs.Refusals.{opFor}
 use Rattle.machine.proofs.Tests.{and-left, and-right}
 use Rattle.machine_laws.proofs.Sound.{parts}
 use Rattle.widening.proofs.Maps.{length-frees}
@@ -29,16 +30,17 @@ use Rattle.image.specs.Image.{STATE}
 use Rattle.images.proofs.Images.{saved-of}
 use Rattle.answers.specs.Answers.{answerOf}
 use Rattle.arbiter.specs.Arbiter.{Shows}
-use Rattle.desk_call.specs.declared.Outcome.{Outcome}
-use Rattle.desk_call.specs.DeskCall.{Told, Called}
+use Rattle.desk_call.specs.DeskCall.{Outcome, Told, Called}
 use Rattle.sizes.specs.Sizes.{TABLE}
 use Rattle.starting.specs.Starting.{Fits, Started}
-use Rattle.handed.specs.Handed.{opFor, answerBytes}
+use Rattle.handed.specs.Handed.{answerBytes}
 use Rattle.boundary.proofs.Crossing.{fresh-after}
 use Rattle.two_runs.specs.TwoRuns.{inBytes}
-use Rattle.code_runs.proofs.Made.{OnBoard, board-held, board-next, board-state, bytes-count, bytes-range, sound-next}
-use Rattle.c_runs.specs.CRuns.{Turn, request, Took}
-use Rattle.c_runs.proofs.Witness.{Ask, spelt, bytesOf, bytes-whole, bytes-state}
+use Rattle.code_runs.specs.Made.{OnBoard}
+use Rattle.code_runs.proofs.Made.{board-held, board-next, board-state, bytes-count, bytes-range, sound-next}
+use Rattle.c_runs.specs.CRuns.{Turn, request, roomy, Took}
+use Rattle.c_runs.specs.Made.{Ask, spelt, bytesOf}
+use Rattle.c_runs.proofs.Witness.{bytes-whole, bytes-state}
 use Rattle.inspected_bytes.specs.Inspected.{Ran, Fresh, calls, Handed, handed}
 
 -- a full reply list
@@ -150,10 +152,13 @@ module _ {s : StateM} (b : OnBoard s) (d : List ℕ) (l : length d ≡ DISPLAY) 
                 answer = refl;
               };
             };
-        rooms = (refl, l);
         key = leb→le (a .key) 65535 (and-right (leb (spelt a .prec) 255) (leb (a .key) 65535) (bytes-range (spelt a) f));
         count = bytes-count (spelt a) f;
       }
+
+has-room : (s : StateM) (d : List ℕ) → length d ≡ DISPLAY → (a : Ask) → T (roomy (turnOf s d a))
+unfolding roomy
+has-room s d l a = rw l tt
 
 pub ran-made : (s : StateM) (d : List ℕ) (qs : List Ask) → OnBoard s → length d ≡ DISPLAY → T (all inBytes (spelts qs)) → Ran (bytesOf s) (tableOf s) d (made s d qs)
 unfolding all
@@ -161,6 +166,7 @@ ran-made s d [] b l f = tt
 ran-made s d (a ∷ qs) b l f =
     let g = and-left (inBytes (spelt a)) (all inBytes (spelts qs)) f in (
       took b d l a g,
+      has-room s d l a,
       refl,
       ran-made (call s (spelt a) .next) (displayed s (spelt a) d) qs (board-next s (spelt a) g b) (displayed-length s (spelt a) d l)
           (and-right (inBytes (spelt a)) (all inBytes (spelts qs)) f),

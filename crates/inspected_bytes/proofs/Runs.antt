@@ -3,49 +3,45 @@
 -- first: a wrong definition is told by an example.
 -- Assumes nothing.
 --
---   Chain st tb ts    the calls of a run, whatever display was lent
-use Prim.Native.Nat.{ℕ, _+_, _%_, _≤_, _<_}
+--   Heard st tb ts       the calls of a run, whatever display was lent; each has room for its answer
+--   heardCalls ts        of the calls of a run, those that have
+use Prim.Native.Nat.{ℕ, _+_}
 use mathlib.Core.Path.{_≡_, refl, ap, ap₂, sym, subst, _∙_}
+use mathlib.Core.Bool.{not}
 use mathlib.Core.List.{List, [], _∷_, _++_, map}
 use native.Mathlib.Omega.{arith}
-use native.Mathlib.Nat.{mod-lt}
+use lib.Dec.{T}
+use Rattle.machine.specs.Lists.{if_then_else_}
 use Rattle.machine.specs.State.{Call, State as StateM}
 use Rattle.machine.specs.Call.{call}
+use Rattle.machine.proofs.Tests.{by-test, test-true, test-false}
 use Rattle.display.specs.Display.{displayed}
 use Rattle.display.specs.Runs.{afterCalls, shownAfter}
 use Rattle.store.specs.Store.{tableOf}
 use Rattle.board.specs.Board.{structOf, Held}
 use Rattle.image.specs.Image.{imageOf, stateOf, Whole}
 use Rattle.image.proofs.Round.{imageOf-stateOf}
-use Rattle.desk_call.specs.declared.Outcome.{Outcome}
+use Rattle.desk_call.specs.DeskCall.{Outcome}
 use Rattle.desk_call.proofs.Promise.{one-call}
 use Rattle.handed.specs.Handed.{answerBytes}
-use Rattle.boundary.proofs.Crossing.{sound-after}
-use Rattle.code_runs.proofs.CodeRuns.{count-of}
-use Rattle.c_runs.specs.CRuns.{Turn, asked, Took}
-use Rattle.c_runs.proofs.CRuns.{over, tells}
-use Rattle.inspected_bytes.specs.Inspected.{Ran, calls, stateAfter, tableAfter, displayAfter, holds, Handed, handed, Back, back}
+use Rattle.c_runs.specs.CRuns.{Turn, asked, roomy, Took}
+use Rattle.c_runs.proofs.CRuns.{after, over, tells, unanswered}
+use Rattle.inspected_bytes.specs.Inspected.{Chain, Ran, calls, stateAfter, tableAfter, displayAfter, holds, Handed, handed, Back}
+use Rattle.inspected_bytes.specs.Inspected.{back}
 use Rattle.inspected_bytes.proofs.Examples.{hands}
 
 -- ---- one call
 
-prec-byte : (n : ℕ) → (n + 128) % 256 ≤ 255
-prec-byte n = let y : (n + 128) % 256 < 256 = mod-lt (n + 128) (omega arith) in omega arith
-
-module _ {st tb : List ℕ} {t : Turn} (w : Whole st) (h : Held (stateOf st) tb) (k : Took st tb t) where
-  -- the bytes hold the machine's next state
-  took-after : Whole (t .state) × Held (stateOf (t .state)) (t .table) × (holds (t .state) (t .table) ≡ call (holds st tb) (asked t) .next)
-  took-after = sound-after (k .crossed) (k .rooms) w h (prec-byte (t .prec), k .key) (count-of (asked t .op) (asked t) (k .count))
-
-  -- and the display is the machine's
+module _ {st tb : List ℕ} {t : Turn} (w : Whole st) (h : Held (stateOf st) tb) (k : Took st tb t) (o : T (roomy t)) where
+  -- the display is the machine's
   took-shown : t .display ≡ displayed (holds st tb) (asked t) (t .wall)
-  took-shown = over w h k .shown .sound h
+  took-shown = over w h k o .shown .sound h
 
   -- a call that leaves the state leaves every byte of the state and the table
   pub left-alone : call (holds st tb) (asked t) .next ≡ holds st tb → (t .state ≡ st) × (t .table ≡ tb)
   left-alone e =
-      let c = over w h k in
-      let d = tells w h k in
+      let c = over w h k o in
+      let d = tells w h k o in
       (c .state .bytes ∙ ap imageOf (d .struct ∙ ap structOf e ∙ sym (h .struct)) ∙ imageOf-stateOf st w, d .table ∙ ap tableOf e ∙ sym (h .table))
 
 -- ---- the machine's run
@@ -61,8 +57,8 @@ unfolding stateAfter tableAfter displayAfter afterCalls shownAfter
 follows st tb dp [] w h r = record { whole = w; held = h; same = refl; shown = refl }
 follows st tb dp (t ∷ ts) w h r =
     let k = r .0 in
-    let a = took-after w h k in
-    let f = follows (t .state) (t .table) (t .display) ts (a .0) (a .1) (r .2) in
+    let a = after w h k (r .1) in
+    let f = follows (t .state) (t .table) (t .display) ts (a .0) (a .1) (r .3) in
     record {
       whole = f .whole;
       held = f .held;
@@ -70,37 +66,70 @@ follows st tb dp (t ∷ ts) w h r =
       shown =
           f .shown
           ∙ ap₂ (λ (s : StateM) (e : List ℕ). shownAfter s (calls ts) e) (a .2)
-          (took-shown w h k ∙ ap (displayed (holds st tb) (asked t)) (r .1));
+          (took-shown w h k (r .1) ∙ ap (displayed (holds st tb) (asked t)) (r .2));
     }
+
+-- ---- the machine's run, whatever is lent beside state and table: a call without room moves nothing
+
+unfoldable pub heardCalls : List Turn → List Call
+heardCalls [] = []
+heardCalls (t ∷ ts) = if roomy t then asked t ∷ heardCalls ts else heardCalls ts
+
+pub chain-follows : (st tb : List ℕ) (ts : List Turn) → Whole st → Held (stateOf st) tb → Chain st tb ts
+    → holds (stateAfter st ts) (tableAfter tb ts) ≡ afterCalls (holds st tb) (heardCalls ts)
+unfolding stateAfter tableAfter heardCalls
+chain-follows st tb [] w h r = unfold afterCalls in refl
+chain-follows st tb (t ∷ ts) w h r =
+    by-test (roomy t) (λ o. let a = after w h (r .0) o in with-room o (chain-follows (t .state) (t .table) ts (a .0) (a .1) (r .1)))
+    (λ n. let u = unanswered (r .0) n in without n (chain-follows st tb ts w h (rw (u .state, u .table) at (r .1))))
+  where
+    with-room : T (roomy t)
+        → holds (stateAfter (t .state) ts) (tableAfter (t .table) ts) ≡ afterCalls (holds (t .state) (t .table)) (heardCalls ts)
+        → holds (stateAfter st (t ∷ ts)) (tableAfter tb (t ∷ ts)) ≡ afterCalls (holds st tb) (heardCalls (t ∷ ts))
+    with-room o e =
+        e ∙ ap (λ (s : StateM). afterCalls s (heardCalls ts)) (after w h (r .0) o .2)
+        ∙ rw (test-true (roomy t) o) (unfold afterCalls in refl)
+
+    without : T (not (roomy t)) → holds (stateAfter st ts) (tableAfter tb ts) ≡ afterCalls (holds st tb) (heardCalls ts)
+        → holds (stateAfter st (t ∷ ts)) (tableAfter tb (t ∷ ts)) ≡ afterCalls (holds st tb) (heardCalls (t ∷ ts))
+    without n e =
+        let u = unanswered (r .0) n in
+        rw (test-false (roomy t) n) (ap₂ (λ (a b : List ℕ). holds (stateAfter a ts) (tableAfter b ts)) (u .state) (u .table) ∙ e)
 
 -- ---- a run in two parts
 
 pub front : (st tb dp : List ℕ) (ts us : List Turn) → Ran st tb dp (ts ++ us) → Ran st tb dp ts
 front st tb dp [] us r = tt
-front st tb dp (t ∷ ts) us r = (r .0, r .1, front (t .state) (t .table) (t .display) ts us (r .2))
+front st tb dp (t ∷ ts) us r = (r .0, r .1, r .2, front (t .state) (t .table) (t .display) ts us (r .3))
 
 pub rest : (st tb dp : List ℕ) (ts us : List Turn) → Ran st tb dp (ts ++ us) → Ran (stateAfter st ts) (tableAfter tb ts) (displayAfter dp ts) us
 unfolding stateAfter tableAfter displayAfter
 rest st tb dp [] us r = r
-rest st tb dp (t ∷ ts) us r = rest (t .state) (t .table) (t .display) ts us (r .2)
+rest st tb dp (t ∷ ts) us r = rest (t .state) (t .table) (t .display) ts us (r .3)
 
 -- ---- the calls of a run
 
-abbrev pub Chain : List ℕ → List ℕ → List Turn → Type 0
-Chain st tb [] = Unit {0}
-Chain st tb (t ∷ ts) = Took st tb t × Chain (t .state) (t .table) ts
-
+-- as a chain
 pub chain : (st tb dp : List ℕ) (ts : List Turn) → Ran st tb dp ts → Chain st tb ts
 chain st tb dp [] r = tt
-chain st tb dp (t ∷ ts) r = (r .0, chain (t .state) (t .table) (t .display) ts (r .2))
+chain st tb dp (t ∷ ts) r = (r .0, chain (t .state) (t .table) (t .display) ts (r .3))
+
+abbrev pub Heard : List ℕ → List ℕ → List Turn → Type 0
+Heard st tb [] = Unit {0}
+Heard st tb (t ∷ ts) = Took st tb t × T (roomy t) × Heard (t .state) (t .table) ts
+
+pub heard : (st tb dp : List ℕ) (ts : List Turn) → Ran st tb dp ts → Heard st tb ts
+heard st tb dp [] r = tt
+heard st tb dp (t ∷ ts) r = (r .0, r .1, heard (t .state) (t .table) (t .display) ts (r .3))
 
 -- without a call that left the state and the table as they were
-pub chain-without : (st tb dp : List ℕ) (ts : List Turn) (t : Turn) (us : List Turn) → Ran st tb dp (ts ++ t ∷ us)
-    → t .state ≡ stateAfter st ts → t .table ≡ tableAfter tb ts → Chain st tb (ts ++ us)
+pub heard-without : (st tb dp : List ℕ) (ts : List Turn) (t : Turn) (us : List Turn) → Ran st tb dp (ts ++ t ∷ us)
+    → t .state ≡ stateAfter st ts → t .table ≡ tableAfter tb ts → Heard st tb (ts ++ us)
 unfolding stateAfter tableAfter
-chain-without st tb dp [] t us r e f =
-    subst (λ (b : List ℕ). Chain b tb us) e (subst (λ (l : List ℕ). Chain (t .state) l us) f (chain (t .state) (t .table) (t .display) us (r .2)))
-chain-without st tb dp (u ∷ ts) t us r e f = (r .0, chain-without (u .state) (u .table) (u .display) ts t us (r .2) e f)
+heard-without st tb dp [] t us r e f =
+    subst (λ (b : List ℕ). Heard b tb us) e
+    (subst (λ (l : List ℕ). Heard (t .state) l us) f (heard (t .state) (t .table) (t .display) us (r .3)))
+heard-without st tb dp (u ∷ ts) t us r e f = (r .0, r .1, heard-without (u .state) (u .table) (u .display) ts t us (r .3) e f)
 
 -- what is handed in determines what comes back
 abbrev turnOf : Handed → List ℕ → Back → List ℕ → Turn
@@ -126,26 +155,29 @@ turnOf h wall b d =
     }
 
 module _ {st tb : List ℕ} (w : Whole st) (g : Held (stateOf st) tb) (h : Handed) {x y d e : List ℕ} {b c : Back} where
-  one-back : Took st tb (turnOf h x b d) → Took st tb (turnOf h y c e) → b ≡ c
-  one-back k j =
-      let p = over w g k in
-      let q = over w g j in
+  one-back : Took st tb (turnOf h x b d) → T (roomy (turnOf h x b d)) → Took st tb (turnOf h y c e) → T (roomy (turnOf h y c e)) → b ≡ c
+  one-back k m j n =
+      let p = over w g k m in
+      let q = over w g j n in
       let s = one-call (p .called) (q .called) in
-      let n = p .count ∙ ap (λ (o : Outcome). o .a + o .b) (s .outcome) ∙ sym (q .count) in
-      let m = p .state .bytes ∙ ap (λ (o : Outcome). imageOf (o .state)) (s .outcome) ∙ sym (q .state .bytes) in
+      let u = p .count ∙ ap (λ (o : Outcome). o .a + o .b) (s .outcome) ∙ sym (q .count) in
+      let v = p .state .bytes ∙ ap (λ (o : Outcome). imageOf (o .state)) (s .outcome) ∙ sym (q .state .bytes) in
       let a = p .answer ∙ ap (λ (o : Outcome). answerBytes (o .answer) (o .a) (o .b)) (s .outcome) ∙ sym (q .answer) in
-      λ i. record { n = n i; state = m i; table = s .table i; list = s .list i; answer = a i }
+      λ i. record { n = u i; state = v i; table = s .table i; list = s .list i; answer = a i }
 
-one-handed : {st tb : List ℕ} (w : Whole st) (g : Held (stateOf st) tb) (t u : Turn) → Took st tb t → Took st tb u → handed t ≡ handed u → back t ≡ back u
+one-handed : {st tb : List ℕ} (w : Whole st) (g : Held (stateOf st) tb) (t u : Turn) → Took st tb t → T (roomy t)
+    → Took st tb u → T (roomy u) → handed t ≡ handed u → back t ≡ back u
 unfolding handed back
-one-handed {st} {tb} w g t u k j e =
-    one-back w g (handed t) k (subst (λ (h : Handed). Took st tb (turnOf h (u .wall) (back u) (u .display))) (sym e) j)
+one-handed {st} {tb} w g t u k m j n e =
+    let a = subst (λ (h : Handed). Took st tb (turnOf h (u .wall) (back u) (u .display))) (sym e) j in
+    let b = subst (λ (h : Handed). T (roomy (turnOf h (u .wall) (back u) (u .display)))) (sym e) n in
+    one-back w g (handed t) k m a b
 
-same-start : (t u : Turn) (us : List Turn) → back t ≡ back u → Chain (u .state) (u .table) us → Chain (t .state) (t .table) us
+same-start : (t u : Turn) (us : List Turn) → back t ≡ back u → Heard (u .state) (u .table) us → Heard (t .state) (t .table) us
 unfolding back
-same-start t u us p c = subst (λ (x : Back). Chain (x .state) (x .table) us) (sym p) c
+same-start t u us p c = subst (λ (x : Back). Heard (x .state) (x .table) us) (sym p) c
 
-pub one-chain : (st tb : List ℕ) (ts us : List Turn) → Whole st → Held (stateOf st) tb → Chain st tb ts → Chain st tb us
+pub one-chain : (st tb : List ℕ) (ts us : List Turn) → Whole st → Held (stateOf st) tb → Heard st tb ts → Heard st tb us
     → map handed ts ≡ map handed us → map back ts ≡ map back us
 one-chain st tb [] [] w h r q e = refl
 one-chain st tb [] (u ∷ us) w h r q e = absurd (let z : _≡_ {A = ℕ} 0 1 = cc in omega arith)
@@ -153,10 +185,10 @@ one-chain st tb (t ∷ ts) [] w h r q e = absurd (let z : _≡_ {A = ℕ} 0 1 = 
 one-chain st tb (t ∷ ts) (u ∷ us) w h r q e =
     let f : handed t ≡ handed u = cc in
     let g : map handed ts ≡ map handed us = cc in
-    let p = one-handed w h t u (r .0) (q .0) f in
-    let a = took-after w h (r .0) in
+    let p = one-handed w h t u (r .0) (r .1) (q .0) (q .1) f in
+    let a = after w h (r .0) (r .1) in
     ap₂ (λ (y : Back) (ys : List Back). y ∷ ys) p
-    (one-chain (t .state) (t .table) ts us (a .0) (a .1) (r .1) (same-start t u us p (q .1)) g)
+    (one-chain (t .state) (t .table) ts us (a .0) (a .1) (r .2) (same-start t u us p (q .2)) g)
 
 -- and the machine's calls
 abbrev askedOf : Handed → Call

@@ -1,23 +1,30 @@
 -- The assurances of the bytes are about something: the run of crates/nothing_left and the FREE of crates/slipped, as a program in C
--- makes them, on four channels.
+-- makes them, on four channels; and the first once more on eight, with a display of its own for each call and calls without room.
 -- Assumes nothing.
 use Prim.Native.Nat.{ℕ}
 use mathlib.Core.Path.{_≡_, ap, subst, _∙_}
-use mathlib.Core.List.{List, _∷_, _++_}
+use mathlib.Core.List.{List, [], _∷_, _++_}
 use lib.Dec.{T}
+use Rattle.machine.specs.Lists.{all}
 use Rattle.machine.specs.State.{State as StateM, freshOn, frees}
 use Rattle.machine.specs.Call.{call}
 use Rattle.machine.specs.Machine.{machine}
+use Rattle.machine.proofs.Tests.{and-left, and-right}
 use Rattle.display.specs.Display.{blank, displayed}
 use Rattle.display.specs.Runs.{afterCalls, shownAfter}
 use Rattle.store.specs.Store.{tableOf}
 use Rattle.two_runs.specs.TwoRuns.{counted, inBytes}
+use Rattle.code_runs.specs.Made.{OnBoard}
+use Rattle.code_runs.proofs.Made.{board-next}
 use Rattle.c_runs.specs.CRuns.{Turn}
-use Rattle.c_runs.proofs.Witness.{spelt, bytesOf}
+use Rattle.c_runs.specs.Made.{Ask, spelt, bytesOf, made as alone, missed}
+use Rattle.c_runs.proofs.Witness.{made-took, missed-took}
 use Rattle.nothing_left.specs.NothingLeft.{NothingLeft}
 use Rattle.slipped.specs.Slipped.{slips, slip}
-use Rattle.inspected_bytes.specs.Inspected.{Ran, stateAfter, tableAfter, holds, Inserted}
-use Rattle.inspected_bytes.proofs.Made.{turnOf, made, spelts, calls-made, made-append, handed-parts, fresh-bytes, machine-runs-are-runs-of-C}
+use Rattle.inspected_bytes.specs.Inspected.{Chain, Ran, stateAfter, tableAfter, holds, Inserted}
+use Rattle.inspected_bytes.proofs.Made.{turnOf, made, spelts, calls-made, made-append, handed-parts, fresh-on, fresh-bytes}
+use Rattle.inspected_bytes.proofs.Made.{machine-runs-are-runs-of-C}
+use Rattle.inspected_bytes.proofs.Runs.{chain}
 use Rattle.inspected_bytes.proofs.Examples.{early, frees9, late}
 use Rattle.inspected_bytes.proofs.Inspected.{follows-fresh, nothing-left-in-the-bytes, nothing-slipped-into-the-bytes}
 
@@ -56,4 +63,27 @@ unseen =
 pub left-after : NothingLeft (holds (stateAfter (bytesOf (freshOn 8)) (made (freshOn 8) blank (early ++ late))) (tableAfter (tableOf (freshOn 8)) (made (freshOn 8) blank (early ++ late))))
 left-after =
     nothing-left-in-the-bytes 8 (bytesOf (freshOn 8)) (tableOf (freshOn 8)) blank (made (freshOn 8) blank (early ++ late)) (fresh-bytes 8 tt)
-    (machine-runs-are-runs-of-C 8 tt (early ++ late) (unfold machine counted inBytes in tt))
+    (chain (bytesOf (freshOn 8)) (tableOf (freshOn 8)) blank (made (freshOn 8) blank (early ++ late))
+    (machine-runs-are-runs-of-C 8 tt (early ++ late) (unfold machine counted inBytes in tt)))
+
+-- ---- each call with a display of its own, and before each a call without room for its answer
+
+abbrev apart : StateM → List Ask → List Turn
+apart s [] = []
+apart s (a ∷ qs) = missed s ∷ alone s a ∷ apart (call s (spelt a) .next) qs
+
+apart-chain : (s : StateM) (qs : List Ask) → OnBoard s → T (all inBytes (spelts qs)) → Chain (bytesOf s) (tableOf s) (apart s qs)
+unfolding all
+apart-chain s [] b f = tt
+apart-chain s (a ∷ qs) b f =
+    let g = and-left (inBytes (spelt a)) (all inBytes (spelts qs)) f in
+    let h = and-right (inBytes (spelt a)) (all inBytes (spelts qs)) f in
+    (missed-took s, (made-took b a g, apart-chain (call s (spelt a) .next) qs (board-next s (spelt a) g b) h))
+
+abbrev among : List Turn
+among = apart (freshOn 8) (early ++ late)
+
+pub left-apart : NothingLeft (holds (stateAfter (bytesOf (freshOn 8)) among) (tableAfter (tableOf (freshOn 8)) among))
+left-apart =
+    nothing-left-in-the-bytes 8 (bytesOf (freshOn 8)) (tableOf (freshOn 8)) blank among (fresh-bytes 8 tt)
+    (apart-chain (freshOn 8) (early ++ late) (fresh-on 8 tt) (unfold machine counted inBytes in tt))

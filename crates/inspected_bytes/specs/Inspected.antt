@@ -1,10 +1,12 @@
 -- Document 02, #113, both assurances on the bytes that a program in C lends: runs of `qamhudeer_call`, by its promise `Crossed`, from
--- the bytes that `qamhudeer_fresh` left, by its promise `Started`. Of the code nothing else is used. Each call is lent the state, the
--- table and the display that the one before it left. proofs/Inspected.antt proves them as `nothing-left-in-the-bytes` and
--- `nothing-slipped-into-the-bytes`.
+-- the bytes that `qamhudeer_fresh` left, by its promise `Started`. Of the code nothing else is used. Each call is lent the state and the
+-- table that the one before it left; for the second assurance, which speaks of the display, also its display, and room for its answer.
+-- proofs/Inspected.antt proves them as `nothing-left-in-the-bytes` and `nothing-slipped-into-the-bytes`.
 -- Assumes nothing.
 --
---   Ran st tb dp ts      each call, as in crates/c_runs, took what the one before it left; the first took st, tb and dp
+--   Chain st tb ts       each call, as in crates/c_runs, took the state and the table that the one before it left; the first took st and
+--                        tb. Any display may be lent to it, and no room for an answer
+--   Ran st tb dp ts      each took its display too, and has room for its answer; the first took dp
 --   Fresh w st tb dp     `qamhudeer_fresh` left these bytes for w channels, where memory of the right sizes was lent
 --   calls ts             the calls as the machine has them
 --   stateAfter, tableAfter, displayAfter   the bytes that a run leaves
@@ -29,15 +31,19 @@ use Rattle.image.specs.Image.{stateOf}
 use Rattle.sizes.specs.Sizes.{REPLIES}
 use Rattle.starting.specs.Starting.{Fits, Started}
 use Rattle.code_runs.specs.CodeRuns.{records}
-use Rattle.c_runs.specs.CRuns.{Turn, asked, Took}
+use Rattle.c_runs.specs.CRuns.{Turn, asked, roomy, Took}
 use Rattle.nothing_left.specs.NothingLeft.{NothingLeft}
 use Rattle.slipped.specs.Slipped.{slips, settlesOne}
 
 -- ---- a run
 
+abbrev pub Chain : List ℕ → List ℕ → List Turn → Type 0
+Chain st tb [] = Unit {0}
+Chain st tb (t ∷ ts) = Took st tb t × Chain (t .state) (t .table) ts
+
 abbrev pub Ran : List ℕ → List ℕ → List ℕ → List Turn → Type 0
 Ran st tb dp [] = Unit {0}
-Ran st tb dp (t ∷ ts) = Took st tb t × (t .wall ≡ dp) × Ran (t .state) (t .table) (t .display) ts
+Ran st tb dp (t ∷ ts) = Took st tb t × T (roomy t) × (t .wall ≡ dp) × Ran (t .state) (t .table) (t .display) ts
 
 -- "from a fresh device without loads"
 pub record Fresh (w : ℕ) (st tb dp : List ℕ) : Type 0 where
@@ -73,7 +79,8 @@ holds st tb = stateIn (stateOf st) tb
 -- "after every call": the run is any
 abbrev pub Left·bytes : Type 0
 Left·bytes =
-    (w : ℕ) (st tb dp : List ℕ) (ts : List Turn) → Fresh w st tb dp → Ran st tb dp ts → NothingLeft (holds (stateAfter st ts) (tableAfter tb ts))
+    (w : ℕ) (st tb dp : List ℕ) (ts : List Turn) → Fresh w st tb dp → Chain st tb ts
+    → NothingLeft (holds (stateAfter st ts) (tableAfter tb ts))
 
 -- ---- the second
 

@@ -22,10 +22,11 @@ use Rattle.store.specs.Store.{tableOf}
 use Rattle.board.specs.declared.Board.{Board}
 use Rattle.board.specs.Board.{sized, structOf, Told}
 use Rattle.board.proofs.Laws.{fresh-of, fresh-sane}
-use Rattle.refusals.specs.Refusals.{opIn}
+use Rattle.refusals.specs.Refusals.{opIn, opFor}
 use Rattle.two_runs.specs.TwoRuns.{counted, inBytes}
 use Rattle.code_runs.specs.CodeRuns.{asked, Took}
-use Rattle.code_runs.proofs.Made.{OnBoard, opOut, numberOut, blank as records, outcomeOf, made as turnOf, board-next, board-state, board-held, bytes-range, bytes-count}
+use Rattle.code_runs.specs.Made.{OnBoard, numberOut, blank as records, outcomeOf, made as turnOf}
+use Rattle.code_runs.proofs.Made.{board-next, board-state, board-held, bytes-range, bytes-count}
 use Rattle.inspected_code.specs.Inspected.{Step, Stepped, Ran, Fresh, turns, calls, Handed, handed}
 
 abbrev pub made : StateM → List ℕ → List Call → List Step
@@ -34,7 +35,7 @@ made s d (c ∷ cs) = record { turn = turnOf s c; display = displayed s c d } �
 
 -- ---- its calls are the machine's
 
-op-out : (o : OpM) → opIn (opOut o) (numberOut o) ≡ o
+op-out : (o : OpM) → opIn (opFor o) (numberOut o) ≡ o
 op-out OPEN = refl
 op-out CLOSE = refl
 op-out ABORT = refl
@@ -57,7 +58,7 @@ calls-made s d (c ∷ cs) = ap₂ (λ (x : Call) (xs : List Call). x ∷ xs) (as
 abbrev handedOf : Call → Handed
 handedOf c =
     record {
-      op = opOut (c .op);
+      op = opFor (c .op);
       request = record { desk = c .desk; command = numberOut (c .op); id = c .id; flags = c .flags; map = c .map; prec = c .prec; key = c .key };
       combos = c .combos;
       lent = records (c .room);

@@ -14,7 +14,7 @@ use Rattle.machine.specs.Machine.{machine}
 use Rattle.display.specs.Display.{blank, displayed}
 use Rattle.display.specs.Runs.{afterCalls, shownAfter}
 use Rattle.board.specs.Board.{sized}
-use Rattle.code_runs.proofs.Made.{made as turnOf}
+use Rattle.code_runs.specs.Made.{made as turnOf}
 use Rattle.two_runs.specs.TwoRuns.{counted, inBytes}
 use Rattle.nothing_left.specs.NothingLeft.{NothingLeft}
 use Rattle.nothing_left.proofs.Witness.{run}

@@ -15,8 +15,8 @@ use Rattle.display.specs.Display.{blank}
 use Rattle.store.specs.Store.{tableOf}
 use Rattle.board.specs.Board.{structOf}
 use Rattle.taking.specs.Desk.{hidden}
-use Rattle.whole_log.specs.Whole.{joined}
-use Rattle.whole_log.proofs.Runs.{Runs, run-exists}
+use Rattle.whole_log.specs.Whole.{joined, Runs}
+use Rattle.whole_log.proofs.Runs.{run-exists}
 use Rattle.inspected_lines.proofs.Witness.{before, slipped, behind, slips-there}
 use Rattle.inspected_log.specs.Program.{Inserted, text, own, more}
 use Rattle.inspected_log.proofs.Program.{nothing-slipped-into-the-program}

@@ -4,9 +4,10 @@ use mathlib.Core.Path.{_≡_, refl, ap, sym, _∙_}
 use mathlib.Core.List.{List, _∷_}
 use borrow.Author.Tests.{eq-eqb, ne-eqb}
 use Rattle.port.specs.Port.{startedIn, lineIn, portOf}
-use Rattle.admitting.proofs.Laws.{Proper, port-again}
-use Rattle.telling.specs.Telling.{Says, Moves}
-use Rattle.telling.proofs.Laws.{cons-cons, SameCall, one-porting}
+use Rattle.admitting.specs.Admitting.{Proper}
+use Rattle.admitting.proofs.Laws.{port-again}
+use Rattle.telling.specs.Telling.{Says, Moves, SameCall}
+use Rattle.telling.proofs.Laws.{cons-cons, one-porting}
 use Rattle.last_line.specs.LastLine.{lineLast, portLast, Ends}
 
 -- ---- the end

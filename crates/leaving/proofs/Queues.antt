@@ -17,8 +17,10 @@ use Rattle.machine.specs.State.{Write, Channel as ChannelM, Lock, Request as Re
 use Rattle.machine.specs.Sound.{writesOf, ids}
 use Rattle.machine.specs.Commands.{without, leaving as leavingM}
 use Rattle.machine.proofs.Tests.{by-test, test-true, test-false, eqb-flip, nor-left, nor-right, and-left, and-right}
-use Rattle.machine_laws.proofs.Lists.{Sub, sub-refl, sub-nil, sub-append, sub-distinct}
-use Rattle.machine_laws.proofs.Sound.{Parts, ids-few}
+use Rattle.machine_laws.specs.Lists.{Sub}
+use Rattle.machine_laws.proofs.Lists.{sub-refl, sub-nil, sub-append, sub-distinct}
+use Rattle.machine_laws.specs.Sound.{Parts}
+use Rattle.machine_laws.proofs.Sound.{ids-few}
 use Rattle.store.specs.declared.State.{State}
 use Rattle.store.specs.Store.{structOf, stateIn, lockIn, requestIn, Held, Each}
 use Rattle.store.proofs.Store.{held-parts, held-waiters, held-waiting, waiters-count, waiting-count, held-opens}
@@ -107,7 +109,7 @@ done-end f (c ∷ cs) (suc k) h = ap (λ (l : List Channel). c ∷ l) (done-end 
 
 pub sub-left : (xs ys : List ℕ) → Sub xs (xs ++ ys)
 sub-left [] ys = sub-nil ys
-sub-left (x ∷ xs) ys = Rattle.machine_laws.proofs.Lists.take (sub-left xs ys)
+sub-left (x ∷ xs) ys = Rattle.machine_laws.specs.Lists.take (sub-left xs ys)
 
 pub sub-right : (xs ys : List ℕ) → Sub ys (xs ++ ys)
 sub-right xs ys = sub-append (sub-nil xs) (sub-refl ys)

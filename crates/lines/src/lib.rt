@@ -62,7 +62,12 @@ fn put_all(out: &mut [u8], replies: &[u8], n: usize, a: Answer) -> usize
 }
 
 // The lines of the first n replies, then the answer's; how many bytes they are.
-pub fn tell(replies: &[u8; 384], n: usize, a: Answer, out: &mut [u8; 973]) -> usize
+pub fn tell(
+    replies: &[u8; audio::REPLIES_SIZE],
+    n: usize,
+    a: Answer,
+    out: &mut [u8; audio::ROOM_SIZE],
+) -> usize
     requires { ⌜ n ≤ 64 ⌝ }
     ensures { λ r. ⌜ Tells (now (replies .entry)) n a (now (out .entry)) r (now (out .exit)) ⌝ }
 {

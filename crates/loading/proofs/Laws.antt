@@ -2,12 +2,10 @@
 use Prim.Native.Nat.{ℕ, _+_, _≤_}
 use mathlib.Core.Path.{_≡_, refl, ap, sym, subst, _∙_}
 use mathlib.Core.Bool.{Bool, true, false}
-use mathlib.Core.List.{List, [], _∷_, append-nil}
+use mathlib.Core.List.{List, [], _∷_}
 use native.Mathlib.Omega.{arith}
-use native.Mathlib.Nat.{zero-add}
 use lib.Dec.{T, T-not, eqb, eqb→eq}
-use lib.ListN.{length, take, drop, drop-of-length-le}
-use Rattle.memory.specs.Splice.{splice}
+use lib.ListN.{length, take, drop}
 use Rattle.machine.specs.State.{State}
 use Rattle.machine.proofs.Tests.{by-test}
 use Rattle.store.specs.Store.{tableOf}
@@ -62,8 +60,3 @@ module _ {w : ℕ} {t st tb dp : List ℕ} where
         refused = λ _ n. absurd (n u (y .text));
         loaded = λ _ _ s h. subst (λ x. Loaded x 0 st′ tb′ dp′) (one-spelling (y .text) h) whole;
       }
-
--- bytes copied over as many others
-pub copied-all : (z vs : List ℕ) → length vs ≡ length z → splice z 0 vs ≡ vs
-unfolding splice
-copied-all z vs e = let k : length z ≤ length z = omega arith in rw (zero-add, e, drop-of-length-le z k, append-nil vs)

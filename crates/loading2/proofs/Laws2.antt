@@ -21,10 +21,11 @@ use Rattle.recounting.specs.Recounting.{counted}
 use Rattle.saved.specs.Saved.{FIRST, TextOf}
 use Rattle.accepting.specs.declared.Found.{Found}
 use Rattle.loading.specs.Loading.{Fits, Unmoved, Loaded, Loads}
-use Rattle.read_back.proofs.Fits.{Bytes}
+use Rattle.read_back.specs.ReadBack.{Bytes}
 use Rattle.number_lines.specs.NumberLines.{numberLines}
 use Rattle.saved2.specs.Saved2.{SECOND, numberFrames, TextOf2}
-use Rattle.read_back2.proofs.ReadBack2.{textWith, one-spelling2, numbers-counted, opens-first, opens-second}
+use Rattle.read_back2.specs.ReadBack2.{textWith}
+use Rattle.read_back2.proofs.ReadBack2.{one-spelling2, numbers-counted, opens-first, opens-second}
 use Rattle.accepting2.specs.Accepting2.{Yes2}
 use Rattle.accepting2.proofs.Accepting2.{saved2-or-not}
 use Rattle.loading2.specs.Loading2.{Loads2}

@@ -8,8 +8,8 @@ use Rattle.machine.specs.State.{State, freshOn}
 use Rattle.machine.specs.Log.{feed, run}
 use Rattle.board.specs.Board.{sized}
 use Rattle.whole_log.proofs.Whole.{whole-log}
-use Rattle.two_runs.specs.Logs.{Line, output, texts}
-use Rattle.two_runs.proofs.Logs.{K-reads-the-same, joinedLines, output-written, reads-output}
+use Rattle.two_runs.specs.Logs.{Line, output, texts, joinedLines}
+use Rattle.two_runs.proofs.Logs.{K-reads-the-same, output-written, reads-output}
 use Rattle.log_runs.specs.LogRuns.{Log, begun, Alike, Demand3·log}
 
 run-append : (s : State) (ks ls : List (List ℕ)) → run s (ks ++ ls) .output ≡ run s ks .output ++ run (run s ks .next) ls .output

@@ -14,8 +14,8 @@ use Rattle.display.specs.Display.{blank}
 use Rattle.store.specs.Store.{tableOf}
 use Rattle.board.specs.Board.{structOf}
 use Rattle.taking.specs.Desk.{hidden}
-use Rattle.whole_log.specs.Whole.{joined}
-use Rattle.whole_log.proofs.Runs.{Runs, run-exists}
+use Rattle.whole_log.specs.Whole.{joined, Runs}
+use Rattle.whole_log.proofs.Runs.{run-exists}
 use Rattle.two_runs.specs.TwoRuns.{Keeps, Start, claim}
 use Rattle.two_runs.specs.Logs.{logs, reads, steps, texts}
 use Rattle.two_runs.proofs.Premises.{keeps-all, premises, starts-all}

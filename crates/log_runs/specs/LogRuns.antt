@@ -15,15 +15,14 @@ use mathlib.Core.List.{List, _++_}
 use lib.Dec.{T}
 use Rattle.machine.specs.State.{State, freshOn}
 use Rattle.machine.specs.Log.{lines, run}
-use Rattle.machine_laws.proofs.Lists.{Sub}
+use Rattle.machine_laws.specs.Lists.{Sub}
 use Rattle.display.specs.Display.{blank}
 use Rattle.store.specs.Store.{tableOf}
 use Rattle.board.specs.Board.{structOf, sized}
 use Rattle.taking.specs.Desk.{hidden}
 use Rattle.whole_log.specs.Whole.{joined, Ran}
 use Rattle.two_runs.specs.TwoRuns.{Party, Start, Keeps, own}
-use Rattle.two_runs.specs.Logs.{Line, output, reads, steps, texts}
-use Rattle.two_runs.proofs.Logs.{joinedLines}
+use Rattle.two_runs.specs.Logs.{Line, output, reads, steps, texts, joinedLines}
 
 pub record Log (w : ℕ) (l page : List ℕ) (pre : List (List ℕ)) (xs : List Line) (bss : List (List ℕ)) (out : List ℕ) : Type 0 where
   pub ran : Ran hidden (structOf (freshOn w)) (tableOf (freshOn w)) blank l 0 page 0 bss out

@@ -61,7 +61,7 @@ module _ (n : ℕ) (c : Call) (s : State) where
   allocating-answered (held m) = waiting
   allocating-answered (grants m) = plain 0 m (keyFor (c .key) s) (granted-key (c .key) s)
 
-  perform-answered : (k : Kind) → (k ≡ READ → n ≡ CMD·READ) → Answered (COMMAND n) c s (perform k c s .answer)
+  pub perform-answered : (k : Kind) → (k ≡ READ → n ≡ CMD·READ) → Answered (COMMAND n) c s (perform k c s .answer)
   unfolding perform eachChange doFree doFinish doPervol doLock doRead doWrite doWaitcycle doAllocate finished silent
   perform-answered RESET h = each-answered _ _ _
   perform-answered READ h =

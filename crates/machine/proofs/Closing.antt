@@ -37,6 +37,11 @@ pub wrapped-unlike-openers : newKey (opened (2 ∷ 1 ∷ []) 65535) ≡ 3
 unfolding machine
 wrapped-unlike-openers = refl
 
+-- "65,535 being followed by 1"
+pub wrapped-to-one : newKey (opened [] 65535) ≡ 1
+unfolding machine
+wrapped-to-one = refl
+
 -- the entry is the key that OPEN answered, made before the entry stands
 pub opener-entered : (call (opened (8 ∷ []) 7) (asks OPEN 0 []) .next .opens ≡ 8 ∷ 9 ∷ []) × (call (opened (8 ∷ []) 7) (asks OPEN 5 []) .next .opens ≡ 8 ∷ 5 ∷ [])
 unfolding machine

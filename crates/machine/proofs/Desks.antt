@@ -9,8 +9,8 @@ use lib.Dec.{eqb, eqb-refl}
 use lib.ListN.{getD}
 use Rattle.machine.specs.Numbers.{OTHERDESK, BADID, INUSE}
 use Rattle.machine.specs.Lists.{keep}
-use Rattle.machine.specs.State.{Write, State, Call, Op, OPEN, CLOSE, ABORT, Event, EVENT, COMMAND, free}
-use Rattle.machine.specs.Desks.{deskOf, foreign, frontFor}
+use Rattle.machine.specs.State.{Write, State, Call, Op, OPEN, ABORT, COMMAND, free}
+use Rattle.machine.specs.Desks.{deskOf, foreign, frontFor, from, Idless, opens, closes, happens}
 use Rattle.machine.specs.Bytes.{run}
 use Rattle.machine.specs.Log.{callOf}
 use Rattle.machine.specs.Choosing.{Look, fails, held, grants, look}
@@ -18,7 +18,7 @@ use Rattle.machine.specs.Commands.{doClose, doEvent}
 use Rattle.machine.specs.Allocating.{opening, doOpen}
 use Rattle.machine.specs.Refusals.{Refusal, accepted, refused, badList, badMaps, badMap, refusal, refuse}
 use Rattle.machine.specs.Call.{call, accept, answering}
-use Rattle.machine.specs.Walks.{plays, chan, stands, says, gets}
+use Rattle.machine.specs.Walks.{plays, chan, stands, asksFrom, says, gets}
 use Rattle.machine.specs.Machine.{machine}
 use Rattle.machine.proofs.Tests.{eqb-false, test-true}
 
@@ -70,14 +70,8 @@ reads-no-other d w ws n = rw (eqb-false (deskOf (w .id)) d n) refl
 
 -- ---- "Every call but the event names its desk": OPEN and CLOSE carry no id, so nothing depends on it there either
 
-abbrev pub from : ℕ → Call → Call
-from d c =
-    record { op = c .op; desk = d; id = c .id; flags = c .flags; map = c .map; prec = c .prec; key = c .key; combos = c .combos; room = c .room }
-
-pub data Idless : Op → Type 0 where
-  opens : Idless OPEN
-  closes : Idless CLOSE
-  happens : (v : Event) → Idless (EVENT v)
+pub from-told : (d e : ℕ) → from d (asksFrom e OPEN 2 64 3 128 7 (1 ∷ []) 63) ≡ asksFrom d OPEN 2 64 3 128 7 (1 ∷ []) 63
+from-told d e = refl
 
 module _ (d : ℕ) (c : Call) (s : State) where
   refusal-from : {o : Op} → Idless o → refusal o (from d c) s ≡ refusal o c s

@@ -3,7 +3,7 @@
 use Prim.Native.Nat.{ℕ, _/_, _%_}
 use mathlib.Core.Path.{_≡_, refl, ap, _∙_}
 use mathlib.Core.Bool.{Bool, true, false}
-use mathlib.Core.List.{List}
+use mathlib.Core.List.{List, [], _∷_}
 use lib.Dec.{eqb}
 use Rattle.machine.specs.Numbers.{quick, nowait, synced}
 use Rattle.machine.specs.Lists.{if_then_else_}
@@ -15,10 +15,11 @@ use Rattle.machine.specs.Allocating.{waits, allocating, doAllocate, open
 use Rattle.machine.specs.Kinds.{Kind, RESET, READ, WRITE, UPDATE, CLEAR, STOP, START, FLUSH, FREE, SETPREC, FINISH, PERVOL, LOCK, WAITCYCLE, ALLOCATE, UNKNOWN, kind}
 use Rattle.machine.specs.Refusals.{Refusal, accepted, refused, badList, badMaps, badMap, badNumbers, refusal, refuse}
 use Rattle.machine.specs.Call.{perform, accept, answering, call}
+use Rattle.machine.specs.Flags.{withFlags}
+use Rattle.machine.specs.Walks.{asksFrom}
 
-abbrev pub withFlags : ℕ → Call → Call
-withFlags f c =
-    record { op = c .op; desk = c .desk; id = c .id; flags = f; map = c .map; prec = c .prec; key = c .key; combos = c .combos; room = c .room }
+pub flags-told : (f : ℕ) → withFlags f (asksFrom 1 OPEN 2 64 3 128 7 (1 ∷ []) 63) ≡ asksFrom 1 OPEN 2 f 3 128 7 (1 ∷ []) 63
+flags-told f = refl
 
 -- no refusal reads a flag
 refusal-flagged : (o : Op) (f : ℕ) (c : Call) (s : State) → refusal o (withFlags f c) s ≡ refusal o c s

@@ -1,5 +1,5 @@
 -- Why a call is refused by the steps that concern it and by no other: the number of a refusal is that of a test in the operation's
--- list, and a call passes exactly if it meets none of the tests there.
+-- list, that of the first step there which the call does not pass, and a call is accepted exactly if it passes them all.
 -- Assumes nothing.
 use Prim.Native.Nat.{ℕ, zero, suc, _^_, _≤_, _<_}
 use mathlib.Core.Path.{_≡_, refl, ap, subst, sym, _∙_}
@@ -18,7 +18,7 @@ use Rattle.machine.specs.Commands.{periodIn, volumeIn}
 use Rattle.machine.specs.Sound.{sound, ids}
 use Rattle.machine.specs.Kinds.{Kind, kind, unknown, allocates, carries}
 use Rattle.machine.specs.Refusals.{Refusal, accepted, refused, first, badList, badMaps, badMap, badNumbers, refusal}
-use Rattle.machine.specs.Steps.{Listed, Mapped, Reads, Carried, Carries, Passes, steps}
+use Rattle.machine.specs.Steps.{Placed, Mapped, Reads, Carried, Carries, Passes, steps, order, FailsFirst, NoneOf}
 use Rattle.machine.specs.Bytes.{listed}
 use Rattle.machine.proofs.Known.{unknown-unless-listed, allocates-alone, carries-two}
 use Rattle.machine.proofs.Tests.{and-left, and-right, and-both}
@@ -49,11 +49,6 @@ first-among (t ∷ ts) e q = go (t .0) (first-among ts e) q
         let same : t .1 ≡ e = cc in
         or-one (eqb e (t .1)) (among e (numbers ts)) (subst (λ (x : ℕ). T (eqb e x)) (sym same) (eqb-refl e))
     go false ih f = or-other (eqb e (t .1)) (among e (numbers ts)) (ih f)
-
--- a list of tests none of which is met
-abbrev pub NoneOf : List (Bool × ℕ) → Type 0
-NoneOf [] = Unit {0}
-NoneOf (t ∷ ts) = T (not (t .0)) × NoneOf ts
 
 pub first-none : (ts : List (Bool × ℕ)) → first ts ≡ accepted → NoneOf ts
 unfolding first
@@ -124,25 +119,37 @@ counted : (c : Call) → T (not (badList c)) ↔ (length (c .combos) ≤ COMBOS)
 unfolding badList
 counted c = enough COMBOS (length (c .combos))
 
-placed : (c : Call) (s : State) → T (not (badMaps c s)) ↔ T (all (λ m. ltb m (2 ^ length (s .channels))) (c .combos))
+placed : (c : Call) (s : State) → T (not (badMaps c s)) ↔ Placed c s
 unfolding badMaps
 placed c s = none-off (λ m. ltb m (2 ^ length (s .channels))) (c .combos)
 
 known : (n : ℕ) → T (not (unknown (kind n))) ↔ T (among n listed)
 known n = rw (unknown-unless-listed n) (not-not (among n listed))
 
+other-one : (n : ℕ) → false ≡ eqb n ADCMD·ALLOCATE → n ≡ ADCMD·ALLOCATE → ⊥
+other-one n e q = subst (λ (b : Bool). T b) (sym (e ∙ ap (λ (m : ℕ). eqb m ADCMD·ALLOCATE) q)) tt
+
 -- ALLOCATE reads its combinations, any other command its map
+counts : (b : Bool) (n : ℕ) (c : Call) → b ≡ eqb n ADCMD·ALLOCATE
+    → T (not (b && badList c)) ↔ (n ≡ ADCMD·ALLOCATE → length (c .combos) ≤ COMBOS)
+counts true n c e = (λ t. λ _. counted c .0 t, λ h. counted c .1 (h (eqb→eq n ADCMD·ALLOCATE (subst (λ (b : Bool). T b) e tt))))
+counts false n c e = (λ t. λ q. absurd (other-one n e q), λ h. tt)
+
+places : (b : Bool) (n : ℕ) (c : Call) (s : State) → b ≡ eqb n ADCMD·ALLOCATE
+    → T (not (if b then badMaps c s else badMap c s))
+    ↔ ((n ≡ ADCMD·ALLOCATE → Placed c s) × ((n ≡ ADCMD·ALLOCATE → ⊥) → Mapped c s))
+places true n c s e =
+    let allocate : n ≡ ADCMD·ALLOCATE = eqb→eq n ADCMD·ALLOCATE (subst (λ (b : Bool). T b) e tt) in
+    (λ t. (λ _. placed c s .0 t, λ other. absurd (other allocate)), λ h. placed c s .1 (h .0 allocate))
+places false n c s e = (λ t. (λ q. absurd (other-one n e q), λ _. mapped c s .0 t), λ h. mapped c s .1 (h .1 (other-one n e)))
+
 reads : (b : Bool) (n : ℕ) (c : Call) (s : State) → b ≡ eqb n ADCMD·ALLOCATE
     → (T (not (b && badList c)) × T (not (if b then badMaps c s else badMap c s))) ↔ Reads n c s
-reads true n c s e =
-    let allocate : n ≡ ADCMD·ALLOCATE = eqb→eq n ADCMD·ALLOCATE (subst (λ (b : Bool). T b) e tt) in (
-      λ h. (λ _. (counted c .0 (h .0), placed c s .0 (h .1)), λ other. absurd (other allocate)),
-      λ r. let l = r .0 allocate in (counted c .1 (l .0), placed c s .1 (l .1)),
-    )
-reads false n c s e =
-    let other : n ≡ ADCMD·ALLOCATE → ⊥ = λ q. subst (λ (b : Bool). T b) (sym (e ∙ ap (λ (m : ℕ). eqb m ADCMD·ALLOCATE) q)) tt in (
-      λ h. (λ q. absurd (other q), λ _. mapped c s .0 (h .1)),
-      λ r. (tt, mapped c s .1 (r .1 other)),
+reads b n c s e =
+    let k = counts b n c e in
+    let p = places b n c s e in (
+      λ h. (λ q. (k .0 (h .0) q, p .0 (h .1) .0 q), p .0 (h .1) .1),
+      λ r. (k .1 (λ q. r .0 q .0), p .1 (λ q. r .0 q .1, r .1)),
     )
 
 -- a number that a test finds
@@ -280,3 +287,158 @@ accepted-exactly (COMMAND n) c s = (
       none-first _
       (not-not (sound s) .1 (p .0), (enough (c .room) REQUESTS .1 (p .1), (enough 63 (c .id) .1 (p .2), (of-its-desk c .1 (p .3), (p .4, (some (length (s .opens)) .1 (p .5), (known n .1 (p .6), (r .0, (r .1, (carried (carries (kind n)) n c (carries-two n) .1 (p .8), tt)))))))))),
 )
+
+-- ---- refused
+
+-- tests that say of each step, in its place, whether it is met
+Says : List (Bool × ℕ) → List (Type 0 × ℕ) → Type 0
+Says [] [] = Unit {0}
+Says [] (u ∷ us) = ⊥
+Says (t ∷ ts) [] = ⊥
+Says (t ∷ ts) (u ∷ us) = (T (not (t .0)) ↔ u .0) × (t .1 ≡ u .1) × Says ts us
+
+first-fails : (ts : List (Bool × ℕ)) (us : List (Type 0 × ℕ)) (e : ℕ) → Says ts us → (first ts ≡ refused e) ↔ FailsFirst us e
+unfolding first FailsFirst Says
+first-fails [] [] e h = (λ q. absurd (let z : _≡_ {A = ℕ} 0 1 = cc in omega arith), λ f. absurd f)
+first-fails [] (u ∷ us) e h = absurd h
+first-fails (t ∷ ts) [] e h = absurd h
+first-fails (t ∷ ts) (u ∷ us) e h = go (t .0) (h .0) (first-fails ts us e (h .2))
+  where
+    go : (b : Bool) → (T (not b) ↔ u .0) → (first ts ≡ refused e) ↔ FailsFirst us e
+        → ((if b then refused (t .1) else first ts) ≡ refused e) ↔ (((u .1 ≡ e) × (u .0 → ⊥)) ⊎ (u .0 × FailsFirst us e))
+    go true i ih = (λ q. inl (sym (h .1) ∙ number q, i .1), from)
+      where
+        number : refused (t .1) ≡ refused e → t .1 ≡ e
+        number q = cc
+
+        from : ((u .1 ≡ e) × (u .0 → ⊥)) ⊎ (u .0 × FailsFirst us e) → refused (t .1) ≡ refused e
+        from (inl f) = ap refused (h .1 ∙ f .0)
+        from (inr f) = absurd (i .1 (f .0))
+    go false i ih = (λ q. inr (i .0 tt, ih .0 q), from)
+      where
+        from : ((u .1 ≡ e) × (u .0 → ⊥)) ⊎ (u .0 × FailsFirst us e) → first ts ≡ refused e
+        from (inl f) = absurd (f .1 (i .0 tt))
+        from (inr f) = ih .1 (f .1)
+
+-- a call is refused with e exactly if it passes every step of its operation before one with that number, and not that one
+pub refused-exactly : (o : Op) (c : Call) (s : State) (e : ℕ) → (refusal o c s ≡ refused e) ↔ FailsFirst (order o c s) e
+unfolding refusal order Says
+refused-exactly OPEN c s e =
+    first-fails _ _ e (
+      not-not (sound s),
+      refl,
+      (
+        enough (c .room) REQUESTS,
+        refl,
+        (
+          counted c,
+          refl,
+          (
+            placed c s,
+            refl,
+            (
+              short (length (s .opens)) ENTRIES,
+              refl,
+              tt,
+            ),
+          ),
+        ),
+      ),
+    )
+refused-exactly CLOSE c s e =
+    first-fails _ _ e (
+      not-not (sound s),
+      refl,
+      (
+        enough (c .room) REQUESTS,
+        refl,
+        (
+          not-not (among (c .key) (s .opens)),
+          refl,
+          tt,
+        ),
+      ),
+    )
+refused-exactly ABORT c s e =
+    first-fails _ _ e (
+      not-not (sound s),
+      refl,
+      (
+        enough (c .room) REQUESTS,
+        refl,
+        (
+          enough 63 (c .id),
+          refl,
+          (
+            of-its-desk c,
+            refl,
+            tt,
+          ),
+        ),
+      ),
+    )
+refused-exactly (EVENT v) c s e =
+    first-fails _ _ e (
+      not-not (sound s),
+      refl,
+      (
+        enough (c .room) REQUESTS,
+        refl,
+        (
+          mapped c s,
+          refl,
+          tt,
+        ),
+      ),
+    )
+refused-exactly (COMMAND n) c s e =
+    first-fails _ _ e (
+      not-not (sound s),
+      refl,
+      (
+        enough (c .room) REQUESTS,
+        refl,
+        (
+          enough 63 (c .id),
+          refl,
+          (
+            of-its-desk c,
+            refl,
+            (
+              (λ t. t, λ t. t),
+              refl,
+              (
+                some (length (s .opens)),
+                refl,
+                (
+                  known n,
+                  refl,
+                  (
+                    counts (allocates (kind n)) n c (allocates-alone n),
+                    refl,
+                    (
+                      places (allocates (kind n)) n c s (allocates-alone n),
+                      refl,
+                      (
+                        carried (carries (kind n)) n c (carries-two n),
+                        refl,
+                        tt,
+                      ),
+                    ),
+                  ),
+                ),
+              ),
+            ),
+          ),
+        ),
+      ),
+    )
+
+-- the numbers of the order are the steps
+pub order-steps : (o : Op) (c : Call) (s : State) → map (λ t. t .1) (order o c s) ≡ steps o
+unfolding order steps
+order-steps OPEN c s = refl
+order-steps CLOSE c s = refl
+order-steps ABORT c s = refl
+order-steps (EVENT v) c s = refl
+order-steps (COMMAND n) c s = refl

@@ -4,7 +4,7 @@
 --   run k n       the n numbers from k on
 --   listed        the fifteen command numbers that document 01 and document 02, #101, list as in
 --   number k      the number of a command; 0 of an unknown one
---   known         "-3: any command number not listed above": the known ones among the bytes are those listed
+--   known         -3: "any command number not listed above": the known ones among the bytes are those listed
 --   numbered      each is the command whose number it is
 --   quicks        QUICK is flag 1: the odd bytes
 --   nowaits       NOWAIT is flag 64: the bytes 64 to 127 and 192 to 255

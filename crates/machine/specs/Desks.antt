@@ -8,13 +8,15 @@
 --   frontFor d ws        the id in front of a queue, as desk d may read it; 255 where there is none or it is the other desk's
 --   repliesTo d rs       the replies to the ids of desk d, in their order
 --   halves rs            A's replies, then B's
+--   from d c             the call as desk d makes it
+--   Idless o             an operation that names no id, so that no desk can be wrong
 use Prim.Native.Nat.{ℕ}
 use mathlib.Core.Bool.{Bool, not}
 use mathlib.Core.List.{List, [], _∷_, _++_}
 use lib.Dec.{eqb, ltb}
 use Rattle.machine.specs.Numbers.{NONE}
 use Rattle.machine.specs.Lists.{if_then_else_, keep}
-use Rattle.machine.specs.State.{Write, Reply, Call}
+use Rattle.machine.specs.State.{Write, Reply, Call, Op, OPEN, CLOSE, Event, EVENT}
 
 -- "Desk A has ids 0 to 31, desk B 32 to 63." "in the log an id byte of 32 or more means B"
 abbrev pub DESK·A : ℕ
@@ -46,3 +48,14 @@ repliesTo d rs = keep (λ r. eqb (deskOf (r .id)) d) rs
 -- "A's replies are written first"
 unfoldable pub halves : List Reply → List Reply
 halves rs = repliesTo DESK·A rs ++ repliesTo DESK·B rs
+
+-- the same call, whichever desk makes it
+abbrev pub from : ℕ → Call → Call
+from d c =
+    record { op = c .op; desk = d; id = c .id; flags = c .flags; map = c .map; prec = c .prec; key = c .key; combos = c .combos; room = c .room }
+
+-- "OPEN, CLOSE and the event carry no id"
+pub data Idless : Op → Type 0 where
+  opens : Idless OPEN
+  closes : Idless CLOSE
+  happens : (v : Event) → Idless (EVENT v)

@@ -13,7 +13,7 @@
 --                       asksFrom: of any desk
 --   says, reply         an answer (outstanding, error, map, key, last byte); a reply (id, command, error, map, key)
 --   gets                an outcome: answer, replies, next state
---   unrested, rested    the state of the examples; the same after a walk
+--   unrested, rested    the state of the examples; the same after a walk, and after an OPEN with key 2 and a walk (opened)
 --   walks               the table
 use Prim.Native.Nat.{ℕ}
 use mathlib.Core.Path.{_≡_, refl}
@@ -82,6 +82,9 @@ unrested = stands (chan 1 255 false false [] ∷ free ∷ free ∷ free ∷ []) 
 abbrev pub rested : State
 rested = stands (chan 1 255 false false [] ∷ free ∷ chan 2 128 false false [] ∷ chan 2 128 false false [] ∷ []) [] [] [] (1 ∷ []) 2
 
+abbrev pub opened : State
+opened = stands (chan 1 255 false false [] ∷ free ∷ chan 3 128 false false [] ∷ chan 3 128 false false [] ∷ []) [] [] [] (1 ∷ 2 ∷ []) 3
+
 -- "After every call, except one answered 1 to 5, -1, -3, -4 or -5 and an OPEN answered -11, walk from the head."
 abbrev pub walks : List Vector
 walks =
@@ -91,6 +94,15 @@ walks =
     ∷ vector unrested (asks (COMMAND 32) 7 65 0 128 1 (1 ∷ []) 64) (gets (says false 245 0 1 255) (reply 60 32 0 12 2 ∷ []) rested)
     -- OPEN is answered -11, and no walk follows
     ∷ vector unrested (asks OPEN 7 0 0 128 1 (1 ∷ []) 64) (gets (says false 245 0 1 255) [] unrested)
+    -- OPEN with key 2, which is entered before the walk: the request gets key 3
+    ∷ vector unrested (asks OPEN 7 0 0 128 2 [] 64) (gets (says false 0 0 2 255) (reply 60 32 0 12 3 ∷ []) opened)
+    -- what a walk has said stands before "its aborted writes, then the grant": 50 is dropped, then 51 takes channel 1 with write 5
+    ∷ vector
+    (stands (chan 1 255 false false [] ∷ chan 1 128 false false (plays 5 1 124 64 ∷ []) ∷ free ∷ free ∷ [])
+    [] [] (wait 50 0 140 true (1 ∷ []) ∷ wait 51 0 139 false (2 ∷ []) ∷ []) (1 ∷ []) 1)
+    (asks ABORT 7 1 0 128 1 [] 64)
+    (gets (says false 0 0 1 0) (reply 50 32 245 0 0 ∷ reply 5 3 254 0 1 ∷ reply 51 32 0 2 2 ∷ [])
+    (stands (chan 1 255 false false [] ∷ chan 2 139 false false [] ∷ free ∷ free ∷ []) [] [] [] (1 ∷ []) 2))
     ∷ []
 
 pub walks-follow : Computes walks

@@ -27,29 +27,20 @@ use Rattle.machine.specs.Refusals.{Refusal, accepted, refused, refusal}
 use Rattle.machine.specs.Call.{inRange, perform, settling, openSettling, accept, answering, call}
 use Rattle.machine.specs.Rule.{channel, Names}
 use Rattle.machine.proofs.Tests.{if-elim, by-test, and-left, and-right, test-true, test-false}
-use Rattle.machine_laws.proofs.Lists.{Sub, sub-refl, sub-nil, sub-left, sub-right, sub-trans, sub-keep, sub-kept, sub-map, sub-all, all-any, keep-all, keep-none}
-use Rattle.machine_laws.proofs.Counting.{count, count-cons, count-append, count-keep, count-sub, count-among, distinct-count}
+use Rattle.machine_laws.specs.Lists.{Sub, count}
+use Rattle.machine_laws.specs.Cutting.{Stands, AllStand, Spares, lookCut, kindCut, cutBy, Cuts, read, write, update, clear, stop, start, setprec, pervol, lock, finish}
+use Rattle.machine_laws.proofs.Lists.{sub-refl, sub-nil, sub-left, sub-right, sub-trans, sub-keep, sub-kept, sub-map, sub-all, all-any, keep-all, keep-none}
+use Rattle.machine_laws.proofs.Counting.{count-cons, count-append, count-keep, count-sub, count-among, distinct-count}
 use Rattle.machine_laws.proofs.Maps.{named-says, meets-zero, names-bit-tail, lowest-names}
 use Rattle.machine_laws.proofs.Sound.{parts}
 use Rattle.machine_laws.proofs.Refusals.{refuse-same}
-use Rattle.machine_laws.proofs.Keeping.{lockIds, waitIds, served}
-use Rattle.machine_laws.proofs.KeepingCalls.{Counted, call-sound}
-use Rattle.machine_laws.proofs.Replies.{heard, heard-append, heard-of, heard-cut, cut-count, replies-apart}
+use Rattle.machine_laws.specs.Keeping.{lockIds, waitIds, Counted}
+use Rattle.machine_laws.proofs.Keeping.{served}
+use Rattle.machine_laws.proofs.KeepingCalls.{call-sound}
+use Rattle.machine_laws.specs.Replies.{heard}
+use Rattle.machine_laws.proofs.Replies.{heard-append, heard-of, heard-cut, cut-count, replies-apart}
 
 -- ---- whom a sound state lets wait
-
--- "a WAITCYCLE .. has the key of its channel, which has a write"
-pub record Stands (cs : List Channel) (w : Lock) : Type 0 where
-  pub place : ℕ
-  pub inside : place < length cs
-  pub named : Names (w .map) place
-  pub alone : (i : ℕ) → i < length cs → Names (w .map) i → i ≡ place
-  pub key : channel cs place .key ≡ w .key
-  pub write : 0 < length (channel cs place .writes)
-
-abbrev pub AllStand : List Channel → List Lock → Type 0
-AllStand cs [] = Unit {0}
-AllStand cs (w ∷ ws) = Stands cs w × AllStand cs ws
 
 -- a lowest bit names a channel, and no second
 lowest-place : (n m : ℕ) → T (not (eqb (lowest n m) 0)) → (i : ℕ) × (i < n) × Names (lowest n m) i
@@ -126,19 +117,6 @@ waiters-stand-after s c r y t =
 
 -- ---- the commands that end no front write
 
--- "STOP keeps it"; a synced FINISH is only remembered
-pub data Spares (c : Call) : Kind → Type 0 where
-  read : Spares c READ
-  write : Spares c WRITE
-  update : Spares c UPDATE
-  clear : Spares c CLEAR
-  stop : Spares c STOP
-  start : Spares c START
-  setprec : Spares c SETPREC
-  pervol : Spares c PERVOL
-  lock : Spares c LOCK
-  finish : T (synced (c .flags)) → Spares c FINISH
-
 each-spares : (k : ℕ) (f : Channel → Channel) (c : Call) (s : State) → eachChange k f false c s .next .waiters ≡ s .waiters
 unfolding eachChange each finished
 each-spares k f c s = refl
@@ -162,42 +140,6 @@ spares-waiters {c = c} s lock =
 spares-waiters {c = c} s (finish t) = rw (test-true (synced (c .flags)) t) (each-spares _ _ c s)
 
 -- ---- what a call cuts
-
-abbrev lookCut : Look → ℕ
-lookCut fails = 0
-lookCut (held m) = 0
-lookCut (grants m) = m
-
-unfoldable pub kindCut : Kind → Call → State → ℕ
-kindCut RESET c s = matching (c .key) (c .map) (s .channels)
-kindCut READ c s = 0
-kindCut WRITE c s = 0
-kindCut UPDATE c s = 0
-kindCut CLEAR c s = 0
-kindCut STOP c s = 0
-kindCut START c s = 0
-kindCut FLUSH c s = matching (c .key) (c .map) (s .channels)
-kindCut FREE c s = matching (c .key) (c .map) (s .channels)
-kindCut SETPREC c s = 0
-kindCut FINISH c s = if synced (c .flags) then 0 else inProgress (matching (c .key) (c .map) (s .channels)) (s .channels)
-kindCut PERVOL c s = 0
-kindCut LOCK c s = 0
-kindCut WAITCYCLE c s = 0
-kindCut ALLOCATE c s = lookCut (look (c .prec) (c .combos) (s .channels))
-kindCut UNKNOWN c s = 0
-
-unfoldable pub cutBy : Op → Call → State → ℕ
-cutBy OPEN c s = lookCut (look (c .prec) (c .combos) (s .channels))
-cutBy CLOSE c s = owned (c .key) (s .channels)
-cutBy ABORT c s = ledBy (c .id) (s .channels)
-cutBy (EVENT CYCLE·ENDED) c s = 0
-cutBy (EVENT GAVE·UP) c s = let m = lowest (length (s .channels)) (c .map) in if playing (at m (s .channels)) then m else 0
-cutBy (COMMAND n) c s = kindCut (kind n) c s
-
--- the WAITCYCLEs of the channels of m are gone, and their replies of -2 are among the replies, oldest first
-pub record Cuts (m : ℕ) (s : State) (o : Outcome) : Type 0 where
-  pub told : Sub (cutReplies m s) (o .replies)
-  pub left : T (all (λ w. not (onChannels (length (s .channels)) m w)) (o .next .waiters))
 
 -- and before settling no other goes
 record CutsAlone (m : ℕ) (s : State) (o : Outcome) : Type 0 where

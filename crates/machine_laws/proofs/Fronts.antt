@@ -26,22 +26,19 @@ use Rattle.machine.specs.Refusals.{Refusal, accepted, refused, refusal}
 use Rattle.machine.specs.Call.{perform, settling, openSettling, accept, answering, call}
 use Rattle.machine.specs.Rule.{channel, Names}
 use Rattle.machine.proofs.Tests.{if-elim, by-test, and-left, and-right, test-false}
-use Rattle.machine_laws.proofs.Lists.{Sub, end, skip, take, sub-refl, sub-trans, sub-keep}
+use Rattle.machine_laws.specs.Lists.{Sub, end, skip, take}
+use Rattle.machine_laws.specs.Fronts.{SameFronts, AllFronts}
+use Rattle.machine_laws.proofs.Lists.{sub-refl, sub-trans, sub-keep}
 use Rattle.machine_laws.proofs.Maps.{odd-bit, half-bit, length-change, names-half, names-bit-head, names-bit-tail, named-says, change-named, change-unnamed, meets-iff, zero-names}
-use Rattle.machine_laws.proofs.Sound.{Parts, parts}
+use Rattle.machine_laws.specs.Sound.{Parts}
+use Rattle.machine_laws.proofs.Sound.{parts}
 use Rattle.machine_laws.proofs.Refusals.{refuse-same}
 use Rattle.machine_laws.proofs.Keeping.{served}
-use Rattle.machine_laws.proofs.Board.{Wide, open-wide, close-wide, abort-wide, event-wide, perform-wide}
+use Rattle.machine_laws.specs.Board.{Wide}
+use Rattle.machine_laws.proofs.Board.{open-wide, close-wide, abort-wide, event-wide, perform-wide}
 
 abbrev some-write : List Write → Bool
 some-write ws = not (eqb (length ws) 0)
-
-abbrev pub SameFronts : ℕ → List Channel → List Channel → Type 0
-SameFronts x cs ds = (i : ℕ) → i < length cs → Names x i → front (channel ds i .writes) ≡ front (channel cs i .writes)
-
-abbrev pub AllFronts : List Channel → List Channel → List Lock → Type 0
-AllFronts cs ds [] = Unit {0}
-AllFronts cs ds (w ∷ ws) = SameFronts (w .map) cs ds × AllFronts cs ds ws
 
 -- ---- AllFronts
 

@@ -14,9 +14,11 @@ use Rattle.machine.specs.Bytes.{run}
 use Rattle.machine.specs.Sound.{sound}
 use Rattle.machine.specs.Call.{call}
 use Rattle.machine.proofs.Tests.{and-both, and-left, and-right, by-test, test-true, test-false}
-use Rattle.machine_laws.proofs.Lists.{Sub, sub-all, sub-keep, sub-map, among-all, keep-all, within-length}
-use Rattle.machine_laws.proofs.Counting.{count, count-sub, count-distinct, distinct-count}
-use Rattle.machine_laws.proofs.Replies.{heard, call-replies, replied-small}
+use Rattle.machine_laws.specs.Lists.{Sub, count}
+use Rattle.machine_laws.proofs.Lists.{sub-all, sub-keep, sub-map, among-all, keep-all, within-length}
+use Rattle.machine_laws.proofs.Counting.{count-sub, count-distinct, distinct-count}
+use Rattle.machine_laws.specs.Replies.{heard}
+use Rattle.machine_laws.proofs.Replies.{call-replies, replied-small}
 
 -- ---- the ids of a desk
 

@@ -21,3 +21,4 @@ pub mod Rooms
 pub mod Cutting
 pub mod Board
 pub mod Fronts
+pub mod Pinned

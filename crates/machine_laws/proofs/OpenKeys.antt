@@ -13,7 +13,8 @@ use Rattle.machine.specs.Lists.{if_then_else_, all, among, any}
 use Rattle.machine.specs.Commands.{closed}
 use Rattle.machine.specs.Sound.{soundOpens}
 use Rattle.machine.proofs.Tests.{and-left, and-right, and-both, or-left, or-map, by-test, test-true, test-false}
-use Rattle.machine_laws.proofs.Lists.{Sub, skip, take, end, sub-refl, sub-all, sub-length, all-append, among-all, among-append}
+use Rattle.machine_laws.specs.Lists.{Sub, skip, take, end}
+use Rattle.machine_laws.proofs.Lists.{sub-refl, sub-all, sub-length, all-append, among-all, among-append}
 
 abbrev entry : ℕ → Bool
 entry k = leb 1 k && leb k KEYS

@@ -18,12 +18,8 @@ use Rattle.machine.specs.Sound.{sound}
 use Rattle.machine.specs.Kinds.{Kind, RESET, READ, WRITE, UPDATE, CLEAR, STOP, START, FLUSH, FREE, SETPREC, FINISH, PERVOL, LOCK, WAITCYCLE, ALLOCATE, UNKNOWN, kind}
 use Rattle.machine.specs.Refusals.{Refusal, accepted, refused, first, badList, badMaps, badMap, badNumbers, refusal, refuse}
 use Rattle.machine.specs.Call.{perform, settling, openSettling, accept, answering, call}
+use Rattle.machine_laws.specs.Rooms.{lent}
 use Rattle.machine_laws.proofs.Refusals.{refuse-mute}
-
--- the call with a list of n records lent
-abbrev pub lent : ℕ → Call → Call
-lent n c =
-    record { op = c .op; desk = c .desk; id = c .id; flags = c .flags; map = c .map; prec = c .prec; key = c .key; combos = c .combos; room = n }
 
 module _ (c : Call) (n : ℕ) (h : 64 ≤ n) (g : 64 ≤ c .room) where
   pub refusal-lent : (o : Op) (s : State) → refusal o (lent n c) s ≡ refusal o c s

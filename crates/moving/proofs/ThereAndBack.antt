@@ -10,13 +10,14 @@ use Rattle.machine.specs.Sound.{sound}
 use Rattle.machine.proofs.Tests.{by-test}
 use Rattle.saved.specs.Saved.{text, TextOf}
 use Rattle.saving.specs.Saving.{Unwritten}
-use Rattle.read_back.proofs.Fits.{Bytes}
+use Rattle.read_back.specs.ReadBack.{Bytes}
 use Rattle.accepting.proofs.Accepting.{text-or-not}
 use Rattle.number_lines.specs.NumberLines.{numberLines}
 use Rattle.saved2.specs.Saved2.{numberFrames, text2, TextOf2}
 use Rattle.saving2.specs.Saving2.{Fills}
 use Rattle.saving2.proofs.Laws2.{taken-front}
-use Rattle.read_back2.proofs.ReadBack2.{textWith, numbers-counted, one-form}
+use Rattle.read_back2.specs.ReadBack2.{textWith}
+use Rattle.read_back2.proofs.ReadBack2.{numbers-counted, one-form}
 use Rattle.accepting2.proofs.Accepting2.{saved2-or-not}
 use Rattle.moving.specs.Moving.{MovesNew, MovesOld}
 

@@ -12,7 +12,7 @@ use Rattle.machine.specs.Choosing.{Look, fails, held, grants, look}
 use Rattle.machine.specs.Call.{call}
 use Rattle.machine.proofs.Tests.{and-left, and-right, and-both}
 use Rattle.machine_laws.proofs.Lists.{all-any}
-use Rattle.machine_laws.proofs.Settling.{Still, AllStill, AtRest}
+use Rattle.machine_laws.specs.Settling.{Still, AllStill, AtRest}
 use Rattle.machine_laws.proofs.Resting.{call-rests}
 use Rattle.display.specs.Runs.{afterCalls}
 use Rattle.nothing_left.specs.Settles.{settles}

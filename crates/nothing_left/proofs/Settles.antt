@@ -17,7 +17,8 @@ use Rattle.machine.proofs.Tests.{if-elim, and-left, and-right, and-both, by-tes
 use Rattle.machine.proofs.Steps.{first-among}
 use Rattle.machine_laws.proofs.Lists.{among-all}
 use Rattle.machine_laws.proofs.Refusals.{refuse-answer, refused-same, open-failed-same}
-use Rattle.machine_laws.proofs.Settling.{AtRest, settle-rests}
+use Rattle.machine_laws.specs.Settling.{AtRest}
+use Rattle.machine_laws.proofs.Settling.{settle-rests}
 use Rattle.display.specs.Looks.{looks, acting, looked}
 use Rattle.display.proofs.Looks.{looked-settles}
 use Rattle.nothing_left.specs.Settles.{unsettled, opens, settles}

@@ -11,11 +11,14 @@
 --   noneFails s         none with NOWAIT is failing
 --   noneInTheWay s      no lock is outstanding over a channel that a held request has chosen
 --   NothingLeft s       all three
+--   Standing s r        the same of one waiting request, without tests: it could not be granted; where it fails it may wait; where it is
+--                       held for the map m, no outstanding lock names a channel that m names
 --   NothingLeftStanding the assurance; a board of n channels, and any calls, refused ones too
 --   left                one name that unfolds these definitions
-use Prim.Native.Nat.{ℕ}
+use Prim.Native.Nat.{ℕ, _<_}
 use mathlib.Core.Bool.{Bool, true, false, not, _&&_}
-use mathlib.Core.List.{List}
+use mathlib.Core.List.{List, List·Memᴰ}
+use mathlib.Core.Path.{_≡_}
 use lib.Dec.{T}
 use lib.ListN.{length}
 use Rattle.machine.specs.Lists.{all}
@@ -23,6 +26,7 @@ use Rattle.machine.specs.State.{Lock, Request, State, Call, freshOn}
 use Rattle.machine.specs.Maps.{meets}
 use Rattle.machine.specs.Choosing.{Look, fails, held, grants, look}
 use Rattle.display.specs.Runs.{afterCalls}
+use Rattle.machine.specs.Rule.{Names}
 
 unfoldable pub finds : State → Request → Look
 finds s r = look (r .prec) (r .combos) (s .channels)
@@ -66,3 +70,9 @@ NothingLeftStanding = (n : ℕ) (cs : List Call) → NothingLeft (afterCalls (fr
 unfoldable pub left : Unit {0}
 unfolding finds wouldGo wouldFail inTheWay noneGoes noneFails noneInTheWay
 left = tt
+
+-- proofs/Reading.antt: it holds of each waiting request exactly where nothing is left
+pub record Standing (s : State) (r : Request) : Type 0 where
+  pub stays : (m : ℕ) → finds s r ≡ grants m → ⊥
+  pub waits : finds s r ≡ fails → r .impatient ≡ false
+  pub clear : (m : ℕ) (k : Lock) (i : ℕ) → finds s r ≡ held m → List·Memᴰ k (s .locks) → i < length (s .channels) → Names m i → Names (k .map) i → ⊥

@@ -15,7 +15,7 @@ use Rattle.machine.specs.Sound.{soundTone, soundPervol, soundWrite, noPervol, f
 use Rattle.machine.proofs.Tests.{by-test, test-true, test-false, and-left, and-right, and-both}
 use Rattle.machine.specs.Commands.{cyclesIn, periodIn, volumeIn}
 use Rattle.table.specs.Entry.{toneBytes, pervolBytes, numberBytes, toneAt, numbersIn}
-use Rattle.numbers.specs.Numbers.{carried, pervolKept, soundNumbers}
+use Rattle.numbers.specs.Numbers.{carried, pervolKept, soundNumbers, Bytes, Told}
 
 -- ---- soundTone
 
@@ -68,15 +68,6 @@ of-none [] h = refl
 of-none (m ∷ ms) h = absurd (omega arith)
 
 -- ---- soundNumbers
-
--- what their types say of the bytes of which numbers are made
-pub record Bytes (b : List ℕ) : Type 0 where
-  pub first : getD b 0 0 < 256
-  pub second : getD b 1 0 < 256
-  pub fourth : getD b 3 0 < 256
-  pub fifth : getD b 4 0 < 256
-  pub tenth : getD b 9 0 < 256
-  pub eleventh : getD b 10 0 < 256
 
 -- three bytes of a period are those of the number that they make
 tone-bytes : (c d e v : ℕ) → d < 256 → e < 256 → toneBytes (65536 * c + (256 * d + e)) v ≡ c ∷ d ∷ e ∷ v ∷ []
@@ -246,12 +237,6 @@ module _ (i : ℕ) (front : Bool) (a b c d e f g h k l m n : ℕ) where
             let h0 = later-none h k l m n (eqb h 1) (and-right (not (eqb g 1)) (noPervol (later h k l m n (eqb h 1))) w) tail in
             rw (g0, h0) tt);
       }
-
--- twelve bytes pass exactly where they are those of the write that can be read from them, and that write is sound
-abbrev pub Told : ℕ → Bool → List ℕ → Type 0
-Told i front b =
-    (Bytes b → T (soundNumbers front b) → (b ≡ numberBytes (numbersIn i b)) × T (soundWrite (numbersIn i b)) × T (front || forgets (numbersIn i b)))
-    × (b ≡ numberBytes (numbersIn i b) → T (soundWrite (numbersIn i b)) → T (front || forgets (numbersIn i b)) → T (soundNumbers front b))
 
 pub numbers-told : (i : ℕ) (front : Bool) (b : List ℕ) → length b ≡ 12 → Told i front b
 numbers-told i front [] q = absurd (omega arith)

@@ -1,6 +1,6 @@
 -- An old call of one half gives the outcome that it gave, where all that is outstanding is of that half. Assumes nothing else.
 use mathlib.Core.Path.{_≡_, refl, ap, _∙_}
-use mathlib.Core.Bool.{true, false, not}
+use mathlib.Core.Bool.{Bool, true, false, not}
 use mathlib.Core.List.{[], map-append}
 use Prim.Native.Nat.{ℕ}
 use lib.Dec.{T, eqb, eqb→eq, ltb}
@@ -23,10 +23,26 @@ use Rattle.old_logs.proofs.Allocating.{doAllocate-now, doOpen-now}
 use Rattle.old_logs.proofs.Settling.{settle-now}
 use Rattle.old_logs.proofs.Refusals.{nowKind, nowRefusal, old-command, kind-now, carries-none, refusal-now, Silent, was-silent, refuse-now}
 
-perform-now : (k : Old.Kind) (c : Old.Call) (s : Old.State) → Mine (nowCall c .desk) (ids (now s)) → (T (carries (nowKind k)) → c .combos ≡ []) → perform (nowKind k) (nowCall c) (now s) ≡ nowOutcome (Old.perform k c s)
+-- the one command whose answer #109 has changed
+abbrev pub isRead : Old.Kind → Bool
+isRead Old.RESET = false
+isRead Old.READ = true
+isRead Old.WRITE = false
+isRead Old.UPDATE = false
+isRead Old.CLEAR = false
+isRead Old.STOP = false
+isRead Old.START = false
+isRead Old.FLUSH = false
+isRead Old.FREE = false
+isRead Old.SETPREC = false
+isRead Old.LOCK = false
+isRead Old.ALLOCATE = false
+isRead Old.UNKNOWN = false
+
+pub perform-now : (k : Old.Kind) (c : Old.Call) (s : Old.State) → (T (isRead k) → Mine (nowCall c .desk) (ids (now s))) → (T (carries (nowKind k)) → c .combos ≡ []) → perform (nowKind k) (nowCall c) (now s) ≡ nowOutcome (Old.perform k c s)
 unfolding perform silent done carries Old.perform Old.silent Old.done
 perform-now Old.RESET c s m e = eachChange-now CMD·RESET reset Old.reset (λ _. refl) true c s
-perform-now Old.READ c s m e = doRead-now c s m
+perform-now Old.READ c s m e = doRead-now c s (m tt)
 perform-now Old.WRITE c s m e = doWrite-now c (e tt) s
 perform-now Old.UPDATE c s m e = eachChange-now CMD·UPDATE same Old.same (λ _. refl) false c s
 perform-now Old.CLEAR c s m e = eachChange-now CMD·CLEAR same Old.same (λ _. refl) false c s
@@ -39,11 +55,11 @@ perform-now Old.LOCK c s m e = doLock-now c s
 perform-now Old.ALLOCATE c s m e = doAllocate-now c s
 perform-now Old.UNKNOWN c s m e = refl
 
-settling-now : (o : Old.Outcome) → settling (nowOutcome o) ≡ nowOutcome (Old.settling o)
+pub settling-now : (o : Old.Outcome) → settling (nowOutcome o) ≡ nowOutcome (Old.settling o)
 unfolding settling Old.settling
 settling-now o = rw (settle-now (o .next), map-append nowReply (o .replies))
 
-openSettling-now : (o : Old.Outcome) → openSettling (nowOutcome o) ≡ nowOutcome (Old.openSettling o)
+pub openSettling-now : (o : Old.Outcome) → openSettling (nowOutcome o) ≡ nowOutcome (Old.openSettling o)
 unfolding openSettling Old.openSettling
 openSettling-now o = if-as nowOutcome (eqb (o .answer .error) ALLOCFAILED) (λ _. refl) (λ _. settling-now o)
 
@@ -66,7 +82,7 @@ accept-now d Old.EVENT c s m h q t = ap settling (doEvent-now c s) ∙ settling-
 accept-now d (Old.COMMAND n) c s m h q t =
     let o = old-command n (c .combos) (unfold oldOp in t) in
     let e = kind-now n (c .combos) o in
-    let p = perform-now (Old.kind n) c s (rw (accepted-mine d n c s h q t) m) (λ u. carries-none n (c .combos) o (rw e u)) in
+    let p = perform-now (Old.kind n) c s (λ _. rw (accepted-mine d n c s h q t) m) (λ u. carries-none n (c .combos) o (rw e u)) in
     rw (e, p) (settling-now (Old.perform (Old.kind n) c s))
 
 answering-now : (d : ℕ) (r : Old.Refusal) (c : Old.Call) (s : Old.State) → Old.refusal (c .op) c s ≡ r → Silent r → Mine d (ids (now s)) → T (halfOp d (nowOp (c .op)) (c .id)) → T (oldOp (nowOp (c .op)) (c .combos))

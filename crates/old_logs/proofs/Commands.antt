@@ -37,7 +37,7 @@ unfolding owned matches bit Old.owned Old.matches Old.bit
 owned-now k [] = refl
 owned-now k (c ∷ cs) = ap (bit (matches k (nowChannel c))) (owned-now k cs)
 
-low-now : (cs : List Old.Channel) (m : ℕ) → lowest (length (map nowChannel cs)) m ≡ Old.lowest (length cs) m
+pub low-now : (cs : List Old.Channel) (m : ℕ) → lowest (length (map nowChannel cs)) m ≡ Old.lowest (length cs) m
 low-now cs m = rw (length-now cs) (lowest-now (length cs) m)
 
 -- ---- outcomes

@@ -17,9 +17,11 @@ use Rattle.machine.specs.Refusals.{Refusal, refused, first, refusal, refuse}
 use Rattle.machine.specs.Call.{answering, call}
 use Rattle.machine.proofs.Tests.{and-both, and-left, and-right, if-elim, by-test, test-true, test-false, eqb-false, eqb-flip}
 use Rattle.machine_laws.proofs.Lists.{keep-none, keep-each, all-mono}
-use Rattle.machine_laws.proofs.Counting.{count, count-cons}
+use Rattle.machine_laws.specs.Lists.{count}
+use Rattle.machine_laws.proofs.Counting.{count-cons}
 use Rattle.machine_laws.proofs.Refusals.{refuse-same, refuse-mute}
-use Rattle.machine_laws.proofs.Replies.{heard, own, call-counts}
+use Rattle.machine_laws.specs.Replies.{heard}
+use Rattle.machine_laws.proofs.Replies.{own, call-counts}
 use Rattle.old_logs.specs.OldLogs.{inHalf, halfOp}
 
 -- ---- ids of a half

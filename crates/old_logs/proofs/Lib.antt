@@ -10,4 +10,5 @@ pub mod Sound
 pub mod Refusals
 pub mod Calls
 pub mod OldLogs
+pub mod Both
 pub mod Witness

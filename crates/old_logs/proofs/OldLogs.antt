@@ -13,7 +13,7 @@ use Rattle.machine.specs.State.{Channel, Call, Op, OPEN, CLOSE, ABORT, EVENT, C
 use Rattle.machine.specs.Commands.{done, silent}
 use Rattle.machine.specs.Log.{Fed, opened, lines, digit, joined, unhex, opOf, callOf, frame, hexDigit, line, replyLine, answerLine, replyLines, told, outcomeOf, feed, run, log}
 use Rattle.machine.specs.Sound.{ids, writesOf}
-use Rattle.machine_laws.proofs.Replies.{heard}
+use Rattle.machine_laws.specs.Replies.{heard}
 use Rattle.machine.proofs.Tests.{and-left, and-right}
 use Rattle.old_logs.specs.Old
 use Rattle.old_logs.specs.Now.{nowChannel, now, nowOp, nowCall, nowReply, nowOutcome, nowFed}
@@ -23,7 +23,7 @@ use Rattle.old_logs.proofs.Calls.{call-now}
 
 -- ---- from a line to a call
 
-abbrev nowFrame : Option Old.Call → Option Call
+abbrev pub nowFrame : Option Old.Call → Option Call
 nowFrame none = none
 nowFrame (some c) = some (nowCall c)
 
@@ -46,7 +46,7 @@ opOf-now b ms = go (eqb b 0xF0) (eqb b 0xF1) (eqb b 0xF2) (eqb b 0xF3) (eqb b 0x
     go false false false false true t = absurd t
     go false false false false false t = refl
 
-frame-now : (l : Option (List ℕ)) → T (oldCall (frame l)) → frame l ≡ nowFrame (Old.frame l)
+pub frame-now : (l : Option (List ℕ)) → T (oldCall (frame l)) → frame l ≡ nowFrame (Old.frame l)
 unfolding frame oldCall callOf Old.frame Old.callOf
 frame-now none t = refl
 frame-now (some bs) t = go (leb 8 (length bs) && eqb (length bs) (8 + getD bs 7 0)) t
@@ -57,7 +57,7 @@ frame-now (some bs) t = go (leb 8 (length bs) && eqb (length bs) (8 + getD bs 7 
 
 -- ---- from an outcome to lines
 
-replyLines-now : (rs : List Old.Reply) → replyLines (map nowReply rs) ≡ Old.replyLines rs
+pub replyLines-now : (rs : List Old.Reply) → replyLines (map nowReply rs) ≡ Old.replyLines rs
 unfolding replyLines replyLine line hexDigit Old.replyLines Old.replyLine Old.line Old.hexDigit
 replyLines-now [] = refl
 replyLines-now (r ∷ rs) = rw (replyLines-now rs)
@@ -94,7 +94,7 @@ run-now d s (l ∷ ls) m h t =
 
 -- ---- whole logs, from the fresh device
 
-fresh-now : (n : ℕ) → freshOn n ≡ now (Old.freshOn n)
+pub fresh-now : (n : ℕ) → freshOn n ≡ now (Old.freshOn n)
 unfolding frees Old.frees
 fresh-now n = ap (λ (cs : List Channel). record { channels = cs; locks = []; waiters = []; waiting = []; opens = []; last = 0 }) (frees-now n)
   where

@@ -16,7 +16,9 @@ use Rattle.machine.specs.Text.{bytes, page}
 use Rattle.machine.specs.Drawn.{Talk, given, written, begun}
 use Rattle.old_logs.specs.Old
 use Rattle.old_logs.specs.OldLogs.{oldCommand, oldOp, oldCall, oldLine, OldLog, inHalf, halfOp, halfCall, halfLine, OneHalf}
+use Rattle.old_logs.specs.Both.{inHalves, hidden, hides, bothTold, bothRun}
 use Rattle.old_logs.proofs.OldLogs.{old-log, old-log-four}
+use Rattle.old_logs.proofs.Both.{old-log-both}
 
 -- OPEN got key 1, which has channels 0 and 1 at precedence 5
 abbrev busy : Talk
@@ -170,3 +172,28 @@ mixed-say = refl
 pub mixed-said : map (λ b. Old.log (begins b)) mixed ≡ map (λ b. page (written begun ++ b .2)) mixed
 unfolding Old.machine machine bytes page
 mixed-said = refl
+
+-- ---- what such logs give by the theorem of every old log
+
+-- WRITE id 40 and id 8 on channel 0, READ by either desk, a FLUSH of A's and an ABORT of B's
+abbrev both : Talk
+both =
+    begun
+    ++ ("0328000100000100", "A100000001FF" ∷ [])
+    ∷ ("0308000100000100", "A100000001FF" ∷ [])
+    ∷ ("0203010100000100", "A000010001FF" ∷ [])
+    ∷ ("023F010100000100", "A00001000128" ∷ [])
+    ∷ ("0804000100000100", "C00803FE000001" ∷ "C0040800010001" ∷ "C02803FE000001" ∷ "A000010001FF" ∷ [])
+    ∷ ("0329000200000100", "A100000001FF" ∷ [])
+    ∷ ("F229000000000000", "C02903FE000001" ∷ "A00000000001" ∷ [])
+    ∷ []
+
+pub both-is-old : OldLog (page (given both))
+both-is-old = unfold machine bytes page oldCommand oldOp oldCall oldLine in tt
+
+pub both-said : bothRun (Old.freshOn 4) (Old.lines (page (given both))) .output ≡ page (written both)
+unfolding Old.machine Old.frees machine bytes page inHalves hidden hides bothTold bothRun
+both-said = refl
+
+pub both-says : run (freshOn 4) (lines (page (given both))) .output ≡ page (written both)
+both-says = old-log-both 4 (page (given both)) both-is-old ∙ both-said

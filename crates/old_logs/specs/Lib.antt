@@ -1,3 +1,4 @@
 pub mod Old
 pub mod Now
 pub mod OldLogs
+pub mod Both

@@ -1,9 +1,1 @@
-// An old log comes out as before request #101: a statement (specs/) and its proof (proofs/); this function only makes them a crate.
-// Assumes nothing.
-ghost use mathlib.Core.Path.{_≡_};
-
-pub fn same(x: u8) -> u8
-    ensures { λ r. ⌜ r ≡ x ⌝ }
-{
-    x
-}
+// An old log comes out as before request #101: a statement (specs/) and its proof (proofs/). Assumes nothing.

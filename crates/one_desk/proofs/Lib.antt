@@ -6,5 +6,6 @@ pub mod Abort
 pub mod Keys
 pub mod OneDesk
 pub mod After
+pub mod Lines
 pub mod Witness
 pub mod Needed

@@ -1,19 +1,21 @@
 -- The theorem is about something: two states that differ in the other desk's writes, locks and WAITCYCLEs and in every number of desk
 -- A's own writes, and a call of A's that steals from both desks and ends locks of both: A gets the same six replies in both, B six in
--- one and two in the other. A second pair for desk B, with CLOSE. Assumes nothing.
+-- one and two in the other. The same by OPEN, and a CLOSE of A's; for desk B, CLOSE and an OPEN. Assumes nothing.
 use Prim.Native.Nat.{ℕ}
 use mathlib.Core.Path.{_≡_, refl}
 use mathlib.Core.Bool.{true, false}
 use mathlib.Core.List.{List, [], _∷_}
 use lib.Dec.{T}
-use Rattle.machine.specs.State.{State, Reply, Call, CLOSE, COMMAND}
+use Rattle.machine.specs.State.{State, Reply, Call, OPEN, CLOSE, COMMAND}
 use Rattle.machine.specs.Desks.{DESK·A, DESK·B, repliesTo}
 use Rattle.machine.specs.Sound.{sound}
 use Rattle.machine.specs.Call.{call}
+use Rattle.machine.specs.Text.{bytes, page}
 use Rattle.machine.specs.Machine.{machine}
 use Rattle.machine.specs.Walks.{plays, cuts, tunes, chan, lock, wait, stands, asksFrom, reply}
-use Rattle.one_desk.specs.OneDesk.{mine, ownLocks, under, oneKey, clear, calls, Premises, Same}
+use Rattle.one_desk.specs.OneDesk.{mine, ownLocks, under, oneKey, clear, calls, Premises, Same, reads}
 use Rattle.one_desk.proofs.OneDesk.{one-desk}
+use Rattle.one_desk.proofs.Lines.{one-desk-log}
 
 -- A's 2 and 3 on channel 0, B's 40 and 41 on channel 1 and 42 on channel 2, which is stopped; channel 3 is locked by a lock of each; A's
 -- 5 and 7 wait for cycles of channel 0 and, its key passed by hand, of channel 1, and B's 45 too; A's 20 waits for channel 3, B's 50
@@ -80,6 +82,45 @@ pub B-hears-otherwise : repliesTo DESK·B (call quiet steals .replies) ≡ reply
 unfolding machine
 B-hears-otherwise = refl
 
+-- the same as a line of a log: the six replies and the answer, byte for byte
+abbrev pub stealing : List ℕ
+stealing = bytes "200800000C00000107"
+
+pub A-reads-the-same : reads DESK·A busy stealing ≡ reads DESK·A quiet stealing
+A-reads-the-same = one-desk-log DESK·A stealing steals busy quiet (unfold machine bytes in refl) premises-met
+
+pub A-reads : reads DESK·A busy stealing
+    ≡ page ("C00203FE000001" ∷ "C00303FE000001" ∷ "C0050EFE000001" ∷ "C0070EFE000002" ∷ "C0082000070005" ∷ "C0060DF4080004" ∷ "A000070005FF" ∷ [])
+unfolding machine bytes page reads
+A-reads = refl
+
+-- OPEN key 0 at 12 for the same channels, and CLOSE key 1
+abbrev pub opens : Call
+opens = asksFrom DESK·A OPEN 0 0 0 140 0 (7 ∷ []) 64
+
+pub A-opens : Same DESK·A (call busy opens) (call quiet opens)
+A-opens =
+    one-desk DESK·A opens busy quiet
+    (unfold machine mine ownLocks under oneKey clear calls in record { sane = (tt, tt); oneDesk = (tt, tt); alike = refl; itsCall = tt; notTheirs = (tt, tt) })
+
+pub A-hears-of-its-open : repliesTo DESK·A (call busy opens .replies)
+    ≡ reply 2 3 254 0 1 ∷ reply 3 3 254 0 1 ∷ reply 5 14 254 0 1 ∷ reply 7 14 254 0 2 ∷ reply 6 13 244 8 4 ∷ []
+unfolding machine
+A-hears-of-its-open = refl
+
+abbrev pub leaves : Call
+leaves = asksFrom DESK·A CLOSE 0 0 0 128 1 [] 64
+
+pub A-closes : Same DESK·A (call busy leaves) (call quiet leaves)
+A-closes =
+    one-desk DESK·A leaves busy quiet
+    (unfold machine mine ownLocks under oneKey clear calls in record { sane = (tt, tt); oneDesk = (tt, tt); alike = refl; itsCall = tt; notTheirs = (tt, tt) })
+
+pub A-hears-of-its-close : repliesTo DESK·A (call busy leaves .replies)
+    ≡ reply 2 3 254 0 1 ∷ reply 3 3 254 0 1 ∷ reply 5 14 254 0 1 ∷ reply 6 13 244 8 4 ∷ []
+unfolding machine
+A-hears-of-its-close = refl
+
 -- ---- for desk B
 
 -- B's requests of `busy` with other numbers, and of A nothing but what waits
@@ -116,3 +157,17 @@ B-hears-of-its-close = refl
 pub A-hears-of-it : repliesTo DESK·A (call busy closes .replies) ≡ reply 7 14 254 0 2 ∷ reply 6 13 244 8 4 ∷ []
 unfolding machine
 A-hears-of-it = refl
+
+-- OPEN key 0 at 3 for channel 1
+abbrev pub joins : Call
+joins = asksFrom DESK·B OPEN 0 0 0 131 0 (2 ∷ []) 64
+
+pub B-opens : Same DESK·B (call busy joins) (call other joins)
+B-opens =
+    one-desk DESK·B joins busy other
+    (unfold machine mine ownLocks under oneKey clear calls in record { sane = (tt, tt); oneDesk = (tt, tt); alike = refl; itsCall = tt; notTheirs = (tt, tt) })
+
+pub B-hears-of-its-open : repliesTo DESK·B (call busy joins .replies)
+    ≡ reply 40 3 254 0 2 ∷ reply 41 3 254 0 2 ∷ reply 45 14 254 0 2 ∷ reply 33 13 244 8 4 ∷ reply 50 32 245 0 0 ∷ []
+unfolding machine
+B-hears-of-its-open = refl

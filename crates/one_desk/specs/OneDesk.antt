@@ -17,11 +17,13 @@
 --   Premises d c s t the premises about two states and a call, a field for each part of the sentence
 --   Same d o p       two outcomes with the same answer and the same replies in desk d's half
 --   OneDesk          the claim; `one-desk` of proofs/OneDesk.antt proves it
+--   reads d s l      of what a line of a log writes in the state s, the lines that are desk d's: the replies to its ids, and the answer
+--   OneDesk·log      the claim of the log's bytes; `one-desk-log` of proofs/Lines.antt proves it
 use Prim.Native.Nat.{ℕ}
 use mathlib.Core.Path.{_≡_}
 use mathlib.Core.Bool.{Bool, false, not, _&&_}
-use mathlib.Core.List.{List, map}
-use mathlib.Core.Option.{none}
+use mathlib.Core.List.{List, map, _++_}
+use mathlib.Core.Option.{none, some}
 use lib.Dec.{T, eqb}
 use Rattle.machine.specs.Numbers.{PERIOD·LEAST, VOLUME·MOST}
 use Rattle.machine.specs.Lists.{any, all, keep}
@@ -29,11 +31,12 @@ use Rattle.machine.specs.State.{Write, Channel, Lock, State, Outcome, Call, Op,
 use Rattle.machine.specs.Desks.{DESK·A, DESK·B, deskOf, repliesTo}
 use Rattle.machine.specs.Sound.{sound}
 use Rattle.machine.specs.Call.{call}
+use Rattle.machine.specs.Log.{unhex, frame, replyLines, answerLine, outcomeOf}
 
 abbrev pub ofDesk : ℕ → ℕ → Bool
 ofDesk d i = eqb (deskOf i) d
 
--- reading 40: "what is remembered need not be alike, since only events read it"; the same is so of cycles, period and volume
+-- reading 40: what is remembered need not be alike, since only events read it; the same is so of cycles, period and volume
 abbrev pub bare : Write → Write
 bare w = record { id = w .id; cycles = 1; period = PERIOD·LEAST; volume = VOLUME·MOST; finish = false; pervol = none }
 
@@ -113,3 +116,9 @@ pub record Same (d : ℕ) (o p : Outcome) : Type 0 where
 -- its numbers.
 abbrev pub OneDesk : Type 0
 OneDesk = (d : ℕ) (c : Call) (s t : State) → Premises d c s t → Same d (call s c) (call t c)
+
+unfoldable pub reads : ℕ → State → List ℕ → List ℕ
+reads d s l = let o = outcomeOf s (frame (unhex l)) in replyLines (repliesTo d (o .replies)) ++ answerLine (o .answer)
+
+abbrev pub OneDesk·log : Type 0
+OneDesk·log = (d : ℕ) (l : List ℕ) (c : Call) (s t : State) → frame (unhex l) ≡ some c → Premises d c s t → reads d s l ≡ reads d t l

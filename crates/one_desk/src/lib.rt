@@ -1,9 +1,1 @@
-// One desk hears nothing of the other (#109): a statement (specs/) and its proof (proofs/); this function only makes them a crate.
-// Assumes nothing.
-ghost use mathlib.Core.Path.{_≡_};
-
-pub fn same(x: u8) -> u8
-    ensures { λ r. ⌜ r ≡ x ⌝ }
-{
-    x
-}
+// One desk hears nothing of the other (#109): a statement (specs/) and its proof (proofs/). Assumes nothing.

@@ -12,8 +12,7 @@ use Rattle.board.specs.declared.Board.{Board}
 use Rattle.board.specs.Board.{stateIn, Held}
 use Rattle.gathering.specs.Lumps.{ended, used, kept}
 use Rattle.taking.specs.declared.Show.{Show}
-use Rattle.taking.specs.declared.Taken.{Taken}
-use Rattle.taking.specs.Desk.{hidden, deskOf, Leaves, Takes}
+use Rattle.taking.specs.Desk.{Taken, hidden, deskOf, Leaves, Takes}
 use Rattle.taking.proofs.Kept.{held-fine, taken-fine, leaves-held}
 use Rattle.taking.proofs.Laws.{taken-open, taken-ended}
 use Rattle.putting.specs.Putting.{Puts}

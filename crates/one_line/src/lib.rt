@@ -1,14 +1,15 @@
-// One line of a log at most, its output on a lent page that has room for it. The state is known to be sound. Assumes nothing.
-use board::Board;
+// One line of a log at most, its output on a lent page that has room for it. The state is known to be sound, and stands in lent
+// bytes. Assumes nothing.
+use taking::Left;
 use taking::Show;
-use taking::Taken;
 ghost use Prim.Native.Nat.{_+_, _≤_};
 ghost use mathlib.Core.Path.{_≡_};
 ghost use lib.Dec.{leb};
 ghost use lib.ListN.{length};
 ghost use Rattle.board.specs.Board.{Held};
 ghost use Rattle.gathering.specs.Lumps.{LINE};
-ghost use Rattle.taking.specs.Desk.{needed};
+ghost use Rattle.image.specs.Image.{stateOf, Whole};
+ghost use Rattle.taking.specs.Desk.{takenIn, needed};
 ghost use Rattle.one_line.specs.OneLine.{Turns};
 
 // The room that the output of one line may take: 64 replies and an answer, and what is shown.
@@ -36,20 +37,23 @@ pub fn room(show: Show, page: &[u8], at: usize) -> bool
 // One line at most, its output on the page.
 pub fn turn(
     show: Show,
-    s: Board,
-    line: &mut [u8; 527],
+    state: &mut [u8],
+    line: &mut [u8; audio::LINE_SIZE],
     n: usize,
     input: &[u8],
     table: &mut [u8],
-    display: &mut [u8; 18],
+    display: &mut [u8; audio::DISPLAY_SIZE],
     page: &mut [u8],
     at: usize,
-) -> Taken
-    requires { ⌜ Held s (now table) × (n ≤ LINE) × (at + needed show ≤ length (now page)) ⌝ }
-    ensures { λ t. ⌜ Turns show s (now (table .entry)) (now (display .entry)) (now (line .entry)) n (now (input .entry)) (now (page .entry)) at
-        t (now (line .exit)) (now (table .exit)) (now (display .exit)) (now (page .exit)) ⌝ }
+) -> Left
+    requires { ⌜ Whole (now state) × Held (stateOf (now state)) (now table) × (n ≤ LINE)
+        × (at + needed show ≤ length (now page)) ⌝ }
+    ensures { λ t. ⌜ Whole (now (state .exit))
+        × Turns show (stateOf (now (state .entry))) (now (table .entry)) (now (display .entry)) (now (line .entry)) n
+        (now (input .entry)) (now (page .entry)) at
+        (takenIn (now (state .exit)) t) (now (line .exit)) (now (table .exit)) (now (display .exit)) (now (page .exit)) ⌝ }
 {
-    let mut out = [0u8; 973];
-    let t = taking::take(s, line, n, input, table, display, &mut out);
-    putting::put(show, t, table, display, &out, page, at)
+    let mut out = [0u8; audio::ROOM_SIZE];
+    let t = taking::take(state, line, n, input, table, display, &mut out);
+    putting::put(show, state, t, table, display, &out, page, at)
 }

@@ -12,9 +12,10 @@ use Rattle.queue.proofs.Laws.{removed-of}
 use Rattle.table.specs.Entry.{idle}
 use Rattle.machine.specs.State.{Request, State as StateM}
 use Rattle.machine.specs.Sound.{ids, writesOf}
-use Rattle.machine_laws.proofs.Lists.{Sub, sub-refl, sub-append, sub-map, skip}
+use Rattle.machine_laws.specs.Lists.{Sub, skip}
+use Rattle.machine_laws.proofs.Lists.{sub-refl, sub-append, sub-map}
 use Rattle.machine_laws.proofs.Keeping.{parts-sub}
-use Rattle.machine_laws.proofs.Sound.{Parts}
+use Rattle.machine_laws.specs.Sound.{Parts}
 use Rattle.store.specs.declared.State.{State}
 use Rattle.store.specs.Store.{Item, waitItem, lockItem, waiterItem, writeItems, items, structOf, tableOf, stateIn, requestIn, Held}
 use Rattle.store.proofs.Table.{Ins, ins-left, ins-at, entry-removed}
@@ -48,7 +49,7 @@ out-sub {ℓ} : {A : Type ℓ} (i : ℕ) (xs : List A) → Sub (take i xs ++ dro
 out-sub zero [] = sub-refl []
 out-sub zero (x ∷ xs) = skip (sub-refl xs)
 out-sub (suc i) [] = sub-refl []
-out-sub (suc i) (x ∷ xs) = Rattle.machine_laws.proofs.Lists.take (out-sub i xs)
+out-sub (suc i) (x ∷ xs) = Rattle.machine_laws.specs.Lists.take (out-sub i xs)
 
 pub out-sound : (i : ℕ) (s : StateM) → Parts s → Parts (outAt i s)
 unfolding ids

@@ -4,18 +4,18 @@ use Prim.Native.Nat.{ℕ, suc, _+_, _-_, _≤_, _<_}
 use mathlib.Core.Path.{_≡_, refl, ap, ap₂, sym, _∙_}
 use mathlib.Core.Bool.{Bool, true, false, cond, _||_}
 use mathlib.Core.List.{List, [], _∷_, _++_, append-assoc}
-use native.Mathlib.Numerals.{add-one}
 use native.Mathlib.Omega.{arith}
 use lib.Dec.{eqb, ltb, ltb→lt, nltb→le}
-use lib.ListN.{length, take, drop, getD, set, replicate, length-append, length-take, length-drop, length-replicate, length-set, drop-of-length-le, replicate-append-replicate}
-use lib.Seq.{take-suc-set, drop-set-lt, drop-cons, set-split, set-append-seam, take-append-le, drop-append-le, take-append-seam, length-take-le}
+use lib.ListN.{length, take, drop, getD, set, replicate, length-append, length-take, length-drop, length-replicate, length-set, replicate-append-replicate}
+use lib.Seq.{drop-cons, set-append-seam, take-append-le, drop-append-le, take-append-seam, length-take-le}
 use borrow.Author.Tests.{eq-eqb, ne-eqb}
 use Rattle.machine.specs.Numbers.{ENTRIES}
 use Rattle.machine.specs.Lists.{if_then_else_, among, any}
 use Rattle.machine.specs.Commands.{closed}
+use Rattle.queue.specs.Queue.{removeAt}
 use Rattle.machine.proofs.Tests.{by-test, test-true, test-false}
 use Rattle.open_keys.specs.declared.Keys.{Keys}
-use Rattle.open_keys.specs.OpenKeys.{pad, keysOf, keysIn, Tidy, removeAt, indexOf}
+use Rattle.open_keys.specs.OpenKeys.{pad, keysOf, keysIn, Tidy, indexOf}
 
 -- ---- keysOf
 
@@ -100,21 +100,6 @@ index-absent key (x ∷ l) h = go (eqb key x) (index-absent key l) h
     go false ih g = ap (λ (ks : List ℕ). x ∷ ks) (ih (omega arith))
 
 -- ---- turns of the loops
-
--- a turn of the shift: what is left to do gives the same
-pub shift-turn : (a : List ℕ) (i : ℕ) → i + 1 < length a → removeAt (set a i (getD a (i + 1) 0)) (i + 1) ≡ removeAt a i
-shift-turn a i h =
-    let h1 : i < length a = omega arith in
-    let h2 : suc i < length a = omega arith in
-    rw (add-one, take-suc-set, drop-set-lt (suc (suc i)) a i (getD a (suc i) 0) (omega arith), drop-cons a (suc i) 0, append-assoc)
-
--- its end: the last element becomes 0
-pub shift-end : (a : List ℕ) (i : ℕ) → suc i ≡ length a → set a i 0 ≡ removeAt a i
-shift-end a i h =
-    let h1 : i < length a = omega arith in
-    let h2 : length a ≤ suc i = omega arith in
-    let e : drop (suc i) a ≡ [] = drop-of-length-le a h2 in
-    rw (set-split, e)
 
 -- a turn of the search
 pub index-here : (key : ℕ) (l : List ℕ) (i : ℕ) → i < length l → getD l i 0 ≡ key → indexOf key (drop i l) ≡ 0

@@ -1,17 +1,16 @@
--- The table of open keys as it lies in memory, and what its methods do to the array.
+-- The table of open keys as it lies in memory. `removeAt` of queue/specs/Queue.antt is what `close` does to the array.
 -- Assumes nothing.
 --
 --   keysOf l           the table of a list of keys: its length, and the keys with zeros behind them
 --   keysIn q           the keys of a table
 --   Tidy q             zeros stand behind the keys
---   removeAt a k       the array without place k, the rest moved up, a zero at the end
 --   indexOf key l      where a key first stands in a list; the length where it stands nowhere
 use Prim.Native.Nat.{ℕ, suc, _-_}
 use mathlib.Core.Path.{_≡_}
 use mathlib.Core.Bool.{cond}
 use mathlib.Core.List.{List, [], _∷_, _++_}
 use lib.Dec.{eqb}
-use lib.ListN.{length, take, drop, replicate}
+use lib.ListN.{length, take, replicate}
 use Rattle.machine.specs.Numbers.{ENTRIES}
 use Rattle.open_keys.specs.declared.Keys.{Keys}
 
@@ -26,9 +25,6 @@ keysIn q = take (q .n) (q .keys)
 
 abbrev pub Tidy : Keys → Type 0
 Tidy q = q ≡ keysOf (keysIn q)
-
-abbrev pub removeAt : List ℕ → ℕ → List ℕ
-removeAt a k = take k a ++ (drop (suc k) a ++ (0 ∷ []))
 
 abbrev pub indexOf : ℕ → List ℕ → ℕ
 indexOf key [] = 0

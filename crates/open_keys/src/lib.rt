@@ -6,7 +6,8 @@ ghost use Prim.Native.Nat.{_≤_, _<_};
 ghost use lib.ListN.{take};
 ghost use Rattle.machine.specs.Lists.{among};
 ghost use Rattle.machine.specs.Commands.{closed};
-ghost use Rattle.open_keys.specs.OpenKeys.{keysOf, keysIn, Tidy, removeAt, indexOf};
+ghost use Rattle.queue.specs.Queue.{removeAt};
+ghost use Rattle.open_keys.specs.OpenKeys.{keysOf, keysIn, Tidy, indexOf};
 
 pub struct Keys {
     pub n: u8,

@@ -14,10 +14,9 @@ use Rattle.board.specs.Board.{stateIn, Held}
 use Rattle.gathering.specs.Lumps.{LINE, ended, used}
 use Rattle.gathering.proofs.Lumps.{used-within}
 use Rattle.taking.specs.declared.Show.{Show}
-use Rattle.taking.specs.declared.Taken.{Taken}
-use Rattle.taking.specs.Desk.{Desk, deskOf, gathered, answered, taken, needed, fits, takes, filled, Leaves}
+use Rattle.taking.specs.Desk.{Taken, Desk, deskOf, gathered, answered, taken, needed, fits, takes, filled, Leaves, Same}
 use Rattle.taking.proofs.Kept.{Fine, held-fine, taken-fine, leaves-held, leaves-state}
-use Rattle.taking.proofs.Laws.{taken-within, taken-used, used-some, Same, one-leaving}
+use Rattle.taking.proofs.Laws.{taken-within, taken-used, used-some, one-leaving}
 use Rattle.one_line.specs.OneLine.{Turns}
 use Rattle.one_line.proofs.Laws.{stays}
 use Rattle.paging.specs.Paging.{Fills}

@@ -6,9 +6,9 @@ use native.Mathlib.Omega.{arith}
 use native.Mathlib.Nat.{div-add-mod'}
 use lib.ListN.{length, take, drop, length-drop}
 use lib.Seq.{take-all}
+use Rattle.machine.specs.InBytes.{twoBytes}
 use Rattle.memory.specs.Splice.{splice}
 use Rattle.memory.proofs.Splice.{splice-then}
-use Rattle.image.specs.Image.{keyBytes}
 use Rattle.image.proofs.Laws.{splice-whole}
 use Rattle.gathering.specs.Lumps.{LINE}
 use Rattle.sizes.specs.Sizes.{PORT}
@@ -17,9 +17,9 @@ use Rattle.port.specs.Port.{startedIn, lineIn, portOf}
 -- ---- a port and its parts
 
 -- keep's two stores
-pub port-kept : (p l : List ℕ) (n m : ℕ) {p₁ p₂ : List ℕ} → length p ≡ PORT → length l ≡ LINE → m ≡ n → p₁ ≡ splice p 0 (keyBytes m) → p₂ ≡ splice p₁ 2 l → p₂ ≡ portOf n l
+pub port-kept : (p l : List ℕ) (n m : ℕ) {p₁ p₂ : List ℕ} → length p ≡ PORT → length l ≡ LINE → m ≡ n → p₁ ≡ splice p 0 (twoBytes m) → p₂ ≡ splice p₁ 2 l → p₂ ≡ portOf n l
 port-kept p l n m h g e a b =
-    b ∙ ap (λ (x : List ℕ). splice x 2 l) (a ∙ ap (λ (k : ℕ). splice p 0 (keyBytes k)) e) ∙ splice-then p 0 (keyBytes n) l 2 refl (omega arith) ∙ splice-whole p (keyBytes n ++ l) (omega arith)
+    b ∙ ap (λ (x : List ℕ). splice x 2 l) (a ∙ ap (λ (k : ℕ). splice p 0 (twoBytes k)) e) ∙ splice-then p 0 (twoBytes n) l 2 refl (omega arith) ∙ splice-whole p (twoBytes n ++ l) (omega arith)
 
 -- line_in's copy: m bytes from the third on, over all of an array
 pub line-copied : (p z : List ℕ) (m : ℕ) {l : List ℕ} → length p ≡ PORT → length z ≡ LINE → m ≡ LINE → l ≡ splice z 0 (take m (drop 2 p)) → l ≡ lineIn p

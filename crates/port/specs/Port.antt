@@ -7,7 +7,8 @@
 use Prim.Native.Nat.{ℕ}
 use mathlib.Core.List.{List, _++_}
 use lib.ListN.{drop}
-use Rattle.image.specs.Image.{keyBytes, keyAt}
+use Rattle.machine.specs.InBytes.{twoBytes}
+use Rattle.image.specs.Image.{keyAt}
 
 abbrev pub startedIn : List ℕ → ℕ
 startedIn p = keyAt p 0
@@ -16,4 +17,4 @@ abbrev pub lineIn : List ℕ → List ℕ
 lineIn p = drop 2 p
 
 abbrev pub portOf : ℕ → List ℕ → List ℕ
-portOf n l = keyBytes n ++ l
+portOf n l = twoBytes n ++ l

@@ -7,7 +7,7 @@ use native.Mathlib.Nat.{zero-add, add-zero}
 use native.Mathlib.Omega.{arith}
 use borrow.Author.Tests.{eq-eqb, ne-eqb}
 use lib.Dec.{T, leb→le}
-use lib.ListN.{length, take, length-append}
+use lib.ListN.{length, take, drop, length-append, length-map}
 use lib.Seq.{take-at, length-take-le}
 use Rattle.machine.specs.Lists.{if_then_else_}
 use Rattle.machine.specs.State.{State as StateM}
@@ -23,15 +23,17 @@ use Rattle.channel_lines.specs.ChannelLines.{boardLines, Shows}
 use Rattle.channel_lines.proofs.ChannelLines.{board-few}
 use Rattle.machine_laws.proofs.Sound.{ids-few}
 use Rattle.display.specs.Display.{displayLines}
-use Rattle.records.specs.Records.{Lists}
+use Rattle.image.specs.Image.{stateOf}
+use Rattle.waiting_list.specs.WaitingList.{Sound as SoundBytes}
+use Rattle.record_structs.specs.declared.Waiter.{Waiter}
+use Rattle.record_structs.specs.RecordStructs.{waiterOf, waitersIn, Full, Tells}
 use Rattle.display_lines.specs.DisplayLines.{displayOf, Shows as ShowsDisplay}
 use Rattle.display_lines.proofs.DisplayLines.{display-lines}
 use Rattle.lines.proofs.Laws.{length-told}
 use Rattle.gathering.specs.Lumps.{used}
 use Rattle.serving.proofs.Laws.{feed-few}
 use Rattle.taking.specs.declared.Show.{Show}
-use Rattle.taking.specs.declared.Taken.{Taken}
-use Rattle.taking.specs.Desk.{hidden, shownOf, fed, answered, needed, Leaves}
+use Rattle.taking.specs.Desk.{Taken, hidden, shownOf, fed, answered, needed, Leaves}
 use Rattle.taking.proofs.Kept.{Fine, fed-next, answered-fine, leaves-state}
 use Rattle.taking.proofs.Laws.{fed-hidden}
 use Rattle.putting.specs.Putting.{Adds, textOf, Puts}
@@ -97,22 +99,34 @@ module _ {s : Board} {tb : List ℕ} (h : Held s tb) where
   few-waiting : length (stateIn s tb .waiting) ≤ 64
   few-waiting = let a = ids-few (stateIn s tb) (held-parts h) in omega arith
 
-  pub listed-few : {l l′ : List ℕ} {n : ℕ} → Lists s tb l n l′ → n ≤ 64
-  listed-few q = let a = few-waiting in let b = q .count in omega arith
+pub spelt-long : {w : ℕ} {dp : List ℕ} {ws : List Waiter} {lent b : List ℕ} {j : ℕ} → ShowsDisplay w dp ws lent j b → length lent ≡ 743
+    → length b ≡ 743
+spelt-long {w} {dp} {ws} {lent} q f =
+    let a = q .few in let c = q .count in ap length (q .bytes) ∙ (length-splice lent 0 (displayOf w dp ws) (omega arith) ∙ f)
 
-  module _ {dp l l′ lent b : List ℕ} {n j : ℕ} (q : Lists s tb l n l′) (w : ShowsDisplay (s .width) dp l′ n lent j b) where
-    spelt-lines : displayOf (s .width) dp l′ n ≡ displayLines (stateIn s tb) dp
-    unfolding splice
+-- a sound state's list of structs, in an array of 64
+module _ {st tb : List ℕ} (sound : SoundBytes st tb) {ws : List Waiter} (room : 64 ≤ length ws) {e n : ℕ} {ws′ : List Waiter}
+    (q : Tells st tb ws e n ws′) where
+  all : Full st tb ws e n ws′
+  all = q .full sound room
+
+  pub listed-few : n ≤ 64
+  listed-few = let a = few-waiting (sound .1) in let b = all .count in omega arith
+
+  -- its front is who waits
+  front : take n ws′ ≡ waitersIn (stateIn (stateOf st) tb)
+  front =
+      let c = length-map (stateIn (stateOf st) tb .waiting) (waiterOf (stateIn (stateOf st) tb .channels)) in
+      ap (take n) (all .list) ∙ take-at (waitersIn (stateIn (stateOf st) tb)) (drop n ws) n (c ∙ sym (all .count))
+
+  module _ {dp lent b : List ℕ} {j : ℕ} (w : ShowsDisplay (stateOf st .width) dp (take n ws′) lent j b) where
+    spelt-lines : displayOf (stateOf st .width) dp (take n ws′) ≡ displayLines (stateIn (stateOf st) tb) dp
     spelt-lines =
-        let σ = stateIn s tb in
-        ap (λ w. displayOf w dp l′ n) (held-width h) ∙ ap₂ (λ k x. displayOf (length (σ .channels)) dp x k) (q .count) (q .filled) ∙ display-lines σ dp _
-
-    pub spelt-long : length lent ≡ 743 → length b ≡ 743
-    spelt-long f =
-        let a = w .few in let c = w .count in ap length (w .bytes) ∙ (length-splice lent 0 (displayOf (s .width) dp l′ n) (omega arith) ∙ f)
+        let σ = stateIn (stateOf st) tb in
+        ap₂ (λ (k : ℕ) (x : List Waiter). displayOf k dp x) (held-width (sound .1)) front ∙ display-lines σ dp
 
     pub display-shown : {show : Bool} {page page′ : List ℕ} {at : ℕ} → show ≡ true → page′ ≡ splice page at (take j b)
-        → Adds page at (if show then displayLines (stateIn s tb) dp else []) (at + j) page′
+        → Adds page at (if show then displayLines (stateIn (stateOf st) tb) dp else []) (at + j) page′
     display-shown e p = rw e (add-front lent (w .count ∙ ap length spelt-lines) (w .bytes ∙ ap (splice lent 0) spelt-lines) p)
 
 pub display-hidden : {show : Bool} (s : StateM) (dp page : List ℕ) (at : ℕ) → show ≡ false → Adds page at (if show then displayLines s dp else []) at page

@@ -15,8 +15,7 @@ use Rattle.machine.specs.Lists.{if_then_else_}
 use Rattle.memory.specs.Splice.{splice}
 use Rattle.board.specs.Board.{stateIn}
 use Rattle.taking.specs.declared.Show.{Show}
-use Rattle.taking.specs.declared.Taken.{Taken}
-use Rattle.taking.specs.Desk.{shownOf}
+use Rattle.taking.specs.Desk.{Taken, shownOf}
 
 pub record Adds (page : List ℕ) (at : ℕ) (xs : List ℕ) (r : ℕ) (page′ : List ℕ) : Type 0 where
   pub count : r ≡ at + length xs

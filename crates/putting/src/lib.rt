@@ -1,7 +1,8 @@
 // A line's output put on a lent page, behind what stands there, then what is shown of the board. Assumes nothing.
-use board::Board;
+use record_structs::ROOM;
+use record_structs::Waiter;
+use taking::Left;
 use taking::Show;
-use taking::Taken;
 ghost use Prim.Native.Nat.{_+_, _≤_};
 ghost use mathlib.Core.Path.{_≡_};
 ghost use mathlib.Core.List.{[]};
@@ -10,17 +11,21 @@ ghost use Rattle.machine.specs.Lists.{if_then_else_};
 ghost use Rattle.board.specs.Board.{stateIn, Held};
 ghost use Rattle.channel_lines.specs.ChannelLines.{boardLines};
 ghost use Rattle.display.specs.Display.{displayLines};
-ghost use Rattle.taking.specs.Desk.{needed};
+ghost use Rattle.image.specs.Image.{stateOf, Whole};
+ghost use Rattle.taking.specs.Desk.{takenIn, needed};
 ghost use Rattle.putting.specs.Putting.{Adds, Puts};
 
 // The channels' lines behind the first `at` bytes of the page, where they are shown; how many bytes then stand.
-fn put_channels(show: bool, s: Board, page: &mut [u8], at: usize) -> usize
-    requires { ⌜ (length (s .state .channels) ≡ 8) × (at + (if show then 120 else 0) ≤ length (now page)) ⌝ }
-    ensures { λ r. ⌜ Adds (now (page .entry)) at (if show then boardLines s else []) r (now (page .exit)) ⌝ }
+fn put_channels(show: bool, state: &[u8], page: &mut [u8], at: usize) -> usize
+    requires { ⌜ Whole (now state) × (length (stateOf (now state) .state .channels) ≡ 8)
+        × (at + (if show then 120 else 0) ≤ length (now page)) ⌝ }
+    ensures { λ r. ⌜ Adds (now (page .entry)) at (if show then boardLines (stateOf (now (state .entry))) else []) r
+        (now (page .exit)) ⌝ }
 {
     if !show {
         return at;
     }
+    let s = decoding::load(state);
     let mut board = [0u8; 120];
     let k = channel_lines::channels(s, &mut board);
     memory::copy(page, at, &board[..k]);
@@ -30,22 +35,32 @@ fn put_channels(show: bool, s: Board, page: &mut [u8], at: usize) -> usize
 // The lines of the display, likewise.
 fn put_display(
     show: bool,
-    s: Board,
+    state: &[u8],
     table: &[u8],
-    display: &[u8; 18],
+    display: &[u8; audio::DISPLAY_SIZE],
     page: &mut [u8],
     at: usize,
 ) -> usize
-    requires { ⌜ Held s (now table) × (at + (if show then 743 else 0) ≤ length (now page)) ⌝ }
-    ensures { λ r. ⌜ Adds (now (page .entry)) at (if show then displayLines (stateIn s (now (table .entry))) (now (display .entry)) else []) r (now (page .exit)) ⌝ }
+    requires { ⌜ Whole (now state) × Held (stateOf (now state)) (now table)
+        × (at + (if show then 743 else 0) ≤ length (now page)) ⌝ }
+    ensures { λ r. ⌜ Adds (now (page .entry)) at (if show then displayLines
+        (stateIn (stateOf (now (state .entry))) (now (table .entry))) (now (display .entry)) else []) r (now (page .exit)) ⌝ }
 {
     if !show {
         return at;
     }
-    let mut waiting = [0u8; 256];
-    let n = records::fill(s, table, &mut waiting);
+    let width = lent::width(state);
+    let none = Waiter {
+        id: 0,
+        prec: 0,
+        held: false,
+        desk: 0,
+    };
+    let w = record_structs::in_array(state, table, [none; ROOM]);
+    let listed = w.listed;
+    let list = w.list;
     let mut text = [0u8; 743];
-    let k = display_lines::spell(s.width, display, &waiting, n, &mut text);
+    let k = display_lines::spell(width, display, list, listed.count, &mut text);
     memory::copy(page, at, &text[..k]);
     at + k
 }
@@ -54,31 +69,31 @@ fn put_display(
 // nothing is put.
 pub fn put(
     show: Show,
-    t: Taken,
+    state: &[u8],
+    t: Left,
     table: &[u8],
-    display: &[u8; 18],
+    display: &[u8; audio::DISPLAY_SIZE],
     out: &[u8],
     page: &mut [u8],
     at: usize,
-) -> Taken
-    requires { ⌜ (t .at ≤ 973) × (length (now out) ≡ 973) × Held (t .state) (now table) × (at + needed show ≤ length (now page)) ⌝ }
-    ensures { λ r. ⌜ Puts show t (now (table .entry)) (now (display .entry)) (now (out .entry)) (now (page .entry)) at r (now (page .exit)) ⌝ }
+) -> Left
+    requires { ⌜ Whole (now state) × (t .at ≤ 973) × (length (now out) ≡ 973) × Held (stateOf (now state)) (now table)
+        × (at + needed show ≤ length (now page)) ⌝ }
+    ensures { λ r. ⌜ Puts show (takenIn (now (state .entry)) t) (now (table .entry)) (now (display .entry)) (now (out .entry))
+        (now (page .entry)) at (takenIn (now (state .entry)) r) (now (page .exit)) ⌝ }
 {
-    let s = t.state;
     let n = t.at;
     if n == 0 {
-        return Taken {
-            state: s,
+        return Left {
             line: t.line,
             used: t.used,
             at,
         };
     }
     memory::copy(page, at, &out[..n]);
-    let k = put_channels(show.channels, s, page, at + n);
-    let e = put_display(show.display, s, table, display, page, k);
-    Taken {
-        state: s,
+    let k = put_channels(show.channels, state, page, at + n);
+    let e = put_display(show.display, state, table, display, page, k);
+    Left {
         line: t.line,
         used: t.used,
         at: e,

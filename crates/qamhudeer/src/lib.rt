@@ -1,6 +1,7 @@
 // The arbiter for programs in C: every exported function, and nothing else. Each forwards to a library function with the same promise.
 // None asks anything of its caller but memory that is its own. Assumes nothing.
 ghost use mathlib.Core.Path.{_≡_};
+ghost use Rattle.qamhudeer.specs.Version.{VERSION};
 ghost use Rattle.image.specs.Image.{STATE, CHANNEL, LOCKS, WAITERS, WAITING, OPENS, LAST, CHANNELS};
 ghost use Rattle.display.specs.Display.{DISPLAY};
 ghost use Rattle.sizes.specs.Sizes.{TABLE, REPLIES, ANSWER, PORT, ROOM, RECORDS};
@@ -18,7 +19,14 @@ ghost use Rattle.last_line.specs.LastLine.{Ends};
 ghost use Rattle.machine.specs.Lists.{if_then_else_};
 ghost use Rattle.stereo.specs.Stereo.{Listed, accepts};
 
-// ---- sizes and places, for the header to be held against
+// ---- the version, sizes and places, for the header to be held against
+
+#[no_mangle]
+pub extern "C" fn qamhudeer_version() -> u32
+    ensures { λ r. ⌜ r ≡ VERSION ⌝ }
+{
+    70300
+}
 
 #[no_mangle]
 pub extern "C" fn qamhudeer_state_size() -> usize

@@ -17,9 +17,7 @@ use Rattle.machine.specs.Sound.{soundTone, soundPervol, soundWrite, forgets, so
 use Rattle.machine.proofs.Tests.{by-test, test-true, test-false, and-left, and-right, or-named}
 use Rattle.machine_laws.proofs.Maps.{lowest-on}
 use Rattle.store.specs.Store.{Each}
-
-abbrev pub Bytes : List ℕ → Type 0
-Bytes bs = Each (λ b. b < 256) bs
+use Rattle.read_back.specs.ReadBack.{Bytes}
 
 -- ---- each of a list
 

@@ -12,12 +12,14 @@ use Rattle.machine.specs.State.{Write, Channel, Lock, Request, State}
 use Rattle.machine.specs.Numbers.{ENTRIES, KEYS}
 use Rattle.machine.specs.Sound.{sound, soundChannel, soundLock, soundWaiter, soundRequest, soundPervol, soundOpens, writesOf}
 use Rattle.machine.proofs.Tests.{and-right}
+use Rattle.machine.specs.InBytes.{markOf}
 use Rattle.machine_laws.proofs.Sound.{parts}
 use Rattle.table.specs.Entry.{toneBytes, pervolBytes}
 use Rattle.store.specs.Store.{Each, Small}
 use Rattle.store.proofs.Store.{lock-ids, waiter-ids, wait-ids, write-ids}
-use Rattle.saved.specs.Saved.{markOf, kept, channelFrame, requestFrame, spanFrame, writeFrame, writeFrames, keyFrame, frames, LOCK, WAITCYCLE, OPEN, LAST}
-use Rattle.read_back.proofs.Fits.{Bytes, each-all, ToneFits, tone-fits, WriteFits, each-write, ChannelFits, channel-fits, SpanFits, lock-fits, waiter-fits, RequestFits, request-fits}
+use Rattle.saved.specs.Saved.{kept, channelFrame, requestFrame, spanFrame, writeFrame, writeFrames, keyFrame, frames, LOCK, WAITCYCLE, OPEN, LAST}
+use Rattle.read_back.specs.ReadBack.{Bytes}
+use Rattle.read_back.proofs.Fits.{each-all, ToneFits, tone-fits, WriteFits, each-write, ChannelFits, channel-fits, SpanFits, lock-fits, waiter-fits, RequestFits, request-fits}
 use Rattle.read_back.proofs.Spelt.{Frame}
 
 -- ---- parts of a frame

@@ -13,18 +13,19 @@ use lib.ListN.{length, getD, take, drop, set, replicate}
 use Rattle.memory.specs.Splice.{splice}
 use Rattle.machine.specs.Lists.{if_then_else_}
 use Rattle.machine.specs.State.{Write, Channel as ChannelM, Lock, Request, free}
+use Rattle.machine.specs.InBytes.{markOf, signed}
 use Rattle.queue.specs.declared.Queue.{Queue}
 use Rattle.queue.specs.Queue.{queueOf, pushed}
 use Rattle.channel.specs.declared.Channel.{Channel}
 use Rattle.channel.specs.Channel.{channelOf, withWrites}
 use Rattle.table.specs.Entry.{waitEntry, spanEntry, lockEntry, waiterEntry, writeEntry, numberBytes, pervolBytes}
 use Rattle.store.specs.declared.State.{State}
-use Rattle.saved.specs.Saved.{channelFrame, requestFrame, spanFrame, writeFrame, keyFrame, kept, signed, markOf, LOCK, WAITCYCLE, OPEN, LAST}
-use Rattle.sheet.specs.Sheet.{sheet, stored, channelFrom, numbersFrom, tookChannel, tookRequest, tookLock, tookWaiter, tookWrite, tookOpen, tookLast, requestEntry, spanOf, writeOf, addedKey, hasChannel, hasRequest, hasSpan, hasWrite, hasOpen, channelTaken, requestTaken, lockTaken, waiterTaken, writeTaken, openTaken, lastTaken, partTaken, taken, withChannels, withLocks, withWaiters, withWaiting, withOpens, withLast}
+use Rattle.saved.specs.Saved.{channelFrame, requestFrame, spanFrame, writeFrame, keyFrame, kept, LOCK, WAITCYCLE, OPEN, LAST}
+use Rattle.sheet.specs.Sheet.{sheet, channelFrom, numbersFrom, tookChannel, tookRequest, tookLock, tookWaiter, tookWrite, tookOpen, tookLast, requestEntry, spanOf, writeOf, addedKey, hasChannel, hasRequest, hasSpan, hasWrite, hasOpen, channelTaken, requestTaken, lockTaken, waiterTaken, writeTaken, openTaken, lastTaken, partTaken, taken, withChannels, withLocks, withWaiters, withWaiting, withOpens, withLast}
 
 -- ---- numbers
 
-pub stored-signed : (p : ℕ) → p ≤ 255 → stored (signed p) ≡ p
+pub stored-signed : (p : ℕ) → p ≤ 255 → signed (signed p) ≡ p
 stored-signed p h = omega arith
 
 pub mark-in : (b : Bool) → eqb (markOf b) 1 ≡ b

@@ -17,8 +17,11 @@ use Rattle.machine.specs.Lists.{all}
 use Rattle.machine.specs.State.{Write, Channel as ChannelM, Lock, Request, State as StateM, free, frees, freshOn}
 use Rattle.machine.specs.Sound.{sound, soundChannel, soundWrites, soundWrite, soundRequest, forgets, noPervol, writesOf}
 use Rattle.machine.proofs.Tests.{and-left, and-right}
-use Rattle.machine_laws.proofs.Lists.{take as both, sub-refl, sub-append, sub-right}
-use Rattle.machine_laws.proofs.Sound.{Parts, parts, ids-few, opens-few}
+use Rattle.machine.specs.InBytes.{markOf}
+use Rattle.machine_laws.specs.Lists.{take as both}
+use Rattle.machine_laws.proofs.Lists.{sub-refl, sub-append, sub-right}
+use Rattle.machine_laws.specs.Sound.{Parts}
+use Rattle.machine_laws.proofs.Sound.{parts, ids-few, opens-few}
 use Rattle.queue.specs.declared.Queue.{Queue}
 use Rattle.queue.specs.Queue.{queueOf, pushed}
 use Rattle.queue.proofs.Laws.{pushed-of}
@@ -32,18 +35,13 @@ use Rattle.store.specs.declared.State.{State}
 use Rattle.store.specs.Store.{structOf, lookup, Item, writeItem, lockItem, waiterItem, waitItem, writeItems, items, entries, tableOf, Each, Good}
 use Rattle.store.proofs.Table.{ins-at, entry-added, good-sub, ins-small}
 use Rattle.store.proofs.Store.{good-of}
-use Rattle.widening.specs.Widening.{widen}
-use Rattle.saved.specs.Saved.{channelFrame, requestFrame, spanFrame, writeFrame, writeFrames, keyFrame, frames, kept, markOf, LOCK, WAITCYCLE, OPEN, LAST}
-use Rattle.sheet.specs.Sheet.{Sheet, sheet, taken, takenAll, blank, addedKey, withChannels, withLocks, withWaiters, withWaiting, withOpens}
+use Rattle.saved.specs.Saved.{channelFrame, requestFrame, spanFrame, writeFrame, writeFrames, keyFrame, frames, kept, LOCK, WAITCYCLE, OPEN, LAST}
+use Rattle.sheet.specs.Sheet.{sheet, taken, takenAll, blank, addedKey, withChannels, withLocks, withWaiters, withWaiting, withOpens}
+use Rattle.read_back.specs.ReadBack.{keptAll, sheetOf}
 use Rattle.read_back.proofs.Fits.{each-all, ChannelFits, channel-fits, RequestFits, request-fits}
 use Rattle.read_back.proofs.OneFrame.{bare, kept-six, channel-frame, request-frame, lock-frame, waiter-frame, rememberedAt, remembered, write-frame, open-frame, last-frame}
 
 -- ---- D1
-
--- what is remembered for each of the channels
-unfoldable pub keptAll : List ChannelM → List ℕ
-keptAll [] = []
-keptAll (c ∷ cs) = kept (c .writes) ++ keptAll cs
 
 pub length-keptAll : (cs : List ChannelM) → length (keptAll cs) ≡ length cs * 6
 unfolding keptAll
@@ -277,11 +275,6 @@ module _ (st : State) (n : ℕ) (tb ks : List ℕ) (gs : List (List ℕ)) where
       ∙ (opens-read xs (l ++ k ∷ []) (omega arith) ∙ ap (λ (is : List ℕ). takenAll gs (sheet (withOpens (keysOf is) st) n tb ks)) (append-assoc l (k ∷ []) xs))
 
 -- ---- the whole
-
--- the sheet of a state: its struct among eight channels, its table, how many channels it has, and what is remembered for each
-abbrev pub sheetOf : StateM → Sheet
-sheetOf s =
-    sheet (structOf (widen (8 - length (s .channels)) s)) (length (s .channels)) (tableOf s) (keptAll (s .channels) ++ replicate ((8 - length (s .channels)) * 6) 0)
 
 none-table : entries 64 0 [] ≡ replicate 1472 0
 unfolding entries lookup

@@ -20,7 +20,7 @@ use Rattle.hex_lines.specs.HexLines.{octetsOf}
 use Rattle.hex_lines.proofs.HexLines.{length-digits, line-digits}
 use Rattle.reading.specs.Reading.{framesIn}
 use Rattle.saved.specs.Saved.{spelt}
-use Rattle.read_back.proofs.Fits.{Bytes}
+use Rattle.read_back.specs.ReadBack.{Bytes}
 
 -- a frame as a line can carry it
 pub record Frame (f : List ℕ) : Type 0 where

@@ -14,7 +14,8 @@ use Rattle.sheet.specs.Sheet.{Sheet, takenAll}
 use Rattle.reading.specs.Reading.{readFrom}
 use Rattle.read_back.proofs.Spelt.{lines-spelt}
 use Rattle.read_back.proofs.FrameBytes.{frames-bytes}
-use Rattle.read_back.proofs.ReadBack.{sheetOf, read-back}
+use Rattle.read_back.specs.ReadBack.{sheetOf}
+use Rattle.read_back.proofs.ReadBack.{read-back}
 
 module _ (s : State) (sane : T (sound s)) where
   pub sheet-read : readFrom (spelt (frames s)) (replicate 1472 0) ≡ sheetOf s

@@ -12,7 +12,8 @@ use lib.Seq.{drop-at}
 use Rattle.machine.specs.State.{State}
 use Rattle.machine.specs.Sound.{sound}
 use Rattle.machine.specs.Log.{line, digit, hexDigit}
-use Rattle.machine_laws.proofs.Sound.{Parts, parts}
+use Rattle.machine_laws.specs.Sound.{Parts}
+use Rattle.machine_laws.proofs.Sound.{parts}
 use Rattle.display.specs.Display.{writesOn, naming, number}
 use Rattle.display.proofs.Numbers.{number-most}
 use Rattle.display.proofs.Pinned.{number-even, number-odd}
@@ -22,17 +23,14 @@ use Rattle.board.proofs.Laws.{one-state}
 use Rattle.saved.specs.Saved.{FIRST, frames, spelt, text, TextOf}
 use Rattle.sheet.specs.Sheet.{Sheet, blank, partTaken, taken, takenAll}
 use Rattle.reading.specs.Reading.{framesIn, readFrom}
-use Rattle.read_back.proofs.Fits.{Bytes}
+use Rattle.read_back.specs.ReadBack.{Bytes, sheetOf}
 use Rattle.read_back.proofs.Spelt.{Frame, digit-hexDigit, lines-spelt}
 use Rattle.read_back.proofs.FrameBytes.{frames-bytes}
-use Rattle.read_back.proofs.ReadBack.{sheetOf, read-back}
+use Rattle.read_back.proofs.ReadBack.{read-back}
 use Rattle.digits.specs.Digits.{valueOf}
 use Rattle.number_lines.specs.NumberLines.{numberLine, numberLines}
-use Rattle.saved2.specs.Saved2.{SECOND, boardFrame, numberFrame, numberFrames, frames2, text2, TextOf2}
-
--- a text of the second form with any lines where the numbers stand
-unfoldable pub textWith : List (List ℕ) → State → List ℕ
-textWith gs s = spelt (SECOND ∷ boardFrame s ∷ (frames s ++ gs))
+use Rattle.saved2.specs.Saved2.{numberFrame, numberFrames, frames2, text2, TextOf2}
+use Rattle.read_back2.specs.ReadBack2.{textWith}
 
 abbrev pub zeros : List ℕ
 zeros = replicate 1472 0

@@ -4,7 +4,7 @@
 --
 --   fourBytes id p held   a record's bytes, of an id, a stored precedence and the mark
 --   firstRecords cs q tb i   the records of the first i requests of a queue
---   Lists b tb l n l′     the promise of `fill`: l′ has the records of all that wait in front, and is as l behind them; n is their number
+--   Lists b tb l n l′     the promise of `fill_front`: l′ has the records of all that wait in front, and is as l behind them; n is how many
 use Prim.Native.Nat.{ℕ, _+_, _%_}
 use mathlib.Core.Path.{_≡_}
 use mathlib.Core.List.{List, [], _∷_, map}

@@ -79,10 +79,3 @@ pub fn fill_front(b: Board, table: &[u8], out: &mut [u8]) -> usize
     put_all(t, q, table, out);
     q.n as usize
 }
-
-pub fn fill(b: Board, table: &[u8], out: &mut [u8; 256]) -> usize
-    requires { ⌜ Held b (now table) ⌝ }
-    ensures { λ r. ⌜ Lists b (now (table .entry)) (now (out .entry)) r (now (out .exit)) ⌝ }
-{
-    fill_front(b, table, out)
-}

@@ -5,7 +5,8 @@
 use Prim.Native.Nat.{ℕ}
 use mathlib.Core.List.{List, _++_}
 use Rattle.machine.specs.State.{State}
-use Rattle.display.specs.Display.{numbers, looksBytes}
+use Rattle.machine.specs.InBytes.{twoBytes}
+use Rattle.display.specs.Display.{numbers}
 
 abbrev pub counted : State → List ℕ
-counted s = numbers s ++ looksBytes 0
+counted s = numbers s ++ twoBytes 0

@@ -2,6 +2,7 @@
 -- Assumes nothing.
 --
 --   opIn o n               the machine's operation; a command has its number n
+--   opFor o                the machine's operation as the code's; a command's number stands in the request
 --   askedOf o r ms len     the machine's call: a request with combinations ms and a reply list of len bytes, six to a record
 --   openTests .. commandTests    the tests after 1 and 5, which every operation has, each with its number; the board's maps are
 --                          those below the bound, and so many keys are open
@@ -32,6 +33,15 @@ opIn Abort n = ABORT
 opIn CycleEnded n = EVENT CYCLE·ENDED
 opIn GaveUp n = EVENT GAVE·UP
 opIn Command n = COMMAND n
+
+-- an operation as it is handed in
+abbrev pub opFor : OpM → Op
+opFor OPEN = Open
+opFor CLOSE = Close
+opFor ABORT = Abort
+opFor (EVENT CYCLE·ENDED) = CycleEnded
+opFor (EVENT GAVE·UP) = GaveUp
+opFor (COMMAND n) = Command
 
 abbrev pub askedOf : Op → Request → List ℕ → ℕ → Call
 askedOf o r ms len =

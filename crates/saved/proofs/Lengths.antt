@@ -14,9 +14,11 @@ use Rattle.machine.specs.State.{Write, Channel, Lock, Request, State}
 use Rattle.machine.specs.Sound.{sound, soundRequest, writesOf}
 use Rattle.machine.specs.Log.{line}
 use Rattle.machine.proofs.Tests.{and-left, and-right}
-use Rattle.machine_laws.proofs.Sound.{Parts, parts, ids-few, opens-few}
+use Rattle.machine.specs.InBytes.{markOf}
+use Rattle.machine_laws.specs.Sound.{Parts}
+use Rattle.machine_laws.proofs.Sound.{parts, ids-few, opens-few}
 use Rattle.table.specs.Entry.{toneBytes, pervolBytes}
-use Rattle.saved.specs.Saved.{markOf, kept, channelFrame, requestFrame, LOCK, WAITCYCLE, spanFrame, writeFrame, writeFrames, OPEN, LAST, keyFrame, frames, spelt, FIRST, text}
+use Rattle.saved.specs.Saved.{kept, channelFrame, requestFrame, LOCK, WAITCYCLE, spanFrame, writeFrame, writeFrames, OPEN, LAST, keyFrame, frames, spelt, FIRST, text}
 
 -- ---- lines
 

@@ -2,8 +2,6 @@
 -- lines down, with a worked example.
 -- Assumes nothing.
 --
---   two k                 a number of two bytes, the high one first
---   markOf b, signed p    a mark: 1 or 0; a stored precedence (itself plus 128) in two's complement
 --   kept ws               what is remembered for the front write of a channel: FINISH or not, PERVOL or not, its period and volume
 --   channelFrame .. lastFrame   the bytes of one line: of a channel, a waiting request, a lock or WAITCYCLE (by its first byte), a write
 --                         of channel i, an open key, the last key
@@ -12,27 +10,17 @@
 --   spelt fs              lines of hexadecimal, each ended by LF
 --   text s                the saved text of a state
 --   TextOf w s t          the text t was saved of the sound state s of a board with w channels
-use Prim.Native.Nat.{ℕ, suc, _+_, _/_, _%_}
+use Prim.Native.Nat.{ℕ, suc}
 use mathlib.Core.Path.{_≡_}
-use mathlib.Core.Bool.{Bool}
 use mathlib.Core.List.{List, [], _∷_, _++_, map}
 use mathlib.Core.Option.{none}
 use lib.Dec.{T}
 use lib.ListN.{length}
-use Rattle.machine.specs.Lists.{if_then_else_}
 use Rattle.machine.specs.State.{Write, Channel, Lock, Request, State}
 use Rattle.machine.specs.Sound.{sound}
 use Rattle.machine.specs.Log.{line}
+use Rattle.machine.specs.InBytes.{twoBytes, markOf, signed}
 use Rattle.table.specs.Entry.{toneBytes, pervolBytes}
-
-abbrev pub two : ℕ → List ℕ
-two k = (k / 256) ∷ (k % 256) ∷ []
-
-abbrev pub markOf : Bool → ℕ
-markOf b = if b then 1 else 0
-
-abbrev pub signed : ℕ → ℕ
-signed p = (p + 128) % 256
 
 -- #101: what is remembered stands with the front write; what is not is 0
 unfoldable pub kept : List Write → List ℕ
@@ -41,12 +29,12 @@ kept (w ∷ ws) = markOf (w .finish) ∷ pervolBytes (w .pervol)
 
 -- "Then come the channels 0 to 3": key, precedence, locked, stopped, what is remembered
 unfoldable pub channelFrame : Channel → List ℕ
-channelFrame c = 0xD1 ∷ two (c .key) ++ (signed (c .prec) ∷ markOf (c .locked) ∷ markOf (c .stopped) ∷ kept (c .writes))
+channelFrame c = 0xD1 ∷ twoBytes (c .key) ++ (signed (c .prec) ∷ markOf (c .locked) ∷ markOf (c .stopped) ∷ kept (c .writes))
 
 -- "the waiting requests in order": id, key, precedence, NOWAIT or not, how many combinations, the combinations
 unfoldable pub requestFrame : Request → List ℕ
 requestFrame r =
-    0xD2 ∷ r .id ∷ two (r .key) ++ (signed (r .prec) ∷ markOf (r .impatient) ∷ length (r .combos) ∷ r .combos)
+    0xD2 ∷ r .id ∷ twoBytes (r .key) ++ (signed (r .prec) ∷ markOf (r .impatient) ∷ length (r .combos) ∷ r .combos)
 
 abbrev pub LOCK : ℕ
 LOCK = 0xD3
@@ -56,11 +44,11 @@ WAITCYCLE = 0xD4
 
 -- "the locks and the WAITCYCLEs oldest first": id, key, map
 unfoldable pub spanFrame : ℕ → Lock → List ℕ
-spanFrame first l = first ∷ l .id ∷ two (l .key) ++ (l .map ∷ [])
+spanFrame first l = first ∷ l .id ∷ twoBytes (l .key) ++ (l .map ∷ [])
 
 -- "each channel's writes front first": channel, id, cycles left, period, volume
 unfoldable pub writeFrame : ℕ → Write → List ℕ
-writeFrame i w = 0xD5 ∷ i ∷ w .id ∷ two (w .cycles) ++ toneBytes (w .period) (w .volume)
+writeFrame i w = 0xD5 ∷ i ∷ w .id ∷ twoBytes (w .cycles) ++ toneBytes (w .period) (w .volume)
 
 unfoldable pub writeFrames : ℕ → List Channel → List (List ℕ)
 writeFrames i [] = []
@@ -74,7 +62,7 @@ LAST = 0xD7
 
 -- "the open keys in order of opening, the last key"
 unfoldable pub keyFrame : ℕ → ℕ → List ℕ
-keyFrame first k = first ∷ two k
+keyFrame first k = first ∷ twoBytes k
 
 unfoldable pub frames : State → List (List ℕ)
 frames s =

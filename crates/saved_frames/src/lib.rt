@@ -23,10 +23,10 @@ fn take_request(s: State, f: &[u8], table: &mut [u8]) -> State
         return s;
     }
     let q = s.waiting;
-    if f[1] >= 64 {
+    if f[1] >= State::REQUESTS {
         return s;
     }
-    if q.n >= 64 {
+    if q.n >= State::REQUESTS {
         return s;
     }
     let h = Head {

@@ -4,21 +4,30 @@
 --
 --   Keeps t s           the lines of a log, each with what the second program writes, and the lines of a saved text: the state
 --                       after the log has that text
+--   Keeps2 w t s        the same in the second form, on a board of w channels
 --
 -- The texts have every kind of line: waiting requests with and without NOWAIT, locks and WAITCYCLEs of any age, writes of several
--- channels, FINISH and PERVOL remembered, open keys. The first is a fresh board's.
+-- channels, FINISH and PERVOL remembered, open keys. The first of a form and a board is a fresh board's.
 use Prim.Native.String.{String}
 use mathlib.Core.Path.{_≡_, refl}
 use mathlib.Core.List.{List, [], _∷_}
+use Prim.Native.Nat.{ℕ}
 use Rattle.machine.specs.Text.{bytes, page}
-use Rattle.machine.specs.State.{fresh}
+use Rattle.machine.specs.State.{fresh, frees, freshOn}
 use Rattle.machine.specs.Log.{lines, run}
 use Rattle.machine.specs.Drawn.{Talk, given}
 use Rattle.machine.specs.Machine.{machine}
+use Rattle.display.specs.Display.{names, writesOn, naming}
 use Rattle.saved.specs.Saved.{text, kept, channelFrame, requestFrame, spanFrame, writeFrame, writeFrames, keyFrame, frames, spelt}
+use Rattle.saved2.specs.Saved2.{numberFrame, numberFrames, frames2, text2}
 
 abbrev pub Keeps : Talk → List String → Type 0
 Keeps t s = text (run fresh (lines (page (given t))) .next) ≡ page s
+
+abbrev pub Keeps2 : ℕ → Talk → List String → Type 0
+Keeps2 w t s = text2 (run (freshOn w) (lines (page (given t))) .next) ≡ page s
+
+-- ---- The first form
 
 abbrev pub fresh-board-lines : Talk
 fresh-board-lines =
@@ -630,3 +639,565 @@ of-queues-text =
 pub of-queues : Keeps of-queues-lines of-queues-text
 unfolding machine bytes page text kept channelFrame requestFrame spanFrame writeFrame writeFrames keyFrame frames spelt
 of-queues = refl
+
+-- ---- The second form, of four channels
+
+abbrev pub fresh-board-2-lines : Talk
+fresh-board-2-lines =
+    []
+
+abbrev pub fresh-board-2-text : List String
+fresh-board-2-text =
+    "D002"
+    ∷ "D804"
+    ∷ "D10000000000000000000000"
+    ∷ "D10000000000000000000000"
+    ∷ "D10000000000000000000000"
+    ∷ "D10000000000000000000000"
+    ∷ "D70000"
+    ∷ "D9000000"
+    ∷ "D9010000"
+    ∷ "D9020000"
+    ∷ "D9030000"
+    ∷ []
+
+pub fresh-board-2 : Keeps2 4 fresh-board-2-lines fresh-board-2-text
+unfolding machine bytes page frees names writesOn naming numberFrame numberFrames frames2 text2 kept channelFrame requestFrame spanFrame writeFrame writeFrames keyFrame frames spelt
+fresh-board-2 = refl
+
+abbrev pub of-everything-2-lines : Talk
+of-everything-2-lines =
+    ("033201000200000400020004", "A002000000FF" ∷ [])
+    ∷ ("F0140100020000100606040509040B0804010D0607040306", "A000060001FF" ∷ [])
+    ∷ ("0D32000214000100", "A100000001FF" ∷ [])
+    ∷ ("0D10000602000100", "A100000001FF" ∷ [])
+    ∷ ("0E00000202000100", "C0000E00020001" ∷ "A000020001FF" ∷ [])
+    ∷ ("200700067F0000030F040D", "C0100DF4060001" ∷ "A100000000FF" ∷ [])
+    ∷ ("0D1D000603000100", "C01D0DF4060001" ∷ "A100000001FF" ∷ [])
+    ∷ ("203700007F000002080E", "C0372000080002" ∷ "A000080002FF" ∷ [])
+    ∷ ("0316010881000200", "A100000002FF" ∷ [])
+    ∷ ("0325010801000206000200007C40", "A100000002FF" ∷ [])
+    ∷ ("F002010401000100", "A000000001FF" ∷ [])
+    ∷ ("0D3701060A000100", "C0370DF4060001" ∷ "A100000001FF" ∷ [])
+    ∷ ("03000106FD000106000000008F40", "A100000001FF" ∷ [])
+    ∷ ("0D26010600000100", "C0260DF4060001" ∷ "A100000001FF" ∷ [])
+    ∷ ("0E04010800000200", "A100000002FF" ∷ [])
+    ∷ ("0D0D350203000100", "A100000001FF" ∷ [])
+    ∷ ("0B1D2006FD000100", "C01D0B00060001" ∷ "A000060001FF" ∷ [])
+    ∷ ("093C0104FF000100", "C0072000040003" ∷ "A000040001FF" ∷ [])
+    ∷ ("0E3B000801000200", "A100000002FF" ∷ [])
+    ∷ ("0B09200E01000200", "C0090BF6080002" ∷ "A0F6080002FF" ∷ [])
+    ∷ ("0E1F0002FE000100", "A100000001FF" ∷ [])
+    ∷ ("0238000800000100", "C03802F6000001" ∷ "A0F6000001FF" ∷ [])
+    ∷ ("0337A904FD000306000000024140", "A100000003FF" ∷ [])
+    ∷ ("2033000F7F0000100C050405080C070F0F04000106020908", "C0332000000004" ∷ "A000000004FF" ∷ [])
+    ∷ ("201B00007F0000100505050505050505050505050505050F", "A100000000FF" ∷ [])
+    ∷ ("0D170902FE000100", "A100000001FF" ∷ [])
+    ∷ []
+
+abbrev pub of-everything-2-text : List String
+of-everything-2-text =
+    "D002"
+    ∷ "D804"
+    ∷ "D10000000000000000000000"
+    ∷ "D10001020100010000000000"
+    ∷ "D100037F0000000000000000"
+    ∷ "D100027F0000010000000000"
+    ∷ "D21B00007F00100505050505050505050505050505050F"
+    ∷ "D332000102"
+    ∷ "D30D000102"
+    ∷ "D317000102"
+    ∷ "D404000208"
+    ∷ "D43B000208"
+    ∷ "D41F000102"
+    ∷ "D50100000000008F40"
+    ∷ "D50237000000024140"
+    ∷ "D50316000100007C40"
+    ∷ "D50325000200007C40"
+    ∷ "D60001"
+    ∷ "D60001"
+    ∷ "D70004"
+    ∷ "D9000001"
+    ∷ "D9010101"
+    ∷ "D9020101"
+    ∷ "D9030201"
+    ∷ []
+
+pub of-everything-2 : Keeps2 4 of-everything-2-lines of-everything-2-text
+unfolding machine bytes page frees names writesOn naming numberFrame numberFrames frames2 text2 kept channelFrame requestFrame spanFrame writeFrame writeFrames keyFrame frames spelt
+of-everything-2 = refl
+
+abbrev pub of-cuts-2-lines : Talk
+of-cuts-2-lines =
+    ("F02301000A0000010A", "A0000A0001FF" ∷ [])
+    ∷ ("F017410AFF000100", "A000000001FF" ∷ [])
+    ∷ ("F227010C0A000100", "A00000000100" ∷ [])
+    ∷ ("0E09010202000100", "A000020001FF" ∷ [])
+    ∷ ("0302010AFF00010600030002ED21", "A100000001FF" ∷ [])
+    ∷ ("203A01008100050101", "A000010005FF" ∷ [])
+    ∷ ("0B0A600E01000100", "C00A0BF60A0001" ∷ "A0F60A0001FF" ∷ [])
+    ∷ ("073A000103000500", "C03A0700010005" ∷ "A000010005FF" ∷ [])
+    ∷ ("03300001FF000500", "A100000005FF" ∷ [])
+    ∷ ("200C0108FE00011009090909090909090909090909090901", "C03003FE000005" ∷ "A000010001FF" ∷ [])
+    ∷ ("F324010200000100", "C00203FE000001" ∷ "A000020001FF" ∷ [])
+    ∷ ("20320000000000020304", "C0322000040002" ∷ "A000040002FF" ∷ [])
+    ∷ ("0C0560030A00010600000003952D", "C0050C00030001" ∷ "A000030001FF" ∷ [])
+    ∷ ("F2234F00FDFFFD00", "A00000FFFD00" ∷ [])
+    ∷ ("06280104FE000200", "A000040002FF" ∷ [])
+    ∷ ("20210100FF000702080B", "A100000007FF" ∷ [])
+    ∷ ("0E06000414000200", "C0060E00040002" ∷ "A000040002FF" ∷ [])
+    ∷ ("031C4001FE00020600010001BA18", "C01C03F6000002" ∷ "A0F6000002FF" ∷ [])
+    ∷ ("032B4108FF000000", "A0F6000000FF" ∷ [])
+    ∷ ("0314010B00000100", "A100000001FF" ∷ [])
+    ∷ ("033FB40BFE000106000300015503", "A100000001FF" ∷ [])
+    ∷ ("0E10410103000100", "A100000001FF" ∷ [])
+    ∷ ("0C110001FE000106000000023931", "C0110C00010001" ∷ "A000010001FF" ∷ [])
+    ∷ ("0B1F210F03000100", "A0F60B0001FF" ∷ [])
+    ∷ ("0E15000102000100", "A100000001FF" ∷ [])
+    ∷ ("201F000BFD000103010900", "C01F2000000001" ∷ "A000000001FF" ∷ [])
+    ∷ []
+
+abbrev pub of-cuts-2-text : List String
+of-cuts-2-text =
+    "D002"
+    ∷ "D804"
+    ∷ "D10001FE0000010000000000"
+    ∷ "D100010A0000000000000000"
+    ∷ "D10002000001000000000000"
+    ∷ "D100010A0000000000000000"
+    ∷ "D2210007FF0002080B"
+    ∷ "D410000101"
+    ∷ "D415000101"
+    ∷ "D50014000100023931"
+    ∷ "D5003F000300015503"
+    ∷ "D60001"
+    ∷ "D60001"
+    ∷ "D70002"
+    ∷ "D9000201"
+    ∷ "D9010001"
+    ∷ "D9020000"
+    ∷ "D9030001"
+    ∷ []
+
+pub of-cuts-2 : Keeps2 4 of-cuts-2-lines of-cuts-2-text
+unfolding machine bytes page frees names writesOn naming numberFrame numberFrames frames2 text2 kept channelFrame requestFrame spanFrame writeFrame writeFrames keyFrame frames spelt
+of-cuts-2 = refl
+
+abbrev pub of-many-waiting-2-lines : Talk
+of-many-waiting-2-lines =
+    ("F0284100FF000000", "A000000001FF" ∷ [])
+    ∷ ("F415000803000000", "A000000000FF" ∷ [])
+    ∷ ("F03301010A000000", "A000000002FF" ∷ [])
+    ∷ ("0D354100FE000000", "A000000000FF" ∷ [])
+    ∷ ("073941050A000000", "A0F6000000FF" ∷ [])
+    ∷ ("202341000139B002040F", "A0000439B0FF" ∷ [])
+    ∷ ("202C0100FF0005020103", "A000010005FF" ∷ [])
+    ∷ ("073E4001FD000500", "C03E0700010005" ∷ "A000010005FF" ∷ [])
+    ∷ ("0D0E0104FF39B000", "A1000039B0FF" ∷ [])
+    ∷ ("0D2A400101000500", "A100000005FF" ∷ [])
+    ∷ ("20364004180000020808", "C0362000080003" ∷ "A000080003FF" ∷ [])
+    ∷ ("03014108FE000306F17D00007D40", "A100000003FF" ∷ [])
+    ∷ ("0D2540040339B000", "A1000039B0FF" ∷ [])
+    ∷ ("0A3F01040239B000", "A0000439B0FF" ∷ [])
+    ∷ ("0D264004FD39B000", "A1000039B0FF" ∷ [])
+    ∷ ("0A204104FD39B000", "A0000439B0FF" ∷ [])
+    ∷ ("03290008FF000300", "A100000003FF" ∷ [])
+    ∷ ("20276F0FFD00030104", "A0F5000003FF" ∷ [])
+    ∷ ("202741040239B003080E01", "C02A0DF4010005" ∷ "A1000039B0FF" ∷ [])
+    ∷ ("0A154004FE39B000", "C0150A000439B0" ∷ "A0000439B0FF" ∷ [])
+    ∷ ("0D0A010F03000300", "A0F6000003FF" ∷ [])
+    ∷ ("0D04EA0C003bB000", "A007000000FF" ∷ [])
+    ∷ ("0D0C400D00000800", "C00C0DF6000008" ∷ "A0F6000008FF" ∷ [])
+    ∷ ("0D3E40087F000300", "A100000003FF" ∷ [])
+    ∷ ("0A05000801000300", "C0050A00080003" ∷ "A000080003FF" ∷ [])
+    ∷ ("0E3F410801000300", "A100000003FF" ∷ [])
+    ∷ []
+
+abbrev pub of-many-waiting-2-text : List String
+of-many-waiting-2-text =
+    "D002"
+    ∷ "D804"
+    ∷ "D10005FF0100000000000000"
+    ∷ "D10000000000000000000000"
+    ∷ "D139B0FE0100000000000000"
+    ∷ "D10003010100000000000000"
+    ∷ "D22739B0020103080E01"
+    ∷ "D30E39B004"
+    ∷ "D32539B004"
+    ∷ "D32639B004"
+    ∷ "D33E000308"
+    ∷ "D43F000308"
+    ∷ "D50301F17D00007D40"
+    ∷ "D50329000100007C40"
+    ∷ "D60001"
+    ∷ "D60002"
+    ∷ "D70003"
+    ∷ "D9000001"
+    ∷ "D9010001"
+    ∷ "D9020001"
+    ∷ "D9030201"
+    ∷ []
+
+pub of-many-waiting-2 : Keeps2 4 of-many-waiting-2-lines of-many-waiting-2-text
+unfolding machine bytes page frees names writesOn naming numberFrame numberFrames frames2 text2 kept channelFrame requestFrame spanFrame writeFrame writeFrames keyFrame frames spelt
+of-many-waiting-2 = refl
+
+-- ---- The second form, of eight channels
+
+abbrev pub fresh-board-of-8-lines : Talk
+fresh-board-of-8-lines =
+    []
+
+abbrev pub fresh-board-of-8-text : List String
+fresh-board-of-8-text =
+    "D002"
+    ∷ "D808"
+    ∷ "D10000000000000000000000"
+    ∷ "D10000000000000000000000"
+    ∷ "D10000000000000000000000"
+    ∷ "D10000000000000000000000"
+    ∷ "D10000000000000000000000"
+    ∷ "D10000000000000000000000"
+    ∷ "D10000000000000000000000"
+    ∷ "D10000000000000000000000"
+    ∷ "D70000"
+    ∷ "D9000000"
+    ∷ "D9010000"
+    ∷ "D9020000"
+    ∷ "D9030000"
+    ∷ "D9040000"
+    ∷ "D9050000"
+    ∷ "D9060000"
+    ∷ "D9070000"
+    ∷ []
+
+pub fresh-board-of-8 : Keeps2 8 fresh-board-of-8-lines fresh-board-of-8-text
+unfolding machine bytes page frees names writesOn naming numberFrame numberFrames frames2 text2 kept channelFrame requestFrame spanFrame writeFrame writeFrames keyFrame frames spelt
+fresh-board-of-8 = refl
+
+abbrev pub of-everything-of-8-lines : Talk
+of-everything-of-8-lines =
+    ("033201000200000400020004", "A002000000FF" ∷ [])
+    ∷ ("F014010002000010605E44489420B5402002D4577720305F", "A000600001FF" ∷ [])
+    ∷ ("0D32002014000100", "A100000001FF" ∷ [])
+    ∷ ("0D10006002000100", "A100000001FF" ∷ [])
+    ∷ ("0E00000402000000", "C0000EF6000000" ∷ "A0F6000000FF" ∷ [])
+    ∷ ("200700607F000003F93DD6", "C0100DF4600001" ∷ "C0320DF4200001" ∷ "A100000000FF" ∷ [])
+    ∷ ("0D1D006003000100", "C01D0DF4600001" ∷ "A100000001FF" ∷ [])
+    ∷ ("203700007F0000027AEC", "A100000000FF" ∷ [])
+    ∷ ("0316016081000100", "A100000001FF" ∷ [])
+    ∷ ("0325012001000106000200007C40", "A100000001FF" ∷ [])
+    ∷ ("F002014001000100", "A000000001FF" ∷ [])
+    ∷ ("0D3801600A000100", "C0380DF4600001" ∷ "A100000001FF" ∷ [])
+    ∷ ("03000160FD000106000000008F40", "A100000001FF" ∷ [])
+    ∷ ("0D26016000000100", "C0260DF4600001" ∷ "A100000001FF" ∷ [])
+    ∷ ("0E04012000000100", "A100000001FF" ∷ [])
+    ∷ ("0D0D352003000100", "C00D0DF4200001" ∷ "A100000001FF" ∷ [])
+    ∷ ("0B1D2060FD000100", "C01D0B00600001" ∷ "A000600001FF" ∷ [])
+    ∷ ("093C0140FF000100", "C0072000D60002" ∷ "A000400001FF" ∷ [])
+    ∷ ("0E3B008001000200", "C03B0E00800002" ∷ "A000800002FF" ∷ [])
+    ∷ ("0B09206601000100", "C0090BF6200001" ∷ "A0F6200001FF" ∷ [])
+    ∷ ("0E1F0020FE000100", "A100000001FF" ∷ [])
+    ∷ ("0238008100000200", "C03802F6000002" ∷ "A0F6000002FF" ∷ [])
+    ∷ ("0338A9D6FD000206000000024140", "A100000002FF" ∷ [])
+    ∷ ("203200FE7F000010C74A444880CB6CF0FB10000F64049840", "C0322000000003" ∷ "A000000003FF" ∷ [])
+    ∷ ("201B00007F000010545454545454545454545454545454EF", "A100000000FF" ∷ [])
+    ∷ ("0D1709D6FE000200", "A100000002FF" ∷ [])
+    ∷ []
+
+abbrev pub of-everything-of-8-text : List String
+of-everything-of-8-text =
+    "D002"
+    ∷ "D808"
+    ∷ "D10000000000000000000000"
+    ∷ "D100027F0100000000000000"
+    ∷ "D100027F0100000000000000"
+    ∷ "D10000000000000000000000"
+    ∷ "D100027F0100000000000000"
+    ∷ "D10001020100010000000000"
+    ∷ "D100027F0100000000000000"
+    ∷ "D100027F0100000000000000"
+    ∷ "D23700007F00027AEC"
+    ∷ "D21B00007F0010545454545454545454545454545454EF"
+    ∷ "D3170002D6"
+    ∷ "D404000120"
+    ∷ "D41F000120"
+    ∷ "D50138000000024140"
+    ∷ "D50516000100007C40"
+    ∷ "D50525000200007C40"
+    ∷ "D50500000000008F40"
+    ∷ "D60001"
+    ∷ "D60001"
+    ∷ "D70003"
+    ∷ "D9000001"
+    ∷ "D9010102"
+    ∷ "D9020002"
+    ∷ "D9030002"
+    ∷ "D9040002"
+    ∷ "D9050302"
+    ∷ "D9060002"
+    ∷ "D9070002"
+    ∷ []
+
+pub of-everything-of-8 : Keeps2 8 of-everything-of-8-lines of-everything-of-8-text
+unfolding machine bytes page frees names writesOn naming numberFrame numberFrames frames2 text2 kept channelFrame requestFrame spanFrame writeFrame writeFrames keyFrame frames spelt
+of-everything-of-8 = refl
+
+abbrev pub of-cuts-of-8-lines : Talk
+of-cuts-of-8-lines =
+    ("F02301000A000001AA", "A000AA0001FF" ∷ [])
+    ∷ ("F01741AAFF000100", "A000000001FF" ∷ [])
+    ∷ ("F22701C60A000100", "A00000000100" ∷ [])
+    ∷ ("0E09010402000000", "A0F6000000FF" ∷ [])
+    ∷ ("030201AAFF00010600030002ED21", "A100000001FF" ∷ [])
+    ∷ ("203A01008100050101", "A000010005FF" ∷ [])
+    ∷ ("0B0A60EA01000100", "C00A0BF6AA0001" ∷ "A0F6AA0001FF" ∷ [])
+    ∷ ("073A000103000500", "C03A0700010005" ∷ "A000010005FF" ∷ [])
+    ∷ ("033000AAFF000100", "A100000001FF" ∷ [])
+    ∷ ("200C0182FE00011089898989898989898989898989898901", "A000010001FF" ∷ [])
+    ∷ ("F324010200000100", "C00203FE000001" ∷ "A000020001FF" ∷ [])
+    ∷ ("20320000000000022310", "C0322000100002" ∷ "A000100002FF" ∷ [])
+    ∷ ("0C0560020A00010600000003952D", "C0050C00020001" ∷ "A000020001FF" ∷ [])
+    ∷ ("F2234F00FDFFFD00", "A00000FFFD00" ∷ [])
+    ∷ ("06280110FE000200", "A000100002FF" ∷ [])
+    ∷ ("20210100FF00070280B3", "A100000007FF" ∷ [])
+    ∷ ("0E06000214000100", "A100000001FF" ∷ [])
+    ∷ ("031C401CFE00020600010001BA18", "C01C03F6000002" ∷ "A0F6000002FF" ∷ [])
+    ∷ ("032B418BFF000000", "A0F6000000FF" ∷ [])
+    ∷ ("031401AB00000100", "A100000001FF" ∷ [])
+    ∷ ("033FB4ABFE000106000300015503", "A100000001FF" ∷ [])
+    ∷ ("0E10410103000100", "A100000001FF" ∷ [])
+    ∷ ("0C110001FE000106000000023931", "C0110C00010001" ∷ "A000010001FF" ∷ [])
+    ∷ ("0B1F21FB03000100", "A0F6AB0001FF" ∷ [])
+    ∷ ("0E15000102000100", "A100000001FF" ∷ [])
+    ∷ ("201F00ABFD000103018900", "C01F2000000001" ∷ "A000000001FF" ∷ [])
+    ∷ []
+
+abbrev pub of-cuts-of-8-text : List String
+of-cuts-of-8-text =
+    "D002"
+    ∷ "D808"
+    ∷ "D10001FE0000010000000000"
+    ∷ "D100010A000001010003952D"
+    ∷ "D10000000000000000000000"
+    ∷ "D100010A0000000000000000"
+    ∷ "D10002000001000000000000"
+    ∷ "D100010A0000000000000000"
+    ∷ "D10000000000000000000000"
+    ∷ "D100010A0000000000000000"
+    ∷ "D2210007FF000280B3"
+    ∷ "D406000102"
+    ∷ "D410000101"
+    ∷ "D415000101"
+    ∷ "D50014000100023931"
+    ∷ "D5003F000300015503"
+    ∷ "D50130000100007C40"
+    ∷ "D60001"
+    ∷ "D60001"
+    ∷ "D70002"
+    ∷ "D9000201"
+    ∷ "D9010101"
+    ∷ "D9020000"
+    ∷ "D9030000"
+    ∷ "D9040001"
+    ∷ "D9050001"
+    ∷ "D9060000"
+    ∷ "D9070001"
+    ∷ []
+
+pub of-cuts-of-8 : Keeps2 8 of-cuts-of-8-lines of-cuts-of-8-text
+unfolding machine bytes page frees names writesOn naming numberFrame numberFrames frames2 text2 kept channelFrame requestFrame spanFrame writeFrame writeFrames keyFrame frames spelt
+of-cuts-of-8 = refl
+
+abbrev pub of-desks-of-8-lines : Talk
+of-desks-of-8-lines =
+    ("F02400000200000150", "A000500001FF" ∷ [])
+    ∷ ("030113D400000106000300007C21", "A0F6000001FF" ∷ [])
+    ∷ ("0E07010880000000", "A0F6000000FF" ∷ [])
+    ∷ ("021E000864000000", "C01E02F6000000" ∷ "A0F6000000FF" ∷ [])
+    ∷ ("032A0050FD000100", "A100000001FF" ∷ [])
+    ∷ ("03200040FE000100", "A100000001FF" ∷ [])
+    ∷ ("0316005003000100", "A100000001FF" ∷ [])
+    ∷ ("0B26215000000100", "A000500001FF" ∷ [])
+    ∷ ("0635417803000100", "A0F6500001FF" ∷ [])
+    ∷ ("033400500100010689710000B111", "A100000001FF" ∷ [])
+    ∷ ("202E5750010001064EEA01804004", "A000010001FF" ∷ [])
+    ∷ ("0E224010FE000100", "C0220E00100001" ∷ "A000100001FF" ∷ [])
+    ∷ ("0D2E005103000100", "A100000001FF" ∷ [])
+    ∷ ("030B0152FF000106000000011F2D", "A0F6000001FF" ∷ [])
+    ∷ ("F2160051FF000100", "C01603FE000001" ∷ "A00000000101" ∷ [])
+    ∷ ("031F015100000106DDDF00007B3D", "A0FC000001FF" ∷ [])
+    ∷ ("0B35005103000100", "C0350B00510001" ∷ "A000510001FF" ∷ [])
+    ∷ ("0C1129100A00010600000000FD40", "A000100001FF" ∷ [])
+    ∷ ("0D030C51FF000100", "A100000001FF" ∷ [])
+    ∷ ("032900510300010600000003A723", "A100000001FF" ∷ [])
+    ∷ ("F33C410103000100", "A000010001FF" ∷ [])
+    ∷ ("0E2D411003000100", "A000100001FF" ∷ [])
+    ∷ ("031F0010FD00010600030100012C", "C01F03FC000001" ∷ "A0FC000001FF" ∷ [])
+    ∷ ("201F014D8100000183", "A100000000FF" ∷ [])
+    ∷ ("0323005102000106000200007D31", "A100000001FF" ∷ [])
+    ∷ ("033140D9FF000106000100FFFFFF", "C03103FC000001" ∷ "A0FC000001FF" ∷ [])
+    ∷ []
+
+abbrev pub of-desks-of-8-text : List String
+of-desks-of-8-text =
+    "D002"
+    ∷ "D808"
+    ∷ "D10001010100000000000000"
+    ∷ "D10000000000000000000000"
+    ∷ "D10000000000000000000000"
+    ∷ "D10000000000000000000000"
+    ∷ "D10001020101010000000000"
+    ∷ "D10000000000000000000000"
+    ∷ "D10001020101010000000000"
+    ∷ "D10000000000000000000000"
+    ∷ "D21F000081000183"
+    ∷ "D32E000151"
+    ∷ "D303000151"
+    ∷ "D5002900000003A723"
+    ∷ "D50023000200007D31"
+    ∷ "D5042A000100007C40"
+    ∷ "D5043489710000B111"
+    ∷ "D50620000100007C40"
+    ∷ "D60001"
+    ∷ "D70001"
+    ∷ "D9000201"
+    ∷ "D9010001"
+    ∷ "D9020000"
+    ∷ "D9030000"
+    ∷ "D9040200"
+    ∷ "D9050000"
+    ∷ "D9060100"
+    ∷ "D9070001"
+    ∷ []
+
+pub of-desks-of-8 : Keeps2 8 of-desks-of-8-lines of-desks-of-8-text
+unfolding machine bytes page frees names writesOn naming numberFrame numberFrames frames2 text2 kept channelFrame requestFrame spanFrame writeFrame writeFrames keyFrame frames spelt
+of-desks-of-8 = refl
+
+abbrev pub of-locks-of-8-lines : Talk
+of-locks-of-8-lines =
+    ("F0313100FE000000", "A000000001FF" ∷ [])
+    ∷ ("203B0000FD0000021740", "C03B2000170002" ∷ "A000170002FF" ∷ [])
+    ∷ ("F3034104FE000200", "A000000002FF" ∷ [])
+    ∷ ("F2090117FE000200", "A00000000200" ∷ [])
+    ∷ ("202B01170000000365E741", "A000410003FF" ∷ [])
+    ∷ ("0D0F00CB02000300", "C00F0DF6000003" ∷ "A0F6000003FF" ∷ [])
+    ∷ ("032A0141FF000306000300FFFF23", "A100000003FF" ∷ [])
+    ∷ ("2024004100000303170200", "C0242000000003" ∷ "A000000003FF" ∷ [])
+    ∷ ("0E244101FF000300", "A100000003FF" ∷ [])
+    ∷ ("0D07414101000300", "A100000003FF" ∷ [])
+    ∷ ("03178716F4000206000000007D40", "A100000002FF" ∷ [])
+    ∷ ("202B00E7FF0003011E", "C01703FE000002" ∷ "C02B20001E0003" ∷ "A0001E0003FF" ∷ [])
+    ∷ ("200BF75F03000000", "A000000004FF" ∷ [])
+    ∷ ("0D1D004701000300", "A100000003FF" ∷ [])
+    ∷ ("F2074034FD000400", "A00000000400" ∷ [])
+    ∷ ("0A0D015002000300", "A000500003FF" ∷ [])
+    ∷ ("20280000FD00000DBF20918408E38402043D36BA01", "C0282000200005" ∷ "A000200005FF" ∷ [])
+    ∷ ("200E405FFF0000083F02039B4004B7D3", "C00E20F5000000" ∷ "A0F5000000FF" ∷ [])
+    ∷ ("0D350000FF000100", "C0350D00000001" ∷ "A000000001FF" ∷ [])
+    ∷ ("200601FF02000301F2", "A100000003FF" ∷ [])
+    ∷ ("0D1B015FFE000300", "A100000003FF" ∷ [])
+    ∷ ("0D08400CFE000300", "A100000003FF" ∷ [])
+    ∷ ("0A05015F00000300", "C0070DF4410003" ∷ "C01D0DF4470003" ∷ "C01B0DF45F0003" ∷ "A0005F0003FF" ∷ [])
+    ∷ ("0D3C8014FE000300", "C03C0DF4140003" ∷ "A100000003FF" ∷ [])
+    ∷ ("0912010001000100", "A000000001FF" ∷ [])
+    ∷ ("20110053000003012D", "A100000003FF" ∷ [])
+    ∷ []
+
+abbrev pub of-locks-of-8-text : List String
+of-locks-of-8-text =
+    "D002"
+    ∷ "D808"
+    ∷ "D10003000100000000000000"
+    ∷ "D10003000100000000000000"
+    ∷ "D10003000100000000000000"
+    ∷ "D10003000100000000000000"
+    ∷ "D10003000100000000000000"
+    ∷ "D10005FD0000000000000000"
+    ∷ "D10003000100000000000000"
+    ∷ "D10000000000000000000000"
+    ∷ "D2060003020001F2"
+    ∷ "D21100030000012D"
+    ∷ "D30800030C"
+    ∷ "D424000301"
+    ∷ "D5002A000300FFFF23"
+    ∷ "D60001"
+    ∷ "D70005"
+    ∷ "D9000101"
+    ∷ "D9010001"
+    ∷ "D9020001"
+    ∷ "D9030001"
+    ∷ "D9040001"
+    ∷ "D9050002"
+    ∷ "D9060001"
+    ∷ "D9070001"
+    ∷ []
+
+pub of-locks-of-8 : Keeps2 8 of-locks-of-8-lines of-locks-of-8-text
+unfolding machine bytes page frees names writesOn naming numberFrame numberFrames frames2 text2 kept channelFrame requestFrame spanFrame writeFrame writeFrames keyFrame frames spelt
+of-locks-of-8 = refl
+
+abbrev pub of-many-waiting-of-8-lines : Talk
+of-many-waiting-of-8-lines =
+    ("F0284100FF000000", "A000000001FF" ∷ [])
+    ∷ ("F415004003000000", "A000000000FF" ∷ [])
+    ∷ ("F03301190A000000", "A000000002FF" ∷ [])
+    ∷ ("0D354100FE000000", "A000000000FF" ∷ [])
+    ∷ ("073941580A000000", "A0F6000000FF" ∷ [])
+    ∷ ("202341000139B00210F7", "A0001039B0FF" ∷ [])
+    ∷ ("202C0100FF000502020A", "A000020005FF" ∷ [])
+    ∷ ("073E4002FD000500", "C03E0700020005" ∷ "A000020005FF" ∷ [])
+    ∷ ("0D0E0110FF39B000", "A1000039B0FF" ∷ [])
+    ∷ ("0D2A400201000500", "A100000005FF" ∷ [])
+    ∷ ("203640101800000280C0", "C0362000800003" ∷ "A000800003FF" ∷ [])
+    ∷ ("03014180FE000306F17D00007D40", "A100000003FF" ∷ [])
+    ∷ ("0D2540100339B000", "A1000039B0FF" ∷ [])
+    ∷ ("0A3F01100239B000", "A0001039B0FF" ∷ [])
+    ∷ ("0D264010FD39B000", "A1000039B0FF" ∷ [])
+    ∷ ("0A204180FD000300", "A000800003FF" ∷ [])
+    ∷ ("03290080FF000300", "A100000003FF" ∷ [])
+    ∷ ("20276FF1FD0003013A", "A0F5000003FF" ∷ [])
+    ∷ ("202741100239B00380E902", "C00103FE000003" ∷ "C02903FE000003" ∷ "A0008039B0FF" ∷ [])
+    ∷ ("0A154090FE39B000", "C0150A009039B0" ∷ "A0009039B0FF" ∷ [])
+    ∷ ("0D0A01F30339B000", "A0F60039B0FF" ∷ [])
+    ∷ ("0D04EAD1003bB000", "A007000000FF" ∷ [])
+    ∷ ("0D0C40D600000800", "C00C0DF6000008" ∷ "A0F6000008FF" ∷ [])
+    ∷ ("0D3E40907F39B000", "A1000039B0FF" ∷ [])
+    ∷ ("0A0500900139B000", "C0050A009039B0" ∷ "A0009039B0FF" ∷ [])
+    ∷ ("0E3F41100139B000", "A0001039B0FF" ∷ [])
+    ∷ []
+
+abbrev pub of-many-waiting-of-8-text : List String
+of-many-waiting-of-8-text =
+    "D002"
+    ∷ "D808"
+    ∷ "D10000000000000000000000"
+    ∷ "D10005FF0100000000000000"
+    ∷ "D10000000000000000000000"
+    ∷ "D10000000000000000000000"
+    ∷ "D139B0010100000000000000"
+    ∷ "D10000000000000000000000"
+    ∷ "D10000000000000000000000"
+    ∷ "D139B0010100000000000000"
+    ∷ "D30E39B010"
+    ∷ "D32A000502"
+    ∷ "D32539B010"
+    ∷ "D32639B010"
+    ∷ "D33E39B090"
+    ∷ "D60001"
+    ∷ "D60002"
+    ∷ "D70003"
+    ∷ "D9000000"
+    ∷ "D9010000"
+    ∷ "D9020000"
+    ∷ "D9030000"
+    ∷ "D9040000"
+    ∷ "D9050000"
+    ∷ "D9060000"
+    ∷ "D9070000"
+    ∷ []
+
+pub of-many-waiting-of-8 : Keeps2 8 of-many-waiting-of-8-lines of-many-waiting-of-8-text
+unfolding machine bytes page frees names writesOn naming numberFrame numberFrames frames2 text2 kept channelFrame requestFrame spanFrame writeFrame writeFrames keyFrame frames spelt
+of-many-waiting-of-8 = refl

@@ -2,7 +2,7 @@
 -- Assumes nothing.
 --
 --   TEXT                     3,344: no text of four channels is longer (`saved.Lengths.text-most`)
---   EIGHT, TOOSMALL          10: eight channels, which have no text of the first form; 12: "A text that doesn't fit the lent room"
+--   EIGHT                    10: eight channels, which have no text of the first form; 12 is for "A text that doesn't fit the lent room"
 --   heldBy st tb             the state that the bytes hold
 --   Unwritten c l e n l′     the refusal c: no length, "and nothing is written"
 --   Full st tb l e n l′      0, and the text of the state, with every byte behind it as before
@@ -11,7 +11,7 @@ use Prim.Native.Nat.{ℕ, _≤_, _<_}
 use mathlib.Core.Path.{_≡_}
 use mathlib.Core.List.{List}
 use lib.ListN.{length}
-use Rattle.machine.specs.Numbers.{UNSOUND}
+use Rattle.machine.specs.Numbers.{UNSOUND, TOOSMALL}
 use Rattle.machine.specs.State.{State}
 use Rattle.board.specs.Board.{stateIn}
 use Rattle.image.specs.Image.{stateOf}
@@ -24,9 +24,6 @@ TEXT = 3344
 
 abbrev pub EIGHT : ℕ
 EIGHT = 10
-
-abbrev pub TOOSMALL : ℕ
-TOOSMALL = 12
 
 abbrev pub heldBy : List ℕ → List ℕ → State
 heldBy st tb = stateIn (stateOf st) tb

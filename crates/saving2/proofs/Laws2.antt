@@ -12,7 +12,8 @@ use Rattle.memory.proofs.Splice.{length-splice}
 use Rattle.machine.specs.State.{State}
 use Rattle.machine.specs.Log.{line, hexDigit}
 use Rattle.machine.proofs.Tests.{by-test}
-use Rattle.display.specs.Display.{numbersFrom, numbers, looksBytes}
+use Rattle.machine.specs.InBytes.{twoBytes}
+use Rattle.display.specs.Display.{numbersFrom, numbers}
 use Rattle.board.specs.declared.Board.{Board}
 use Rattle.board.specs.Board.{sized, stateIn, Held}
 use Rattle.board.proofs.Laws.{sized-within, held-width, held-sized}
@@ -54,7 +55,7 @@ module _ {b : Board} {tb : List ℕ} (h : Held b tb) where
       let s = stateIn b tb in
       let w = held-width h in
       let n : numberLines (b .width) d ≡ numberFrames (length (s .channels)) s =
-      ap (numberLines (b .width)) e ∙ (counted-lines s (looksBytes 0) (b .width) within ∙ ap (λ k. numberFrames k s) w) in
+      ap (numberLines (b .width)) e ∙ (counted-lines s (twoBytes 0) (b .width) within ∙ ap (λ k. numberFrames k s) w) in
       let f : spelt (frames s) ++ spelt (numberLines (b .width) d) ≡ spelt (frames s ++ numberFrames (length (s .channels)) s) =
       ap (λ x. spelt (frames s) ++ spelt x) n ∙ sym (spelt-append (frames s) (numberFrames (length (s .channels)) s)) in
       ap₂ (λ (k : ℕ) (x : List ℕ). line SECOND ++ (line (0xD8 ∷ k ∷ []) ++ x)) w f

@@ -10,12 +10,12 @@ use Prim.Native.Nat.{ℕ, _≤_, _<_}
 use mathlib.Core.Path.{_≡_}
 use mathlib.Core.List.{List}
 use lib.ListN.{length, take}
-use Rattle.machine.specs.Numbers.{UNSOUND}
+use Rattle.machine.specs.Numbers.{UNSOUND, TOOSMALL}
 use Rattle.machine.specs.State.{State}
 use Rattle.display.specs.Display.{NUMBERS, DISPLAY, numbers}
 use Rattle.waiting_list.specs.WaitingList.{Sound}
 use Rattle.hex_lines.specs.HexLines.{Put}
-use Rattle.saving.specs.Saving.{TOOSMALL, heldBy, Unwritten}
+use Rattle.saving.specs.Saving.{heldBy, Unwritten}
 use Rattle.saved2.specs.Saved2.{text2}
 
 abbrev pub TEXT2 : ℕ

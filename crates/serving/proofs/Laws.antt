@@ -31,14 +31,13 @@ use Rattle.arbiter.specs.Arbiter.{Handled, Shown}
 use Rattle.frames.specs.declared.Frame.{Frame}
 use Rattle.frames.specs.declared.Line.{Line}
 use Rattle.frames.specs.declared.Line.the-variants.{Call}
-use Rattle.frames.specs.Frames.{combosAfter, Reads}
-use Rattle.frames.proofs.Laws.{Asked, asked-frame}
+use Rattle.frames.specs.Frames.{combosAfter, Reads, Asked}
+use Rattle.frames.proofs.Laws.{asked-frame}
 use Rattle.lines.specs.Lines.{Tells}
 use Rattle.lines.proofs.Laws.{length-told, ordered-replies, tells-outcome}
-use Rattle.unheard.specs.declared.Fed.{Fed}
-use Rattle.unheard.specs.Unheard.{dull, Dull}
+use Rattle.unheard.specs.Unheard.{Fed, dull, Dull}
 use Rattle.unheard.proofs.Laws.{fed-parts}
-use Rattle.serving.specs.Serving.{Feeds, FeedsDisplay}
+use Rattle.serving.specs.Serving.{Feeds, FeedsDisplay, Same}
 
 -- ---- the machine's `feed` by the kind of line
 
@@ -144,11 +143,6 @@ module _ {s : Board} {tb l out : List ℕ} {f : Fed} {tb′ out′ : List ℕ} (
       e ∙ sym (ap length (t .bytes) ∙ length-splice out 0 (feed (stateIn s tb) l .output) (omega arith))
 
 -- ---- no second outcome fits
-
-pub record Same (f f₂ : Fed) (tb tb₂ out out₂ : List ℕ) : Type 0 where
-  pub fed : f ≡ f₂
-  pub table : tb ≡ tb₂
-  pub output : out ≡ out₂
 
 -- of a line on a sound state
 pub one-sound-feeding : {s : Board} {tb l out : List ℕ} {f f₂ : Fed} {tb₁ tb₂ out₁ out₂ : List ℕ} → Feeds s tb l out f tb₁ out₁ → Feeds s tb l out f₂ tb₂ out₂

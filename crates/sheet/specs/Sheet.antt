@@ -4,7 +4,6 @@
 --   Sheet               the struct and the table so far, how many channels were read, and for each channel the six bytes of what is
 --                       remembered for its front write
 --   keyOf f k           the two bytes at place k as a key
---   stored p            a precedence in two's complement as it is stored
 --   channelFrom f       the channel of a frame D1, without writes
 --   withChannel, withWaiting ..  the struct with one part replaced
 --   tookChannel .. tookLast      the sheet with the frame's channel, request, lock, WAITCYCLE, write, open key, last key
@@ -14,7 +13,7 @@
 --   taken f d           the same for any frame; takenAll fs d: for frames in order
 --   blank tb            the sheet before the first frame
 --   Took, Takes         the promises of the functions: the parts of the sheet that they make
-use Prim.Native.Nat.{ℕ, suc, _+_, _*_, _%_}
+use Prim.Native.Nat.{ℕ, suc, _+_, _*_}
 use mathlib.Core.Path.{_≡_}
 use mathlib.Core.Bool.{Bool, true, false, _&&_}
 use mathlib.Core.List.{List, [], _∷_, _++_}
@@ -23,6 +22,7 @@ use lib.ListN.{length, getD, take, drop, set, replicate}
 use Rattle.memory.specs.Splice.{splice}
 use Rattle.machine.specs.Lists.{if_then_else_}
 use Rattle.machine.specs.State.{freshOn, free}
+use Rattle.machine.specs.InBytes.{signed}
 use Rattle.queue.specs.declared.Queue.{Queue}
 use Rattle.queue.specs.Queue.{queueOf, pushed}
 use Rattle.open_keys.specs.declared.Keys.{Keys}
@@ -44,14 +44,11 @@ pub record Sheet : Type 0 where
 abbrev pub keyOf : List ℕ → ℕ → ℕ
 keyOf f k = getD f k 0 * 256 + getD f (k + 1) 0
 
-abbrev pub stored : ℕ → ℕ
-stored p = (p + 128) % 256
-
 unfoldable pub channelFrom : List ℕ → Channel
 channelFrom f =
     record {
       key = keyOf f 1;
-      prec = stored (getD f 3 0);
+      prec = signed (getD f 3 0);
       locked = eqb (getD f 4 0) 1;
       stopped = eqb (getD f 5 0) 1;
       writes = queueOf [];
@@ -105,7 +102,7 @@ tookChannel f d =
 -- D2 id key precedence nowait n, combinations
 unfoldable pub requestEntry : List ℕ → List ℕ
 requestEntry f =
-    headBytes (record { command = 32; key = keyOf f 2; map = 0; prec = stored (getD f 4 0); impatient = getD f 5 0; n = getD f 6 0 })
+    headBytes (record { command = 32; key = keyOf f 2; map = 0; prec = signed (getD f 4 0); impatient = getD f 5 0; n = getD f 6 0 })
     ++ padded (drop 7 f)
 
 unfoldable pub tookRequest : List ℕ → Sheet → Sheet

@@ -16,11 +16,14 @@ use Rattle.machine.specs.Numbers.{UNSOUND}
 use Rattle.machine.specs.Refusals.{Refusal, refused, first, refusal}
 use Rattle.machine.specs.Call.{answering, call}
 use Rattle.machine.proofs.Tests.{and-both, and-left, and-right, by-test, test-true, test-false}
-use Rattle.machine_laws.proofs.Counting.{count, count-other, count-cons, count-nil}
+use Rattle.machine.specs.InBytes.{twoBytes}
+use Rattle.machine_laws.specs.Lists.{count}
+use Rattle.machine_laws.proofs.Counting.{count-other, count-cons, count-nil}
 use Rattle.machine_laws.proofs.Refusals.{refuse-mute}
-use Rattle.machine_laws.proofs.Replies.{heard, own, call-counts}
-use Rattle.display.specs.Display.{NUMBERS, DISPLAY, blank, corrected, looksOf, looksBytes, displayed}
-use Rattle.display.proofs.Display.{Bytes, displayed-length, displayed-numbers, displayed-bytes, displayed-refused}
+use Rattle.machine_laws.specs.Replies.{heard}
+use Rattle.machine_laws.proofs.Replies.{own, call-counts}
+use Rattle.display.specs.Display.{NUMBERS, DISPLAY, blank, corrected, looksOf, displayed, Bytes}
+use Rattle.display.proofs.Display.{displayed-length, displayed-numbers, displayed-bytes, displayed-refused}
 use Rattle.display.specs.Runs.{afterCalls, shownAfter}
 use Rattle.nothing_left.specs.Settles.{settles}
 use Rattle.nothing_left.proofs.Settles.{settles-looks}
@@ -97,7 +100,7 @@ numbers-alike s (x ∷ xs) d e f g q =
 settled-alike : (s : State) (x : Call) (d e : List ℕ) → T (settles s x) → take NUMBERS d ≡ take NUMBERS e → displayed s x d ≡ displayed s x e
 unfolding displayed
 settled-alike s x d e t q =
-    ap₂ (λ (ns : List ℕ) (k : ℕ). corrected s (call s x .next) 0 ns ++ looksBytes k) q (settles-looks s x t (looksOf d) ∙ sym (settles-looks s x t (looksOf e)))
+    ap₂ (λ (ns : List ℕ) (k : ℕ). corrected s (call s x .next) 0 ns ++ twoBytes k) q (settles-looks s x t (looksOf d) ∙ sym (settles-looks s x t (looksOf e)))
 
 shown-alike : (s : State) (xs : List Call) (d e : List ℕ) → Fit d → Fit e → take NUMBERS d ≡ take NUMBERS e → T (settlesOne s xs)
     → shownAfter s xs d ≡ shownAfter s xs e

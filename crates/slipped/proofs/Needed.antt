@@ -3,9 +3,7 @@
 -- Assumes nothing.
 --
 --   busy            key 1 has channels 0 and 1, with a write on 0; 60 waits for channel 0
---   tells s cs      what calls, made in turn from s, get: error, map, key, last byte, then the ids replied to
 --   premises s c    each premise: a command other than ALLOCATE, id valid, idle, the desk's, key on no channel, nothing left standing
---   Row, row        a state, a command and a call behind it; the premises; what the call gets without the command, and with it
 --   needed, free    the rows where they differ, one premise failing; those where they do not
 use Prim.Native.Nat.{ℕ}
 use mathlib.Core.Path.{_≡_, refl}
@@ -17,13 +15,13 @@ use Rattle.machine.specs.Lists.{among}
 use Rattle.machine.specs.State.{State, Call, OPEN, ABORT, EVENT, CYCLE·ENDED, COMMAND, freshOn, frees}
 use Rattle.machine.specs.Desks.{foreign}
 use Rattle.machine.specs.Sound.{sound, ids}
-use Rattle.machine.specs.Call.{call}
 use Rattle.machine.specs.Machine.{machine}
 use Rattle.machine.specs.Walks.{asks, asksFrom, unrested}
 use Rattle.display.specs.Runs.{afterCalls}
 use Rattle.nothing_left.specs.Settles.{opens, settles}
 use Rattle.nothing_left.specs.NothingLeft.{noneGoes, noneFails, noneInTheWay, left}
 use Rattle.slipped.specs.Slipped.{otherCommand, onNoChannel, slips, outcomes, leavingOut, settlesOne, slip}
+use Rattle.slipped.specs.Needed.{tells, Row, row, Told}
 
 abbrev pub busy : State
 busy =
@@ -34,24 +32,10 @@ busy =
     ∷ asks (COMMAND 32) 60 0 0 128 0 (1 ∷ []) 64
     ∷ [])
 
-abbrev tells : State → List Call → List (List ℕ)
-tells s cs = map (λ o. o .answer .error ∷ o .answer .map ∷ o .answer .key ∷ o .answer .extra ∷ map (λ r. r .id) (o .replies)) (outcomes s cs)
-
 abbrev premises : State → Call → List Bool
 premises s c =
     otherCommand (c .op) ∷ ltb (c .id) REQUESTS ∷ not (among (c .id) (ids s)) ∷ not (foreign c) ∷ onNoChannel (c .key) s
     ∷ (noneGoes s && noneFails s && noneInTheWay s) ∷ []
-
-record Row : Type 0 where
-  state : State
-  slipped : Call
-  next : Call
-  holds : List Bool
-  without : List ℕ
-  with : List ℕ
-
-abbrev row : State → Call → Call → List Bool → List ℕ → List ℕ → Row
-row s c n bs xs ys = record { state = s; slipped = c; next = n; holds = bs; without = xs; with = ys }
 
 -- QUICK, of the id's desk, with a full reply list
 abbrev sends : ℕ → ℕ → ℕ → ℕ → List ℕ → Call
@@ -95,11 +79,6 @@ needed-sound = refl
 pub needed-but-for-one : map (λ r. premises (r .state) (r .slipped)) needed ≡ map (λ r. r .holds) needed
 unfolding machine afterCalls frees left slip
 needed-but-for-one = refl
-
-abbrev Told : List Row → Type 0
-Told rs =
-    (map (λ r. tells (r .state) (r .next ∷ [])) rs ≡ map (λ r. r .without ∷ []) rs)
-    × (map (λ r. tells (call (r .state) (r .slipped) .next) (r .next ∷ [])) rs ≡ map (λ r. r .with ∷ []) rs)
 
 pub needed-told : Told needed
 unfolding machine afterCalls frees outcomes

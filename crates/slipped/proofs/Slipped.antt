@@ -21,7 +21,8 @@ use Rattle.machine.proofs.Known.{allocates-alone}
 use Rattle.display.specs.Display.{blank}
 use Rattle.display.proofs.Display.{refused-stays}
 use Rattle.display.specs.Runs.{afterCalls, shownAfter}
-use Rattle.two_runs.proofs.OnNoChannel.{Harmless, moves-nothing}
+use Rattle.two_runs.specs.OnNoChannel.{Harmless}
+use Rattle.two_runs.proofs.OnNoChannel.{moves-nothing}
 use Rattle.nothing_left.specs.NothingLeft.{NothingLeft}
 use Rattle.nothing_left.proofs.NothingLeft.{left-rest, rest-left, fresh-rests, nothing-left-behind}
 use Rattle.slipped.specs.Slipped.{otherCommand, onNoChannel, mild, slips, Inserted, NothingSlipped}

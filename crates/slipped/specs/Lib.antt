@@ -1,1 +1,2 @@
 pub mod Slipped
+pub mod Needed

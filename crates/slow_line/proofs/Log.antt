@@ -15,7 +15,7 @@ use Rattle.board.proofs.Laws.{held-next}
 use Rattle.image.specs.Image.{imageOf, stateOf}
 use Rattle.image.proofs.Round.{imageOf-stateOf, stateOf-imageOf}
 use Rattle.digits.proofs.Laws.{long-line-malformed}
-use Rattle.gathering.proofs.Lumps.{Stands}
+use Rattle.gathering.specs.Lumps.{Stands}
 use Rattle.unheard.specs.Unheard.{dull, unheard}
 use Rattle.serving.proofs.Laws.{feed-malformed}
 use Rattle.taking.specs.Desk.{hidden, logShown}
@@ -27,8 +27,8 @@ use Rattle.boundary.proofs.Crossing.{fresh-after}
 use Rattle.port.specs.Port.{startedIn}
 use Rattle.hearing.specs.Hearing.{Kept, heldIn, Served, Hears}
 use Rattle.hearing.proofs.Laws.{kept-or-not}
-use Rattle.slow_line.specs.Slow.{Heard, none as no-line, more, Ran, shownAfter, Came}
-use Rattle.slow_line.proofs.Whole.{Begun, begun-none, hears-whole, ran-heard}
+use Rattle.slow_line.specs.Slow.{Heard, none as no-line, more, Ran, shownAfter, Came, Begun}
+use Rattle.slow_line.proofs.Whole.{begun-none, hears-whole, ran-heard}
 
 -- ---- a sound state is followed by a sound state
 

@@ -13,12 +13,13 @@ use Rattle.machine.proofs.Tests.{if-elim, and-left, and-right, and-both}
 use Rattle.machine_laws.proofs.Lists.{all-append}
 use Rattle.machine_laws.proofs.Sound.{parts}
 use Rattle.machine.specs.State.{Call, State as StateM}
+use Rattle.machine.specs.InBytes.{twoBytes}
 use Rattle.display.specs.Display.{DISPLAY, displayedBy}
 use Rattle.display.proofs.Display.{displayed-length}
 use Rattle.memory.specs.Splice.{splice}
 use Rattle.store.specs.Store.{tableOf}
 use Rattle.board.specs.Board.{structOf}
-use Rattle.image.specs.Image.{keyBytes, imageOf, isByte}
+use Rattle.image.specs.Image.{imageOf, isByte}
 use Rattle.gathering.specs.Lumps.{LINE, front, ended, used, kept, gatheredOf, Gathers}
 use Rattle.unheard.specs.Unheard.{unheard}
 use Rattle.taking.proofs.Kept.{held-fine, feed-fine}
@@ -27,7 +28,8 @@ use Rattle.whole_log.specs.Whole.{joined}
 use Rattle.sizes.specs.Sizes.{PORT, ROOM}
 use Rattle.port.specs.Port.{startedIn, lineIn, portOf}
 use Rattle.port.proofs.Laws.{started-back}
-use Rattle.admitting.proofs.Laws.{Proper, no-refusal}
+use Rattle.admitting.specs.Admitting.{Proper}
+use Rattle.admitting.proofs.Laws.{no-refusal}
 use Rattle.hearing.specs.Hearing.{Kept, heldIn, Hears}
 use Rattle.hearing.proofs.Laws.{kept-or-not}
 use Rattle.telling.specs.Telling.{Answers}
@@ -35,7 +37,7 @@ use Rattle.telling.proofs.Laws.{is-served}
 use Rattle.fragments.specs.Fragments.{grown, lineWith, lineFed, portFed, Feeds}
 use Rattle.fragments.proofs.Laws.{gathered-length}
 use Rattle.last_line.specs.LastLine.{lineLast, portLast, Ends}
-use Rattle.slow_line.specs.Slow.{Ran, feeds, used-up, ends, over}
+use Rattle.slow_line.specs.Slow.{feeds, used-up, ends, over, Runs}
 use Rattle.images.proofs.Images.{Bytes, key-bytes, zero-bytes, saved-of}
 
 -- ---- a line is heard, sound or not
@@ -124,7 +126,7 @@ bytes-splice l at vs t u =
 
 port-made : (n : ℕ) (l : List ℕ) → n ≤ LINE → length l ≡ LINE → Bytes l → Proper (portOf n l)
 port-made n l h e t =
-    record { long = omega arith; few = rw (started-back n l) h; bytes = all-append isByte (keyBytes n) l (key-bytes n (omega arith)) t }
+    record { long = omega arith; few = rw (started-back n l) h; bytes = all-append isByte (twoBytes n) l (key-bytes n (omega arith)) t }
 
 module _ (p : List ℕ) (h : Proper p) where
   line-bytes : Bytes (lineIn p)
@@ -165,14 +167,6 @@ pub progress : (bs p : List ℕ) {st tb dp room : List ℕ} {u n : ℕ} {p′ st
 progress bs p c h = let e = c .served (sym (c .error)) .used in let k = used-some bs h in omega arith
 
 -- ---- runs
-
-pub record Runs (p st tb dp : List ℕ) (bss : List (List ℕ)) : Type 0 where
-  pub out : List ℕ
-  pub port : List ℕ
-  pub state : List ℕ
-  pub table : List ℕ
-  pub display : List ℕ
-  pub ran : Ran p st tb dp bss out port state table display
 
 -- whatever stands, the fragments come to some output
 abbrev Come : List (List ℕ) → Type 0

@@ -16,8 +16,8 @@ use Rattle.display.specs.Display.{displayedBy}
 use Rattle.board.specs.Board.{structOf}
 use Rattle.store.specs.Store.{tableOf}
 use Rattle.image.specs.Image.{Saved}
-use Rattle.gathering.specs.Lumps.{LINE, front, ended, used, gatheredOf, Gathers}
-use Rattle.gathering.proofs.Lumps.{Stands, stands-none, stands-more, stands-frame, stands-feed, front-open, used-open, lines-none, lines-last, lines-step, lines-on}
+use Rattle.gathering.specs.Lumps.{LINE, front, ended, used, gatheredOf, Gathers, Stands}
+use Rattle.gathering.proofs.Lumps.{stands-none, stands-more, stands-frame, stands-feed, front-open, used-open, lines-none, lines-last, lines-step, lines-on}
 use Rattle.unheard.specs.Unheard.{unheard}
 use Rattle.port.specs.Port.{startedIn, lineIn, portOf}
 use Rattle.port.proofs.Laws.{started-back}
@@ -29,7 +29,7 @@ use Rattle.telling.proofs.Laws.{told-front, none-or-not}
 use Rattle.fragments.specs.Fragments.{grown, lineWith, lineFed, portFed, Feeds}
 use Rattle.last_line.specs.LastLine.{lineLast, portLast, Ends}
 use Rattle.whole_log.specs.Whole.{joined}
-use Rattle.slow_line.specs.Slow.{Heard, none as no-line, more, Ran, feeds, used-up, ends, over}
+use Rattle.slow_line.specs.Slow.{Heard, none as no-line, more, Ran, feeds, used-up, ends, over, Begun}
 
 -- ---- a line that is cut is heard as it is whole
 
@@ -51,11 +51,6 @@ pub hears-whole : {l : List ℕ} {n : ℕ} {q st tb dp text st′ tb′ dp′ : 
 hears-whole t h = hears-as (stands-frame t) (stands-feed t) h
 
 -- ---- what stands in a port
-
--- the bytes q of a line have come, and it has not ended
-pub record Begun (p q : List ℕ) : Type 0 where
-  pub stands : Stands (lineIn p) (startedIn p) q
-  pub unended : ended q ≡ false
 
 none-ended : ended [] ≡ false
 unfolding ended

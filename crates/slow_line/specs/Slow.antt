@@ -11,11 +11,14 @@
 --     ends                           the log has ended, and a call answers a last line without LF
 --     over                           the log has ended, and nothing stands of a line
 --   shownAfter s dp ls               the display after the lines ls from the state s, which had the display dp
+--   Runs p st tb dp bss              there is a run of the fragments bss, with what it comes to and what it leaves
+--   Begun p q                        the port p has a line begun, of which the bytes q have come
 --   Came s dp ls out st₂ tb₂ dp₂     the output and the state at the end are those that the machine's `run` gives from the state s, and
 --                                    the display is the one that its calls show
 use Prim.Native.Nat.{ℕ}
 use mathlib.Core.Path.{_≡_}
 use mathlib.Core.List.{List, [], _∷_, _++_}
+use mathlib.Core.Bool.{false}
 use lib.ListN.{take, drop}
 use Rattle.machine.specs.State.{State as StateM}
 use Rattle.machine.specs.Log.{unhex, frame, feed, run}
@@ -23,10 +26,11 @@ use Rattle.display.specs.Display.{displayedBy}
 use Rattle.store.specs.Store.{tableOf}
 use Rattle.board.specs.Board.{structOf}
 use Rattle.image.specs.Image.{imageOf}
-use Rattle.port.specs.Port.{startedIn}
+use Rattle.port.specs.Port.{startedIn, lineIn}
 use Rattle.hearing.specs.Hearing.{Kept, heldIn, Hears}
 use Rattle.fragments.specs.Fragments.{Feeds}
 use Rattle.last_line.specs.LastLine.{Ends}
+use Rattle.gathering.specs.Lumps.{ended, Stands}
 
 -- "the log taken in one"
 pub data Heard : (st tb dp : List ℕ) → List (List ℕ) → (out st₂ tb₂ dp₂ : List ℕ) → Type 0 where
@@ -57,3 +61,17 @@ pub record Came (s : StateM) (dp : List ℕ) (ls : List (List ℕ)) (out st₂ t
   pub state : st₂ ≡ imageOf (structOf (run s ls .next))
   pub table : tb₂ ≡ tableOf (run s ls .next)
   pub display : dp₂ ≡ shownAfter s dp ls
+
+-- whatever the fragments are: `run-exists` of proofs/Runs.antt
+pub record Runs (p st tb dp : List ℕ) (bss : List (List ℕ)) : Type 0 where
+  pub out : List ℕ
+  pub port : List ℕ
+  pub state : List ℕ
+  pub table : List ℕ
+  pub display : List ℕ
+  pub ran : Ran p st tb dp bss out port state table display
+
+-- the bytes q of a line have come, and it has not ended
+pub record Begun (p q : List ℕ) : Type 0 where
+  pub stands : Stands (lineIn p) (startedIn p) q
+  pub unended : ended q ≡ false

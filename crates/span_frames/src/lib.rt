@@ -34,10 +34,10 @@ pub fn take_lock(s: State, f: &[u8], table: &mut [u8]) -> State
         return s;
     }
     let q = s.locks;
-    if f[1] >= 64 {
+    if f[1] >= State::REQUESTS {
         return s;
     }
-    if q.n >= 64 {
+    if q.n >= State::REQUESTS {
         return s;
     }
     put_span(13, f, table);
@@ -56,10 +56,10 @@ pub fn take_waiter(s: State, f: &[u8], table: &mut [u8]) -> State
         return s;
     }
     let q = s.waiters;
-    if f[1] >= 64 {
+    if f[1] >= State::REQUESTS {
         return s;
     }
-    if q.n >= 64 {
+    if q.n >= State::REQUESTS {
         return s;
     }
     put_span(14, f, table);

@@ -19,7 +19,7 @@ use Rattle.machine.specs.Sound.{soundTone, ids}
 use Rattle.machine.specs.Kinds.{kind, unknown, allocates}
 use Rattle.machine.specs.Refusals.{first}
 use Rattle.machine.proofs.Tests.{by-test, test-true, test-false, and-left, and-right}
-use Rattle.machine_laws.proofs.Sound.{Parts}
+use Rattle.machine_laws.specs.Sound.{Parts}
 use Rattle.store.specs.Store.{Item, writeItem, lockItem, waiterItem, waitItem, writeItems, items, lookup, keys, Each, tableOf}
 use Rattle.store.proofs.Store.{keys-items, parts-long, block-tableOf}
 use Rattle.steps.specs.Steps.{numberOf, high, used, wrongNumbers, numberTests}

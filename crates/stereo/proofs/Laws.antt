@@ -5,7 +5,7 @@ use Prim.Native.Nat.{ℕ, zero, suc, _+_, _-_, _≤_, _<_}
 use mathlib.Core.Path.{_≡_, refl, ap, subst, sym, _∙_}
 use mathlib.Core.Bool.{Bool, true, false, not, _&&_, _||_}
 use mathlib.Core.Logic.{_↔_}
-use mathlib.Core.List.{List, [], _∷_, _++_, append-nil}
+use mathlib.Core.List.{List, [], _∷_, _++_, append-nil, map}
 use native.Mathlib.Omega.{arith}
 use lib.Dec.{T, T-not, not-T, eqb, leb, ltb, eqb→eq, eqb-refl, leb→le, nleb→lt, ltb→lt, nltb→le}
 use borrow.Author.Tests.{le-leb}
@@ -14,7 +14,7 @@ use Rattle.machine.specs.Lists.{if_then_else_, all, any, keep, among}
 use Rattle.machine.proofs.Tests.{and-left, and-right, and-both, or-map, eqb-flip, test-true, test-false, by-test}
 use Rattle.machine_laws.proofs.Lists.{keep-append, keep-all, among-all, among-append}
 use Rattle.wishes.specs.Wishes.{named, lefts, rights, meets}
-use Rattle.stereo.specs.Stereo.{below, wished, times, accepts, Accepted}
+use Rattle.stereo.specs.Stereo.{below, wished, times, accepts, Accepted, ascending}
 
 or-one : (a b : Bool) → T a → T (a || b)
 or-one true b t = tt
@@ -187,10 +187,15 @@ pub wished-accepted : (l r : ℕ) → l ≤ 2 → r ≤ 2 → T (accepts l r (wi
 unfolding accepts wished meets lefts rights named below keep times all
 wished-accepted l r h g = nine (λ a b. accepts a b (wished a b)) tt l r h g
 
-unfoldable pub ascending : List ℕ → Bool
-ascending [] = true
-ascending (m ∷ ms) = all (ltb m) ms && ascending ms
+pub ascending-told : map ascending ((1 ∷ 2 ∷ 4 ∷ []) ∷ (1 ∷ 4 ∷ 2 ∷ []) ∷ (1 ∷ 1 ∷ []) ∷ []) ≡ true ∷ false ∷ false ∷ []
+unfolding ascending all
+ascending-told = refl
 
 pub wished-ascends : (l r : ℕ) → l ≤ 2 → r ≤ 2 → T (ascending (wished l r))
 unfolding ascending wished meets lefts rights named below keep all
 wished-ascends l r h g = nine (λ a b. ascending (wished a b)) tt l r h g
+
+-- #108: "One left and one right gives 03, 05, 0A and 0C. None and none gives 00 alone."; "channels 0 and 3 sound left, 1 and 2 right"
+pub sides : (wished 1 1 ≡ 3 ∷ 5 ∷ 10 ∷ 12 ∷ []) × (wished 0 0 ≡ 0 ∷ []) × (wished 2 0 ≡ 9 ∷ []) × (wished 0 2 ≡ 6 ∷ [])
+unfolding wished meets lefts rights named below keep
+sides = (refl, refl, refl, refl)

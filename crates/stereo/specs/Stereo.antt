@@ -3,7 +3,8 @@
 --
 --   below n              the numbers below n, ascending
 --   wished l r           the maps that meet the wish, ascending
---   BADWISH, TOOSMALL    11 and 12
+--   ascending ms         each number is below every later one
+--   BADWISH              11
 --   refusal l r room     why the maker refuses, or 0
 --   made l r ms          what then stands in the room ms
 --   count l r room       how many maps were written
@@ -14,11 +15,12 @@
 --   Accepted l r ms      the same as the request words it
 use Prim.Native.Nat.{ℕ, zero, suc, _≤_}
 use mathlib.Core.Path.{_≡_}
-use mathlib.Core.Bool.{Bool, _&&_, _||_}
+use mathlib.Core.Bool.{Bool, _&&_, _||_, true}
 use mathlib.Core.List.{List, [], _∷_, _++_}
 use lib.Dec.{eqb, leb, ltb}
 use lib.ListN.{length}
 use Rattle.machine.specs.Lists.{if_then_else_, all, keep}
+use Rattle.machine.specs.Numbers.{TOOSMALL}
 use Rattle.memory.specs.Splice.{splice}
 use Rattle.wishes.specs.Wishes.{meets}
 use Rattle.stereo.specs.declared.Made.{Made}
@@ -33,9 +35,6 @@ wished l r = keep (meets l r) (below 16)
 
 abbrev pub BADWISH : ℕ
 BADWISH = 11
-
-abbrev pub TOOSMALL : ℕ
-TOOSMALL = 12
 
 -- "A number above 2 gets 11, then room for fewer than 4 maps gets 12, nothing written"
 unfoldable pub refusal : ℕ → ℕ → ℕ → ℕ
@@ -68,3 +67,8 @@ pub record Accepted (l r : ℕ) (ms : List ℕ) : Type 0 where
   pub left : l ≤ 2
   pub right : r ≤ 2
   pub places : (b : ℕ) → times b ms ≡ (if meets l r b then 1 else 0)
+
+-- "in ascending order": `wished-ascends` of proofs/Laws.antt
+unfoldable pub ascending : List ℕ → Bool
+ascending [] = true
+ascending (m ∷ ms) = all (ltb m) ms && ascending ms

@@ -1,5 +1,6 @@
 // Stereo: the list of all maps with so many left and so many right channels, and the test of any list from anyone. For the
 // four-channel board. Assumes nothing.
+use board::Board;
 ghost use mathlib.Core.Path.{_≡_};
 ghost use Prim.Native.Nat.{_≤_};
 ghost use lib.Dec.{eqb};
@@ -22,7 +23,7 @@ fn fill(left: u8, right: u8, maps: &mut [u8]) -> usize
 {
     let mut n: usize = 0;
     let mut map: u8 = 0;
-    while map < 16 {
+    while map <= Board::TOP {
         if wishes::meets(left, right, map) {
             maps[n] = map;
             n += 1;
@@ -37,19 +38,19 @@ pub fn make(left: u8, right: u8, maps: &mut [u8]) -> Made
 {
     if left > 2 {
         return Made {
-            error: 11,
+            error: audio::BADWISH,
             count: 0,
         };
     }
     if right > 2 {
         return Made {
-            error: 11,
+            error: audio::BADWISH,
             count: 0,
         };
     }
-    if maps.len() < 4 {
+    if maps.len() < audio::STEREO_ROOM {
         return Made {
-            error: 12,
+            error: audio::TOOSMALL,
             count: 0,
         };
     }
@@ -90,7 +91,7 @@ fn each_once(left: u8, right: u8, maps: &[u8]) -> bool
     ensures { λ b. ⌜ b ≡ all (λ m. eqb (timesOf m (now (maps .entry))) 1) (wished left right) ⌝ }
 {
     let mut map: u8 = 0;
-    while map < 16 {
+    while map <= Board::TOP {
         if wishes::meets(left, right, map) {
             if times(map, maps) != 1 {
                 return false;

@@ -17,7 +17,8 @@ use Rattle.machine.specs.Call.{call, inRange}
 use Rattle.machine.specs.Log.{digit, joined, unhex, callOf, frame, outcomeOf, feed}
 use Rattle.machine.proofs.Tests.{if-elim, and-both, and-left, and-right}
 use Rattle.machine_laws.proofs.Sound.{parts}
-use Rattle.machine_laws.proofs.KeepingCalls.{Counted, bytes-count, call-sound}
+use Rattle.machine_laws.specs.Keeping.{Counted}
+use Rattle.machine_laws.proofs.KeepingCalls.{bytes-count, call-sound}
 use Rattle.machine_laws.proofs.Board.{call-wide}
 use Rattle.board.specs.declared.Board.{Board}
 use Rattle.store.specs.Store.{tableOf}
@@ -26,8 +27,7 @@ use Rattle.board.proofs.Laws.{held-next}
 use Rattle.gathering.specs.Lumps.{ended, used}
 use Rattle.digits.proofs.Laws.{Small, small-digit}
 use Rattle.taking.specs.declared.Show.{Show}
-use Rattle.taking.specs.declared.Taken.{Taken}
-use Rattle.taking.specs.Desk.{fed, Desk, gathered, answered, taken, fits, takes, filled, closed, finished, Leaves}
+use Rattle.taking.specs.Desk.{Taken, fed, Desk, gathered, answered, taken, fits, takes, filled, closed, finished, Leaves}
 
 -- ---- a frame's numbers fit their bytes
 

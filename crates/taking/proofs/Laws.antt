@@ -18,11 +18,10 @@ use Rattle.store.specs.Store.{tableOf}
 use Rattle.board.specs.Board.{structOf, stateIn, Held}
 use Rattle.gathering.specs.declared.Gathered.{Gathered}
 use Rattle.gathering.specs.Lumps.{LINE, front, ended, used, kept, Gathers}
-use Rattle.unheard.specs.declared.Fed.{Fed}
+use Rattle.unheard.specs.Unheard.{Fed}
 use Rattle.serving.specs.Serving.{Feeds, FeedsDisplay}
 use Rattle.taking.specs.declared.Show.{Show}
-use Rattle.taking.specs.declared.Taken.{Taken}
-use Rattle.taking.specs.Desk.{hidden, shownOf, fed, Desk, deskOf, gathered, answered, taken, closed, Leaves, Takes, Ends}
+use Rattle.taking.specs.Desk.{Taken, hidden, shownOf, fed, Desk, deskOf, gathered, answered, taken, closed, Leaves, Takes, Ends, Same}
 
 -- ---- fed
 
@@ -152,13 +151,6 @@ pub some-ends : {s : Board} {tb l out : List ℕ} (dp : List ℕ) {n : ℕ} {f :
 some-ends {s} {tb} {l} {out} dp {n} h v q = record { leaves = rw (closed-some hidden (deskOf s tb dp l n out 0) h) (feeds-answered dp n 0 v q) }
 
 -- ---- no second outcome fits
-
-pub record Same (t t₂ : Taken) (l l₂ tb tb₂ dp dp₂ p p₂ : List ℕ) : Type 0 where
-  pub taken : t ≡ t₂
-  pub line : l ≡ l₂
-  pub table : tb ≡ tb₂
-  pub display : dp ≡ dp₂
-  pub page : p ≡ p₂
 
 taken-parts : (t t₂ : Taken) → t .state ≡ t₂ .state → t .line ≡ t₂ .line → t .used ≡ t₂ .used → t .at ≡ t₂ .at → t ≡ t₂
 taken-parts t t₂ s l u a i = record { state = s i; line = l i; used = u i; at = a i }

@@ -15,11 +15,11 @@ use Rattle.memory.proofs.Splice.{length-splice}
 use Rattle.display.specs.Display.{DISPLAY}
 use Rattle.pouring.specs.Pouring.{Pours}
 use Rattle.sizes.specs.Sizes.{ROOM}
-use Rattle.admitting.specs.Admitting.{refusal}
-use Rattle.admitting.proofs.Laws.{Proper, allowed}
-use Rattle.hearing.specs.Hearing.{Hears, Tells}
-use Rattle.hearing.proofs.Laws.{Same, one-telling, hears-few}
-use Rattle.telling.specs.Telling.{Silent, Says, Answers, Still, Moves, Ported}
+use Rattle.admitting.specs.Admitting.{refusal, Proper}
+use Rattle.admitting.proofs.Laws.{allowed}
+use Rattle.hearing.specs.Hearing.{Hears, Tells, Same}
+use Rattle.hearing.proofs.Laws.{one-telling, hears-few}
+use Rattle.telling.specs.Telling.{Silent, Says, Answers, Still, Moves, Ported, SameCall}
 
 -- ---- a line's output
 
@@ -79,17 +79,6 @@ none-or-not {R = R} n y z = go (eqb n 0) refl
     go false e = z (eqb-false n 0 e)
 
 -- ---- no second outcome fits
-
--- the same answer, the same numbers and the same bytes
-pub record SameCall (e e₂ u u₂ n n₂ : ℕ) (p p₂ st st₂ tb tb₂ dp dp₂ out out₂ : List ℕ) : Type 0 where
-  pub error : e ≡ e₂
-  pub used : u ≡ u₂
-  pub written : n ≡ n₂
-  pub port : p ≡ p₂
-  pub state : st ≡ st₂
-  pub table : tb ≡ tb₂
-  pub display : dp ≡ dp₂
-  pub output : out ≡ out₂
 
 one-silence : {st tb dp out : List ℕ} {n n₂ : ℕ} {st₁ st₂ tb₁ tb₂ dp₁ dp₂ out₁ out₂ : List ℕ} → Silent st tb dp out n st₁ tb₁ dp₁ out₁ → Silent st tb dp out n₂ st₂ tb₂ dp₂ out₂
     → Same n n₂ st₁ st₂ tb₁ tb₂ dp₁ dp₂ out₁ out₂

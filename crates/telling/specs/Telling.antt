@@ -7,6 +7,7 @@
 --   Still ..                      what a refused call leaves: everything as it was, and both numbers 0
 --   Moves o q u ..                what a call leaves that is not refused: the line o answered, the port q, u bytes used
 --   Ported o q u ..               a call by a line, a port and a number of bytes
+--   SameCall e e₂ ..              the same answer, the same numbers and the same bytes
 use Prim.Native.Nat.{ℕ}
 use mathlib.Core.Path.{_≡_}
 use mathlib.Core.List.{List}
@@ -43,3 +44,14 @@ pub record Ported (o : Option (List ℕ)) (q : List ℕ) (v : ℕ) (p st tb dp o
   pub error : e ≡ refusal p (length dp) (length out)
   pub refused : (refusal p (length dp) (length out) ≡ 0 → ⊥) → Still p st tb dp out u n p′ st′ tb′ dp′ out′
   pub served : refusal p (length dp) (length out) ≡ 0 → Moves o q v st tb dp out u n p′ st′ tb′ dp′ out′
+
+-- no second outcome fits the promises of `feed` and `feed_end`: `one-feed-end` of last_line/proofs/Laws.antt
+pub record SameCall (e e₂ u u₂ n n₂ : ℕ) (p p₂ st st₂ tb tb₂ dp dp₂ out out₂ : List ℕ) : Type 0 where
+  pub error : e ≡ e₂
+  pub used : u ≡ u₂
+  pub written : n ≡ n₂
+  pub port : p ≡ p₂
+  pub state : st ≡ st₂
+  pub table : tb ≡ tb₂
+  pub display : dp ≡ dp₂
+  pub output : out ≡ out₂

@@ -19,7 +19,7 @@ use Rattle.machine.specs.Commands.{matching, playing, inProgress, setWrites, on
 use Rattle.machine.specs.Sound.{writesOf}
 use Rattle.machine.proofs.Tests.{if-elim}
 use Rattle.machine_laws.proofs.Maps.{odd-bit, half-bit}
-use Rattle.machine_laws.proofs.Sound.{Parts}
+use Rattle.machine_laws.specs.Sound.{Parts}
 use Rattle.channel.specs.declared.Channel.{Channel}
 use Rattle.channel.specs.Channel.{channelOf, mapWhere, matchingEach}
 use Rattle.fronts.specs.declared.Front.the-variants.{Plays}
@@ -228,21 +228,30 @@ module _ {st : State} {tb : List ℕ} (h : Held st tb) (m : ℕ) {on : ℕ} (o :
       (subst (λ (cs : List Channel). Tunable on cs (tableOf s)) (sym (held-channels h)) (subst (λ (y : ℕ). Tunable y (map channelOf (s .channels)) (tableOf s)) (sym on-is) q))
 
   pub tunes : (how : Tune) {a tb₁ : List ℕ} → tb₁ ≡ tuneEach how a on (st .channels) tb → Tunes how a m st tb tb₁
-  tunes how t x n =
-      let q = sym (same-structs how x m (s .channels)) in (
-        h .struct
-            ∙ (λ i. record {
-              channels = q i;
-              locks = structOf s .locks;
-              waiters = structOf s .waiters;
-              waiting = structOf s .waiting;
-              opens = structOf s .opens;
-              last = s .last;
-            }),
-        t ∙ ap₂ (λ (y : List ℕ) (k : ℕ). tuneEach how y k (st .channels) tb) n on-is
-            ∙ ap₂ (tuneEach how (numberBytes x) (inProgress m (s .channels))) (held-channels h) (h .table)
-            ∙ tuned-table how x m s (good-of s (held-parts h)),
-      )
+  tunes how {a} t =
+      record {
+        table = t ∙ ap (λ (k : ℕ). tuneEach how a k (st .channels) tb) o;
+        stands = λ x n.
+            let q = sym (same-structs how x m (s .channels)) in (
+              h .struct
+                  ∙ (λ i. record {
+                    channels = q i;
+                    locks = structOf s .locks;
+                    waiters = structOf s .waiters;
+                    waiting = structOf s .waiting;
+                    opens = structOf s .opens;
+                    last = s .last;
+                  }),
+              t ∙ ap₂ (λ (y : List ℕ) (k : ℕ). tuneEach how y k (st .channels) tb) n on-is
+                  ∙ ap₂ (tuneEach how (numberBytes x) (inProgress m (s .channels))) (held-channels h) (h .table)
+                  ∙ tuned-table how x m s (good-of s (held-parts h)),
+            );
+      }
+
+-- no second table fits
+pub one-tuning : {how : Tune} {a : List ℕ} {m : ℕ} {st : State} {tb tb₁ tb₂ : List ℕ} → Tunes how a m st tb tb₁
+    → Tunes how a m st tb tb₂ → tb₁ ≡ tb₂
+one-tuning x y = x .table ∙ sym (y .table)
 
 -- ---- a command
 
@@ -251,7 +260,7 @@ module _ {st : State} {tb : List ℕ} (r : Request) (h : Held st tb) {ok : ℕ} 
   tuned-did : {l : List ℕ}
       → Did (withChannels (change (onFront (meaning how (periodIn ms) (volumeIn ms))) (matching (r .key) (r .map) (stateIn st tb .channels)) (stateIn st tb .channels)) (stateIn st tb)) [] l 0 st tb₁ l 0
   tuned-did {l} =
-      let u = t (carried 0 ms) n in
+      let u = t .stands (carried 0 ms) n in
       let s = stateIn st tb in
       subst (λ (m : ℕ). Did (withChannels (change (onFront (meaning how (periodIn ms) (volumeIn ms))) m (s .channels)) s) [] l 0 st tb₁ l 0) (e ∙ match-is h (r .key) (r .map))
       (record { struct = u .0; table = u .1; list = sym (splice-none l 0); count = refl })

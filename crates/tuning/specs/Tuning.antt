@@ -6,8 +6,8 @@
 --   frontOf c              the id in front of a channel's queue
 --   tuneEach how a m cs tb   the table with the entries of the front writes of the channels that m names so, one after the other
 --   Tunable m cs tb        each such front is one of the table's ids, and its entry has the numbers of a write
---   Tunes how a m s tb tb′   the promise of `tune_fronts`: the struct and the new table stand for the state in which the write in progress
---                          at each channel that m names is retuned, with the numbers that a has
+--   Tunes how a m s tb tb′   the promise of `tune_fronts`: the table has the entries of the writes in progress at the channels that m names
+--                          retuned; and where a is a write's numbers, struct and table stand for the state in which they are so
 --   tunedOf r how ms       the machine's rule: the write in progress at each channel that matches retuned, with the numbers that ms
 --                          carries
 use Prim.Native.Nat.{ℕ, _*_, _<_}
@@ -23,6 +23,9 @@ use Rattle.machine.specs.State.{Write, State as StateM, Outcome as OutcomeM, wi
 use Rattle.machine.specs.Maps.{odd, half, change}
 use Rattle.machine.specs.Commands.{periodIn, volumeIn, onFront, eachChange}
 use Rattle.channel.specs.declared.Channel.{Channel}
+use Rattle.channel.specs.Channel.{mapWhere}
+use Rattle.fronts.specs.declared.Front.the-variants.{Plays}
+use Rattle.fronts.specs.Fronts.{named}
 use Rattle.store.specs.declared.State.{State}
 use Rattle.store.specs.Store.{stateIn}
 use Rattle.store.specs.Work.{Stands}
@@ -49,10 +52,11 @@ abbrev pub Tunable : ℕ → List Channel → List ℕ → Type 0
 Tunable m [] tb = Unit {0}
 Tunable m (c ∷ cs) tb = (odd m ≡ true → (frontOf c < 64) × (getD (block 23 tb (frontOf c)) 6 0 ≡ 12)) × Tunable (half m) cs tb
 
-abbrev pub Tunes : Tune → List ℕ → ℕ → State → List ℕ → List ℕ → Type 0
-Tunes how a m s tb tb′ =
-    (x : Write) → a ≡ numberBytes x
-    → Stands (withChannels (change (onFront (meaning how (x .period) (x .volume))) m (stateIn s tb .channels)) (stateIn s tb)) s tb′
+pub record Tunes (how : Tune) (a : List ℕ) (m : ℕ) (s : State) (tb tb′ : List ℕ) : Type 0 where
+  pub table : tb′ ≡ tuneEach how a (mapWhere (named Plays) m (s .channels)) (s .channels) tb
+  pub stands :
+      (x : Write) → a ≡ numberBytes x
+      → Stands (withChannels (change (onFront (meaning how (x .period) (x .volume))) m (stateIn s tb .channels)) (stateIn s tb)) s tb′
 
 abbrev pub tunedOf : Request → Tune → List ℕ → StateM → OutcomeM
 tunedOf r how ms = eachChange (r .command) (onFront (meaning how (periodIn ms) (volumeIn ms))) false (callOf r [])

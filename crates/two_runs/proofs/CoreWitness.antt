@@ -5,6 +5,7 @@
 use Prim.Native.Nat.{ℕ}
 use mathlib.Core.Path.{_≡_, refl}
 use mathlib.Core.Bool.{false, true}
+use mathlib.Core.Logic.{inl}
 use mathlib.Core.List.{List, [], _∷_, map}
 use lib.ListN.{length}
 use Rattle.machine.specs.State.{COMMAND, State}
@@ -47,13 +48,16 @@ begins = record { sane = tt; real = tt; entered = tt; high = tt; low = tt; none 
 
 quiet-goes : Goes party start quiet
 unfolding machine claim ofParty mayAlso
-quiet-goes = (record { party = tt; sends = tt; high = tt; full = tt; fits = tt }, (record { party = tt; sends = tt; high = tt; full = tt; fits = tt }, tt))
+quiet-goes = (
+  inl (record { party = tt; sends = tt; high = tt; full = tt; fits = tt }),
+  (inl (record { party = tt; sends = tt; high = tt; full = tt; fits = tt }), tt),
+)
 
 busy-goes : Goes party start busy
 unfolding machine claim ofParty mayAlso
 busy-goes = (
-  record { party = tt; sends = tt; high = tt; full = tt; fits = tt },
-  (record { apart = tt; low = tt; fits = tt }, (record { party = tt; sends = tt; high = tt; full = tt; fits = tt }, tt)),
+  inl (record { party = tt; sends = tt; high = tt; full = tt; fits = tt }),
+  (record { apart = tt; low = tt; fits = tt }, (inl (record { party = tt; sends = tt; high = tt; full = tt; fits = tt }), tt)),
 )
 
 same-calls : own quiet ≡ own busy

@@ -1,10 +1,6 @@
 -- Document 02, #113: a command other than ALLOCATE whose key is on no channel leaves a sound state that is at rest as it is, whatever
 -- it is answered.
 -- Assumes nothing.
---
---   Absent k cs        the key is on no channel; key 0 never is
---   Harmless o         a command, and not ALLOCATE
---   moves-nothing      the law
 use Prim.Native.Nat.{_+_, _*_, _^_, _<_, _/_, _%_, suc, ℕ}
 use mathlib.Core.Path.{_∙_, _≡_, ap, refl, sym, subst}
 use mathlib.Core.Bool.{Bool, _&&_, _||_, false, not, true}
@@ -29,11 +25,10 @@ use Rattle.machine_laws.proofs.Maps.{bit-of, meets-zero, minus-apart}
 use Rattle.machine.proofs.Steps.{first-none}
 use Rattle.machine_laws.proofs.Refusals.{refuse-same}
 use Rattle.machine_laws.proofs.Sound.{parts}
-use Rattle.machine_laws.proofs.Settling.{AtRest, settle-rested}
+use Rattle.machine_laws.specs.Settling.{AtRest}
+use Rattle.machine_laws.proofs.Settling.{settle-rested}
 use Rattle.machine_laws.proofs.KeepingCalls.{change-zero}
-
-abbrev pub Absent : ℕ → List Channel → Type 0
-Absent k cs = T (all (λ c. not (matches k c)) cs)
+use Rattle.two_runs.specs.OnNoChannel.{Absent, Harmless}
 
 matching-none : (k m : ℕ) (cs : List Channel) → Absent k cs → matching k m cs ≡ 0
 unfolding matching all bit
@@ -167,13 +162,6 @@ module _ (c : Call) (s : State) (a : Absent (c .key) (s .channels)) where
   perform-same UNKNOWN n t h = unfold silent in refl
 
 -- ---- the call
-
-abbrev pub Harmless : Op → Type 0
-Harmless OPEN = ⊥
-Harmless CLOSE = ⊥
-Harmless ABORT = ⊥
-Harmless (EVENT v) = ⊥
-Harmless (COMMAND n) = T (not (allocates (kind n)))
 
 small : (s : State) (c : Call) (n : ℕ) → T (not (allocates (kind n))) → refusal (COMMAND n) c s ≡ accepted → c .map < 2 ^ length (s .channels)
 unfolding refusal badMap

@@ -13,7 +13,8 @@ use Rattle.machine.specs.Commands.{doFinish, doPervol, each, eachChange, cutFro
 use Rattle.machine.proofs.Tests.{and-left, and-right, by-test, if-elim, or-named, test-false, test-true}
 use Rattle.machine_laws.proofs.KeepingCalls.{inProgress-named}
 use Rattle.two_runs.specs.TwoRuns.{Party, holds, mask}
-use Rattle.two_runs.proofs.Part.{fitting, ourWrite, project, projectOut}
+use Rattle.two_runs.specs.Part.{fitting, ourWrite}
+use Rattle.two_runs.proofs.Part.{project, projectOut}
 use Rattle.two_runs.proofs.Settle.{Loop}
 use Rattle.two_runs.proofs.TheirsFinish.{onFront-all, onFront-key}
 use Rattle.two_runs.proofs.OursPart.{Tame, finished-own, fit-own, mask-own, matching-mask, matching-own, mismatch-mask, own-floor, own-writes}

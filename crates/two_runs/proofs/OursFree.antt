@@ -17,9 +17,11 @@ use Rattle.machine_laws.proofs.Keeping.{named-away}
 use Rattle.machine_laws.proofs.Lists.{all-kept, keep-swap}
 use Rattle.machine_laws.proofs.Maps.{half-bit, length-change, minus-lt, odd-bit}
 use Rattle.two_runs.specs.TwoRuns.{Party, holds, mask, ownReplies}
-use Rattle.two_runs.proofs.Part.{fitting, ownLocks, project, projectOut}
+use Rattle.two_runs.specs.Part.{fitting}
+use Rattle.two_runs.proofs.Part.{ownLocks, project, projectOut}
 use Rattle.two_runs.proofs.Away.{free-away}
-use Rattle.two_runs.proofs.Settle.{Loop, lockFits, ownLock}
+use Rattle.two_runs.specs.Settle.{lockFits, ownLock}
+use Rattle.two_runs.proofs.Settle.{Loop}
 use Rattle.two_runs.proofs.OursPart.{Tame, dropped-own, finished-own, mask-other, mask-own, matching-mask, matching-own, mismatch-mask, own-append-both, state-path}
 
 module _ (p : Party) (real : T (not (eqb (p .key) 0))) where

@@ -14,7 +14,8 @@ use Rattle.machine.specs.Granting.{abortedIn, cutReplies}
 use Rattle.machine.specs.Commands.{back, cutFronts, frontGone, frontOnly, frontReplies}
 use Rattle.machine.proofs.Tests.{and-right, by-test, test-false, test-true}
 use Rattle.two_runs.specs.TwoRuns.{Party, holds, mask, ownReplies}
-use Rattle.two_runs.proofs.Part.{ourWrite, project}
+use Rattle.two_runs.specs.Part.{ourWrite}
+use Rattle.two_runs.proofs.Part.{project}
 use Rattle.two_runs.proofs.Settle.{Loop}
 use Rattle.two_runs.proofs.TheirsFronts.{fronts-fit}
 use Rattle.two_runs.proofs.OursPart.{abortedIn-own, cut-state, cutReplies-own, fit-own, own-append-both, own-cut-loop, own-floor, own-writes}

@@ -3,11 +3,8 @@
 -- need, and their first laws.
 -- Assumes nothing.
 --
---   ourWrite, theirWrite p w   a write has an id of the party's; has none
 --   projectOut p o     its part of an outcome: the answer, the replies to its ids, its part of the next state
---   fitting p c        a channel with K is at P or more and has writes of the party's alone; another has none of them
 --   fittingLock p l    a lock or a WAITCYCLE has an id of the party's exactly if it has K
---   lower p r          a waiting allocation is at most P, without K and without an id of the party's
 --   Ready p s          all of it, in a sound state with an entry for K
 --   allowed, modestly  what the premises leave of a command of the K party's, and of the others', by its kind
 --   Ours, Theirs       the premises about one call, of an operation o
@@ -18,7 +15,7 @@ use mathlib.Core.List.{List, [], _∷_, map}
 use lib.Dec.{T, T-not, eqb, eqb→eq, leb}
 use Rattle.machine.specs.Numbers.{ADCMD·ALLOCATE, ADCMD·FREE, ADCMD·SETPREC}
 use Rattle.machine.specs.Lists.{all, among, if_then_else_}
-use Rattle.machine.specs.State.{COMMAND, Call, Channel, Lock, Op, Outcome, Reply, Request, State, Write, free}
+use Rattle.machine.specs.State.{COMMAND, Call, Channel, Lock, Op, Outcome, Reply, State, free}
 use Rattle.machine.specs.Commands.{matching}
 use Rattle.machine.specs.Kinds.{ALLOCATE, CLEAR, FLUSH, FREE, Kind, LOCK, READ, RESET, SETPREC, START, STOP, FINISH, PERVOL, WAITCYCLE, UNKNOWN, UPDATE, WRITE, kind}
 use Rattle.machine.specs.Refusals.{accepted, refusal}
@@ -28,6 +25,7 @@ use Rattle.machine_laws.proofs.Lists.{keep-twice}
 use Rattle.two_runs.specs.TwoRuns.{Party, avoids, holds, keepsFloor, mask, maySend, modest, ownReplies, selected, sets, view, waitersOf}
 unfoldable pub use Rattle.two_runs.specs.Part.{ownLocks, project}
 use Rattle.two_runs.specs.Core.{OfK, OfOthers, mayAlso, ofParty}
+use Rattle.two_runs.specs.Part.{fitting, lower}
 
 -- ---- the part
 
@@ -36,20 +34,8 @@ projectOut p o = record { answer = o .answer; replies = ownReplies p (o .replies
 
 -- ---- between the calls
 
-abbrev pub ourWrite : Party → Write → Bool
-ourWrite p w = p .mine (w .id)
-
-abbrev pub theirWrite : Party → Write → Bool
-theirWrite p w = not (p .mine (w .id))
-
-unfoldable pub fitting : Party → Channel → Bool
-fitting p c = if holds p c then leb (p .floor) (c .prec) && all (ourWrite p) (c .writes) else all (theirWrite p) (c .writes)
-
 unfoldable pub fittingLock : Party → Lock → Bool
 fittingLock p l = if eqb (l .key) (p .key) then p .mine (l .id) else not (p .mine (l .id))
-
-unfoldable pub lower : Party → Request → Bool
-lower p r = leb (r .prec) (p .floor) && not (eqb (r .key) (p .key)) && not (p .mine (r .id))
 
 pub record Ready (p : Party) (s : State) : Type 0 where
   pub sane : T (sound s)

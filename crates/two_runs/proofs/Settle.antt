@@ -19,23 +19,19 @@ use Rattle.machine.specs.Commands.{ended}
 use Rattle.machine.specs.Settling.{Found, Settled, Walk, goOn, nobody, onLook, replied, rounds, saying, settle, somebody, staying, walk, walked}
 use Rattle.machine.specs.Sound.{soundLock, soundWaiter}
 use Rattle.machine.proofs.Tests.{and-both, and-left, and-right, by-test, if-elim, test-false, test-true}
-use Rattle.machine_laws.proofs.Choosing.{Spares, look-spares}
+use Rattle.machine_laws.specs.Choosing.{Spares}
+use Rattle.machine_laws.proofs.Choosing.{look-spares}
 use Rattle.machine_laws.proofs.Lists.{all-keep}
 use Rattle.machine_laws.proofs.Maps.{apart-meets, length-change, lowest-on, named-mono}
 use Rattle.machine_laws.proofs.Keeping.{served}
 use Rattle.machine_laws.proofs.Sound.{parts, in-use-few}
 use Rattle.two_runs.specs.TwoRuns.{Party, holds, mask, ownReplies}
-use Rattle.two_runs.proofs.Part.{Ready, fitting, fittingLock, lower, ownLocks, project}
+use Rattle.two_runs.specs.Part.{fitting, lower}
+use Rattle.two_runs.specs.Settle.{lockFits, ownLock, FoundCalm, WalkCalm}
+use Rattle.two_runs.proofs.Part.{Ready, fittingLock, ownLocks, project}
 use Rattle.two_runs.proofs.Away.{abortedIn-quiet, any-view, change-fit, change-view, keyFor-not, named-view, own-append, spared}
 
 -- ---- what settling needs, and keeps
-
--- a lock or a WAITCYCLE of the party names only its channels, of the board and at least one, and has an id of its own; no other has
-unfoldable pub lockFits : Party → List Channel → Lock → Bool
-lockFits p cs l = named (holds p) (l .map) cs && (ltb (l .map) (2 ^ length cs) && not (eqb (l .map) 0))
-
-unfoldable pub ownLock : Party → List Channel → Lock → Bool
-ownLock p cs l = if eqb (l .key) (p .key) then p .mine (l .id) && lockFits p cs l else not (p .mine (l .id))
 
 pub record Loop (p : Party) (s : State) : Type 0 where
   pub real : T (not (eqb (p .key) 0))
@@ -121,19 +117,6 @@ module _ (p : Party) (m : ℕ) (s : State) (off : T (named (λ c. not (holds p c
   dropped-quiet fit = own-append p (abortedIn m (s .channels)) (cutReplies m s) (abortedIn-quiet p m (s .channels) off fit) cut-quiet
 
 -- ---- a walk
-
-abbrev FoundCalm : Party → List Channel → Found → Type 0
-FoundCalm p cs nobody = Unit {0}
-FoundCalm p cs (somebody r m) = T (named (λ c. not (holds p c)) m cs) × T (lower p r)
-
--- what a walk from the locks ls does
-record WalkCalm (p : Party) (cs : List Channel) (n : ℕ) (ls : List Lock) (w : Walk) : Type 0 where
-  found : FoundCalm p cs (w .found)
-  quiet : ownReplies p (w .replies) ≡ []
-  locks : ownLocks p (w .locks) ≡ ownLocks p ls
-  locksOK : T (all (ownLock p cs) (w .locks))
-  low : T (all (lower p) (w .waiting))
-  fewer : length (w .waiting) ≤ n
 
 lower-prec : (p : Party) (r : Request) → T (lower p r) → r .prec ≤ p .floor
 unfolding lower

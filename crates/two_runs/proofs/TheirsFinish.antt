@@ -13,7 +13,7 @@ use Rattle.machine.specs.Commands.{doFinish, doPervol, each, eachChange, finish
 use Rattle.machine.proofs.Tests.{and-both, and-left, and-right, if-elim}
 use Rattle.machine_laws.proofs.KeepingCalls.{inProgress-named}
 use Rattle.two_runs.specs.TwoRuns.{Party, holds}
-use Rattle.two_runs.proofs.Part.{theirWrite}
+use Rattle.two_runs.specs.Part.{theirWrite}
 use Rattle.two_runs.proofs.Settle.{Loop}
 use Rattle.two_runs.proofs.TheirsEach.{Mild, eachChange-mild, finished-quiet, matching-away}
 use Rattle.two_runs.proofs.TheirsFronts.{fronts-loop, fronts-quiet, fronts-still}

@@ -14,7 +14,8 @@ use Rattle.machine.specs.Granting.{abortedIn, cutReplies}
 use Rattle.machine.specs.Commands.{back, cutFronts, frontGone, frontOnly, frontReplies}
 use Rattle.machine.proofs.Tests.{and-both, and-left, and-right, by-test, test-false, test-true}
 use Rattle.two_runs.specs.TwoRuns.{Party, holds, ownReplies}
-use Rattle.two_runs.proofs.Part.{fitting, ourWrite, project, theirWrite}
+use Rattle.two_runs.specs.Part.{fitting, ourWrite, theirWrite}
+use Rattle.two_runs.proofs.Part.{project}
 use Rattle.two_runs.proofs.Away.{abortedIn-quiet, own-append}
 use Rattle.two_runs.proofs.Settle.{Loop, cut-quiet}
 use Rattle.two_runs.proofs.TheirsEach.{cut-loop, cut-part}

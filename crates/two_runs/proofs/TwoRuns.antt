@@ -6,37 +6,46 @@
 use Prim.Native.Nat.{_≤_, _^_, _/_, _%_, suc, zero, ℕ}
 use mathlib.Core.Path.{_∙_, _≡_, ap, ap₂, refl, subst, sym}
 use mathlib.Core.Bool.{Bool, _&&_, _||_, false, not, true}
+use mathlib.Core.Logic.{_⊎_, inl, inr}
 use mathlib.Core.List.{List, [], _++_, _∷_, map}
 use native.Mathlib.Omega.{arith}
-use lib.Dec.{T, eqb, eqb→eq, leb→le, le→leb, ltb, ltb→lt, not-T}
+use lib.Dec.{T, eqb, eqb→eq, leb, leb→le, le→leb, ltb, ltb→lt, not-T}
 use lib.ListN.{length, length-map}
 use borrow.Author.Tests.{lt-ltb}
-use Rattle.machine.specs.Numbers.{REQUESTS, CYCLES}
-use Rattle.machine.specs.Lists.{all, if_then_else_}
-use Rattle.machine.specs.State.{ABORT, CLOSE, COMMAND, Call, Channel, EVENT, Event, Lock, OPEN, Op, State}
+use Rattle.machine.specs.Numbers.{REQUESTS, CYCLES, BADID, OTHERDESK, NONE}
+use Rattle.machine.specs.Lists.{all, if_then_else_, keep}
+use Rattle.machine.specs.State.{ABORT, CLOSE, COMMAND, Call, Channel, EVENT, Event, Lock, OPEN, Op, Outcome, State}
 use Rattle.machine.specs.Maps.{bit, half, lowest, odd}
 use Rattle.machine.specs.Choosing.{Look, fails, grants, held, look}
 use Rattle.machine.specs.Desks.{foreign}
-use Rattle.machine.specs.Commands.{cyclesIn, doAbort, doClose, doEvent, doFinish, doFree, doLock, doPervol, doRead, doWaitcycle, doWrite, each, eachChange, finished, silent}
+use Rattle.machine.specs.Commands.{cyclesIn, done, doAbort, doClose, doEvent, doFinish, doFree, doLock, doPervol, doRead, doWaitcycle}
+use Rattle.machine.specs.Commands.{doWrite, each, eachChange, finished, silent}
 use Rattle.machine.specs.Allocating.{allocating, doAllocate, doOpen, opening, waits}
 use Rattle.machine.specs.Call.{accept, answering, call, inRange, openSettling, perform, settling}
-use Rattle.machine.specs.Kinds.{ALLOCATE, CLEAR, FLUSH, FREE, Kind, LOCK, READ, RESET, SETPREC, START, STOP, FINISH, PERVOL, WAITCYCLE, UNKNOWN, UPDATE, WRITE, kind}
+use Rattle.machine.specs.Kinds.{ALLOCATE, CLEAR, FLUSH, FREE, Kind, LOCK, READ, RESET, SETPREC, START, STOP, FINISH, PERVOL, WAITCYCLE}
+use Rattle.machine.specs.Kinds.{UNKNOWN, UPDATE, WRITE, kind}
 use Rattle.machine.specs.Log.{opened}
-use Rattle.machine.specs.Refusals.{Refusal, accepted, badList, badMap, badMaps, badNumbers, refusal, refuse, refused}
+use Rattle.machine.specs.Refusals.{Refusal, accepted, badList, badMap, badMaps, badNumbers, first, refusal, refuse, refused}
 use Rattle.machine.specs.Sound.{sound}
-use Rattle.machine.proofs.Tests.{and-both, and-left, and-right, by-test, test-false, test-true}
+use Rattle.machine.proofs.Tests.{and-both, and-left, and-right, by-test, if-elim, test-false, test-true}
 use Rattle.machine_laws.proofs.Maps.{half-bit, odd-bit}
 use Rattle.machine_laws.proofs.Sound.{parts}
 use Rattle.machine_laws.proofs.Rooms.{room-unread}
-use Rattle.machine_laws.proofs.KeepingCalls.{Counted, call-sound}
-use Rattle.two_runs.specs.TwoRuns.{ByK, ByOthers, Demand3, Keeps, Party, Run, Start, Step, maySend, ofK, calls, counted, filled, inBytes, lends, noted, onK, our, own, mask, ownReplies, reached, said, seen, their, view, waitersOf}
-use Rattle.two_runs.proofs.Part.{Ready, fittingLock, ours-of, ownLocks, ownReplies-twice, project, projectOut, theirs-of, view-part, waiters-part}
-use Rattle.two_runs.proofs.Settle.{Loop, lockFits, ownLock}
+use Rattle.machine_laws.specs.Keeping.{Counted}
+use Rattle.machine_laws.proofs.KeepingCalls.{call-sound}
+use Rattle.two_runs.specs.TwoRuns.{ByK, ByOthers, Demand3, Keeps, Party, Run, Start, Step, maySend, ofK, calls, counted, filled}
+use Rattle.two_runs.specs.TwoRuns.{inBytes, lends, noted, onK, our, own, mask, ownReplies, reached, said, seen, their, view}
+use Rattle.two_runs.specs.TwoRuns.{waitersOf}
+use Rattle.two_runs.proofs.Part.{Ready, fittingLock, ours-of, ownLocks, ownReplies-twice, project, projectOut, theirs-of, view-part}
+use Rattle.two_runs.proofs.Part.{waiters-part}
+use Rattle.two_runs.specs.Settle.{lockFits, ownLock}
+use Rattle.two_runs.proofs.Settle.{Loop}
 use Rattle.two_runs.proofs.TheirsEach.{Mild}
 use Rattle.two_runs.proofs.TheirsCall.{theirs-mild}
+use Rattle.two_runs.proofs.OursSound.{project-sound}
 use Rattle.two_runs.proofs.OursCall.{ours-loop, ours-same}
 use Rattle.two_runs.proofs.Begin.{start-ready}
-use Rattle.two_runs.specs.Core.{Begins, Demand3·core, Goes, OfK, OfOthers, mayAlso, ofParty}
+use Rattle.two_runs.specs.Core.{Begins, Demand3·core, Goes, Missing, OfK, OfOthers, mayAlso, misses, ofParty}
 
 -- ---- the same call with another list lent
 
@@ -141,6 +150,68 @@ ours-fits p s c t full (COMMAND n) u = tt
 own-same : (p : Party) (s : State) (c : Call) → Ready p s → OfK p s c → call (project p s) (said c) ≡ call (project p s) c
 own-same p s c r k = said-same c (k .full) (project p s) (ours-fits p s c (r .sane) (k .full) (c .op) (k .party))
 
+-- ---- a call that names an id of the other half is refused with 4 or 8 in any sound state, and nothing comes of it
+
+missed-by : Call → ℕ
+missed-by c = if ltb 63 (c .id) then BADID else OTHERDESK
+
+missed-mute : (c : Call) → T (leb (missed-by c) OTHERDESK)
+unfolding missed-by
+missed-mute c = if-elim (λ (e : ℕ). T (leb e OTHERDESK)) (ltb 63 (c .id)) (λ _. tt) (λ _. tt)
+
+module _ (c : Call) (full : T (lends c)) (s : State) (t : T (sound s)) where
+  missed-refusal : (o : Op) → T (misses o c) → refusal o c s ≡ refused (missed-by c)
+  unfolding misses refusal first missed-by
+  missed-refusal OPEN m = absurd m
+  missed-refusal CLOSE m = absurd m
+  missed-refusal ABORT m = rw (test-true (sound s) t, room-enough c full, test-true (foreign c) m) (go (ltb 63 (c .id)))
+    where
+      go : (b : Bool) → (if b then refused BADID else refused OTHERDESK) ≡ refused (if b then BADID else OTHERDESK)
+      go true = refl
+      go false = refl
+  missed-refusal (EVENT v) m = absurd m
+  missed-refusal (COMMAND n) m = rw (test-true (sound s) t, room-enough c full, test-true (foreign c) m) (go (ltb 63 (c .id)))
+    where
+      go : (b : Bool) → (if b then refused BADID else refused OTHERDESK) ≡ refused (if b then BADID else OTHERDESK)
+      go true = refl
+      go false = refl
+
+  missed-call : T (misses (c .op) c) → call s c ≡ silent (done (missed-by c) 0 (c .key) NONE) [] s
+  unfolding call answering
+  missed-call m = rw (missed-refusal (c .op) m) (go (c .op))
+    where
+      go : (o : Op) → refuse o (missed-by c) c s ≡ silent (done (missed-by c) 0 (c .key) NONE) [] s
+      go OPEN = unfold refuse in refl
+      go CLOSE = unfold refuse in refl
+      go ABORT = unfold refuse in refl
+      go (EVENT v) = unfold refuse in refl
+      go (COMMAND n) = unfold refuse in rw (test-true (leb (missed-by c) OTHERDESK) (missed-mute c))
+
+missed-fits : (c : Call) (full : T (lends c)) (s : State) (o : Op) → T (misses o c) → Fits c full s o
+unfolding misses
+missed-fits c full s OPEN m = absurd m
+missed-fits c full s CLOSE m = absurd m
+missed-fits c full s ABORT m = tt
+missed-fits c full s (EVENT v) m = absurd m
+missed-fits c full s (COMMAND n) m = tt
+
+missed-alone : (p : Party) (s : State) (c : Call) → Ready p s → Missing c → call (project p s) (said c) ≡ projectOut p (call s c)
+unfolding projectOut silent ownReplies keep
+missed-alone p s c r m =
+    said-same c (m .full) (project p s) (missed-fits c (m .full) (project p s) (c .op) (m .refused))
+    ∙ missed-call c (m .full) (project p s) (project-sound p (r .real) s (r .sane) (r .entered)) (m .refused)
+    ∙ sym (ap (projectOut p) (missed-call c (m .full) s (r .sane) (m .refused)))
+
+missed-next : (p : Party) (s : State) (c : Call) → Ready p s → Missing c → call s c .next ≡ s
+unfolding silent
+missed-next p s c r m = ap (λ (o : Outcome). o .next) (missed-call c (m .full) s (r .sane) (m .refused))
+
+-- a call of the K party's does to its part of the state what it does to the state
+pub ours-alone : (p : Party) (s : State) (c : Call) → Ready p s → OfK p s c ⊎ Missing c
+    → call (project p s) (said c) ≡ projectOut p (call s c)
+ours-alone p s c r (inl k) = own-same p s c r k ∙ ours-same p s r c (ours-of p s c k)
+ours-alone p s c r (inr m) = missed-alone p s c r m
+
 -- ---- every state of a run is one between two calls
 
 locks-ready : (p : Party) (cs : List Channel) (ls : List Lock) → T (all (ownLock p cs) ls) → T (all (fittingLock p) ls)
@@ -183,8 +254,11 @@ bytes-count c t = count-of (c .op) c (and-right (inRange c) (counted (c .op) c) 
 pub theirs-ready : (p : Party) (s : State) (c : Call) → Ready p s → OfOthers p s c → Ready p (call s c .next)
 theirs-ready p s c r b = ready-from p (call s c .next) (call-sound s c (bytes-range c (b .fits)) (bytes-count c (b .fits)) (r .sane)) (theirs-mild p s c r (theirs-of p s c b) .loop)
 
-pub ours-ready : (p : Party) (s : State) (c : Call) → Ready p s → OfK p s c → Ready p (call s c .next)
-ours-ready p s c r b = ready-from p (call s c .next) (call-sound s c (bytes-range c (b .fits)) (bytes-count c (b .fits)) (r .sane)) (ours-loop p s r c (ours-of p s c b))
+pub ours-ready : (p : Party) (s : State) (c : Call) → Ready p s → OfK p s c ⊎ Missing c → Ready p (call s c .next)
+ours-ready p s c r (inr m) = subst (Ready p) (sym (missed-next p s c r m)) r
+ours-ready p s c r (inl b) =
+    ready-from p (call s c .next) (call-sound s c (bytes-range c (b .fits)) (bytes-count c (b .fits)) (r .sane))
+    (ours-loop p s r c (ours-of p s c b))
 
 -- ---- a run shows what the K party's calls show, made alone from its part of the state
 
@@ -193,8 +267,7 @@ unfolding seen own projectOut
 alone p s [] r k = rw (view-part p s, waiters-part p s)
 alone p s (our c ∷ xs) r k =
     rw (
-      own-same p s c r (k .0),
-      ours-same p s r c (ours-of p s c (k .0)),
+      ours-alone p s c r (k .0),
       ownReplies-twice p (call s c .replies),
       view-part p (call s c .next),
       waiters-part p (call s c .next),
@@ -247,13 +320,13 @@ unfolding calls all
 goes-of p s [] k l f = tt
 goes-of p s (our c ∷ xs) k l f =
     let b = k .0 in (
-      record {
+      inl (record {
         party = party-of p (c .op) c s (b .party);
         sends = also (c .op) (b .sends);
         high = b .high;
         full = and-left (lends c) (all lends (calls xs)) l;
         fits = and-left (inBytes c) (all inBytes (calls xs)) f;
-      },
+      }),
       goes-of p (call s c .next) xs (k .1) (and-right (lends c) (all lends (calls xs)) l) (and-right (inBytes c) (all inBytes (calls xs)) f),
     )
 goes-of p s (their c ∷ xs) k l f =
@@ -276,7 +349,7 @@ part-after p s [] r k = refl
 part-after p s (our c ∷ xs) r k =
     part-after p (call s c .next) xs (ours-ready p s c r (k .0)) (k .1)
     ∙ ap (λ (u : State). reached u (map our (own xs)))
-    (sym (ap (λ (o : Rattle.machine.specs.State.Outcome). o .next) (own-same p s c r (k .0) ∙ ours-same p s r c (ours-of p s c (k .0)))))
+    (sym (ap (λ (o : Outcome). o .next) (ours-alone p s c r (k .0))))
 part-after p s (their c ∷ xs) r k =
     part-after p (call s c .next) xs (theirs-ready p s c r (k .0)) (k .1)
     ∙ ap (λ (u : State). reached u (map our (own xs))) (theirs-mild p s c r (theirs-of p s c (k .0)) .still)

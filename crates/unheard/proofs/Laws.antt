@@ -11,11 +11,10 @@ use Rattle.board.specs.declared.Board.{Board}
 use Rattle.answers.specs.declared.Answer.{Answer}
 use Rattle.answers.specs.Answers.{answerOf, answerIn}
 use Rattle.frames.specs.declared.Frame.{Frame}
-use Rattle.frames.proofs.Laws.{Asked}
+use Rattle.frames.specs.Frames.{Asked}
 use Rattle.lines.specs.Lines.{Tells}
 use Rattle.lines.proofs.Laws.{lines-alone, tells-as}
-use Rattle.unheard.specs.declared.Fed.{Fed}
-use Rattle.unheard.specs.Unheard.{Dull, unheard, Unheard}
+use Rattle.unheard.specs.Unheard.{Fed, Dull, unheard, Unheard}
 
 -- ---- a line that is no frame
 

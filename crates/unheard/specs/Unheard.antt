@@ -1,6 +1,7 @@
 -- A line of a log that is not served: what is promised of it.
 -- Assumes nothing.
 --
+--   Fed                the state after a line, and how many bytes of output there are
 --   dull               the output of a line that is no frame
 --   Dull s out f out′  its promise: the state stays, that output stands in front
 --   unheard c                       the output of a line on a state that is not sound, given its call, if it is one
@@ -16,7 +17,10 @@ use Rattle.machine.specs.Commands.{done}
 use Rattle.machine.specs.Log.{unhex, frame, answerLine}
 use Rattle.memory.specs.Splice.{splice}
 use Rattle.board.specs.declared.Board.{Board}
-use Rattle.unheard.specs.declared.Fed.{Fed}
+
+pub record Fed : Type 0 where
+  pub state : Board
+  pub n : ℕ
 
 abbrev pub dull : List ℕ
 dull = answerLine (done MALFORMED 0 0 NONE)

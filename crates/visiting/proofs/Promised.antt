@@ -1,6 +1,6 @@
 -- The promise of a turn, from what its step did. Assumes nothing.
 use Prim.Native.Nat.{ℕ, suc, _+_, _-_, _≤_, _<_}
-use mathlib.Core.Path.{_≡_, refl, ap, sym, subst, _∙_}
+use mathlib.Core.Path.{_≡_, refl, ap, ap₂, sym, subst, _∙_}
 use mathlib.Core.Bool.{true, false, not, _&&_}
 use mathlib.Core.List.{List, [], _∷_, _++_}
 use native.Mathlib.Omega.{arith}
@@ -21,13 +21,16 @@ use Rattle.store.specs.declared.State.{State}
 use Rattle.store.specs.Store.{structOf, stateIn}
 use Rattle.store.specs.Work.{Ready, Did}
 use Rattle.store.proofs.Store.{held-parts, held-eight, held-next}
-use Rattle.waiting.specs.Waiting.{waiter}
+use Rattle.lanes.specs.Lanes.{wordOf, weights}
+use Rattle.lanes.proofs.Laws.{weights-out}
+use Rattle.waiting.specs.Waiting.{nobody, waiter}
 use Rattle.one_request.specs.OneRequest.{outAt, droppedReplies, stolen, withoutLocks}
 use Rattle.choosing.specs.declared.Look.{Look as LookC}
 use Rattle.choosing.specs.declared.Look.the-variants.{Fails}
 use Rattle.choosing.specs.Choosing.{lookIn}
 use Rattle.choosing.proofs.Laws.{lookIn-of}
-use Rattle.visiting.specs.Visiting.{onward, Looked, Visits, Turned, toLook}
+use Rattle.visiting.specs.Visiting.{onward, afterLook, repliesTo, nextPlace, isGrant, Looked, Visits, Turned, toLook, SameTurn}
+use Rattle.visiting.specs.declared.Turn.{Turn}
 use Rattle.waiting.proofs.Waiting.{waiter-in}
 use Rattle.one_request.proofs.Without.{out-sound}
 use Rattle.waiting.proofs.Finding.{comes-impatient}
@@ -110,7 +113,7 @@ module _ {st : State} {tb l : List ℕ} {n i m : ℕ} (q : Looked st tb l n i (h
   held-ready = record { held = q .ready .held; room = q .ready .room; fits = held-fits }
 
   pub held-turned : {t : State} {tb′ l′ : List ℕ} {n′ : ℕ} → Did (withoutLocks m (stateIn st tb)) (stolen m (stateIn st tb)) l n t tb′ l′ n′
-      → Turned st tb l n i (record { state = t; n = n′; next = i + 1; granted = false }) tb′ l′
+      → Turned st tb l n i (record { state = t; n = n′; next = i + 1; granted = false; left = 0 }) tb′ l′
   held-turned {t} {tb′} {l′} {n′} d =
       let s = stateIn st tb in
       let h = q .ready .held in
@@ -122,10 +125,14 @@ module _ {st : State} {tb l : List ℕ} {n i m : ℕ} (q : Looked st tb l n i (h
       let f = held-fits in
       let r = q .ready .room in
       record {
+        did = subst (λ (k : Look). Did (afterLook k i s) (repliesTo k i s) l n t tb′ l′ n′) (sym (q .seen)) d;
+        next = sym (ap (λ (k : Look). nextPlace k i) (q .seen));
+        grant = sym (ap isGrant (q .seen));
         held = w .0;
         same = same-behind (onward i s) (onward (i + 1) (stateIn t tb′)) (held-is ∙ ap (λ (u : StateM). behind (stolen m s) (onward (i + 1) u)) (sym (w .1))) d (omega arith);
         less = (omega arith, omega arith, omega arith);
         still = λ _. ap (λ (u : StateM). u .channels) (w .1);
+        left = let e = ap (λ (u : StateM). weights (u .waiting)) (w .1) in omega (arith, e);
         look =
             toLook-at s i (place-in q)
             ∙ (further-held (take i (s .waiting)) (waiter i s) (drop (suc i) (s .waiting)) s m (q .seen)
@@ -151,10 +158,10 @@ module _ {st : State} {tb l : List ℕ} {n i m : ℕ} (q : Looked st tb l n i (g
   pub grant-ready : Ready st tb l n (length (dropped m (stateIn st tb)) + 1)
   grant-ready = record { held = q .ready .held; room = q .ready .room; fits = grant-fits }
 
-  pub grant-turned : {t : State} {tb′ l′ : List ℕ} {n′ : ℕ}
+  pub grant-turned : {t : State} {tb′ l′ : List ℕ} {n′ x : ℕ} → x ≡ wordOf (waiter i (stateIn st tb) .combos)
       → Did (granted m (waiter i (stateIn st tb) .key) (waiter i (stateIn st tb) .prec) (outAt i (stateIn st tb))) (dropped m (stateIn st tb) ++ replied 0 m (keyFor (waiter i (stateIn st tb) .key) (outAt i (stateIn st tb))) (waiter i (stateIn st tb)) ∷ []) l n t tb′ l′ n′
-      → Turned st tb l n i (record { state = t; n = n′; next = 0; granted = true }) tb′ l′
-  grant-turned {t} {tb′} {l′} {n′} d =
+      → Turned st tb l n i (record { state = t; n = n′; next = 0; granted = true; left = x }) tb′ l′
+  grant-turned {t} {tb′} {l′} {n′} {x} v d =
       let s = stateIn st tb in
       let h = q .ready .held in
       let g = granted m (waiter i s .key) (waiter i s .prec) (outAt i s) in
@@ -167,10 +174,14 @@ module _ {st : State} {tb l : List ℕ} {n i m : ℕ} (q : Looked st tb l n i (g
       let f = fits-behind rs (onward i s) (settle g) n 64 grant-is (q .ready .fits) in
       let r = q .ready .room in
       record {
+        did = subst (λ (k : Look). Did (afterLook k i s) (repliesTo k i s) l n t tb′ l′ n′) (sym (q .seen)) d;
+        next = sym (ap (λ (k : Look). nextPlace k i) (q .seen));
+        grant = sym (ap isGrant (q .seen));
         held = w .0;
         same = same-behind (onward i s) (settle (stateIn t tb′)) (grant-is ∙ ap (λ (u : StateM). behind rs (settle u)) (sym (w .1))) d (omega arith);
         less = omega arith;
         still = λ e. absurd (let z : _≡_ {A = ℕ} 0 1 = cc in omega arith);
+        left = let e = ap (λ (u : StateM). weights (u .waiting)) (w .1) in omega (arith, e, v, waiting-weights m (waiter i s .key) (waiter i s .prec) (outAt i s), weights-out nobody (s .waiting) i (place-in q));
         look =
             toLook-at s i (place-in q)
             ∙ (further-grants (take i (s .waiting)) (waiter i s) (drop (suc i) (s .waiting)) s m (q .seen) ∙ ap (λ (u : StateM). suc (looks u)) (sym (w .1)));
@@ -178,6 +189,9 @@ module _ {st : State} {tb l : List ℕ} {n i m : ℕ} (q : Looked st tb l n i (g
     where
       granted-eight : (x k pr : ℕ) (u : StateM) → length (u .channels) ≡ 8 → length (granted x k pr u .channels) ≡ 8
       granted-eight x k pr u e = unfold granted in length-change (taken (keyFor k u) pr) x (u .channels) ∙ e
+
+      waiting-weights : (x k pr : ℕ) (u : StateM) → weights (granted x k pr u .waiting) ≡ weights (u .waiting)
+      waiting-weights x k pr u = unfold granted in refl
 
       waiting-same : (x k pr : ℕ) (u : StateM) → length (granted x k pr u .waiting) ≡ length (u .waiting)
       waiting-same x k pr u = unfold granted in refl
@@ -196,9 +210,9 @@ module _ {st : State} {tb l : List ℕ} {n i : ℕ} (q : Looked st tb l n i fail
   pub drops-ready : Ready st tb l n 1
   drops-ready = record { held = q .ready .held; room = q .ready .room; fits = drops-fits }
 
-  pub drops-turned : {t : State} {tb′ l′ : List ℕ} {n′ : ℕ} → Did (outAt i (stateIn st tb)) (droppedReplies i (stateIn st tb)) l n t tb′ l′ n′
-      → Turned st tb l n i (record { state = t; n = n′; next = i; granted = false }) tb′ l′
-  drops-turned {t} {tb′} {l′} {n′} d =
+  pub drops-turned : {t : State} {tb′ l′ : List ℕ} {n′ x : ℕ} → x ≡ wordOf (waiter i (stateIn st tb) .combos) → Did (outAt i (stateIn st tb)) (droppedReplies i (stateIn st tb)) l n t tb′ l′ n′
+      → Turned st tb l n i (record { state = t; n = n′; next = i; granted = false; left = x }) tb′ l′
+  drops-turned {t} {tb′} {l′} {n′} {x} v d =
       let s = stateIn st tb in
       let h = q .ready .held in
       let w = held-next (outAt i s) t tb′ (out-sound i s (held-parts h)) (held-eight h) (d .struct) (d .table) in
@@ -209,15 +223,37 @@ module _ {st : State} {tb l : List ℕ} {n i : ℕ} (q : Looked st tb l n i fail
       let f = drops-fits in
       let r = q .ready .room in
       record {
+        did = subst (λ (k : Look). Did (afterLook k i s) (repliesTo k i s) l n t tb′ l′ n′) (sym (q .seen)) d;
+        next = sym (ap (λ (k : Look). nextPlace k i) (q .seen));
+        grant = sym (ap isGrant (q .seen));
         held = w .0;
         same = same-behind (onward i s) (onward i (stateIn t tb′)) (drops-is ∙ ap (λ (u : StateM). behind (droppedReplies i s) (onward i u)) (sym (w .1))) d (omega arith);
         less = (omega arith, omega arith, omega arith);
         still = λ _. ap (λ (u : StateM). u .channels) (w .1);
+        left = let e = ap (λ (u : StateM). weights (u .waiting)) (w .1) in omega (arith, e, v, weights-out nobody (s .waiting) i (place-in q));
         look =
             toLook-at s i (place-in q)
             ∙ (further-drops (take i (s .waiting)) (waiter i s) (drop (suc i) (s .waiting)) s (q .seen) b
             ∙ ap suc (sym (toLook-out s i (place-in q)) ∙ ap (toLook i) (sym (w .1))));
       }
+
+-- ---- no second turn fits
+
+pub one-turn : {st : State} {tb l : List ℕ} {n i : ℕ} {r r₂ : Turn} {tb₁ tb₂ l₁ l₂ : List ℕ} → Turned st tb l n i r tb₁ l₁ → Turned st tb l n i r₂ tb₂ l₂
+    → SameTurn r r₂ tb₁ tb₂ l₁ l₂
+one-turn {r = r} {r₂ = r₂} {tb₁ = tb₁} {tb₂ = tb₂} x y =
+    let s = x .did .struct ∙ sym (y .did .struct) in
+    let b = x .did .table ∙ sym (y .did .table) in
+    let c = x .did .count ∙ sym (y .did .count) in
+    let p = x .next ∙ sym (y .next) in
+    let g = x .grant ∙ sym (y .grant) in
+    let w = ap₂ (λ (u : State) (t : List ℕ). weights (stateIn u t .waiting)) s b in
+    let e : r .left ≡ r₂ .left = omega (arith, x .left, y .left, w) in
+    record {
+      turn = λ i. record { state = s i; n = c i; next = p i; granted = g i; left = e i };
+      table = b;
+      list = x .did .list ∙ sym (y .did .list);
+    }
 
 -- ---- a look at which the walk stopped
 

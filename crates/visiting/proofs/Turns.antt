@@ -21,9 +21,11 @@ use Rattle.machine.proofs.Tests.{and-left, and-right}
 use Rattle.machine_laws.proofs.Lists.{sub-refl, sub-append, sub-map, sub-keep, sub-all}
 use Rattle.machine_laws.proofs.Keeping.{ids-sub, parts-sub, grant-sound}
 use Rattle.machine_laws.proofs.KeepingSettle.{Unlocked, look-unlocked}
-use Rattle.machine_laws.proofs.Looking.{behind, resume, resume-waiting}
-use Rattle.display.proofs.Looking.{further, further-waiting}
-use Rattle.machine_laws.proofs.Sound.{Parts}
+use Rattle.machine_laws.specs.Looking.{resume}
+use Rattle.machine_laws.proofs.Looking.{behind, resume-waiting}
+use Rattle.display.specs.Looks.{further}
+use Rattle.display.proofs.Looking.{further-waiting}
+use Rattle.machine_laws.specs.Sound.{Parts}
 use Rattle.store.specs.declared.State.{State}
 use Rattle.store.specs.Work.{Did}
 use Rattle.waiting.specs.Waiting.{nobody, waiter}

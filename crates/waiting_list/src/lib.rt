@@ -20,7 +20,7 @@ pub fn waiting(state: &[u8], table: &[u8], list: &mut [u8]) -> Listed
     if !sound::sound(b, table) {
         return Listed { error: 1, count: 0 };
     }
-    if list.len() < 256 {
+    if list.len() < audio::RECORDS_SIZE {
         return Listed { error: 5, count: 0 };
     }
     let n = records::fill_front(b, table, list);

@@ -22,7 +22,8 @@ use Rattle.memory.proofs.Splice.{length-splice}
 use Rattle.channel.specs.Channel.{channelOf}
 use Rattle.board.specs.declared.Board.{Board}
 use Rattle.board.specs.Board.{structOf, stateIn, Held}
-use Rattle.machine_laws.proofs.Sound.{Parts, parts, ids-few}
+use Rattle.machine_laws.specs.Sound.{Parts}
+use Rattle.machine_laws.proofs.Sound.{parts, ids-few}
 use Rattle.board.proofs.Laws.{struct-eight}
 use Rattle.channel_lines.specs.ChannelLines.{boardLines}
 use Rattle.channel_lines.proofs.ChannelLines.{board-few}
@@ -31,8 +32,7 @@ use Rattle.gathering.specs.Lumps.{LINE, ended, used}
 use Rattle.gathering.proofs.Lumps.{used-within}
 use Rattle.serving.proofs.Laws.{feed-few}
 use Rattle.taking.specs.declared.Show.{Show}
-use Rattle.taking.specs.declared.Taken.{Taken}
-use Rattle.taking.specs.Desk.{shownOf, displayAfter, fed, Desk, deskOf, gathered, answered, taken, needed, fits, takes, filled, closed, finished, Leaves}
+use Rattle.taking.specs.Desk.{Taken, shownOf, displayAfter, fed, Desk, deskOf, gathered, answered, taken, needed, fits, takes, filled, closed, finished, Leaves}
 use Rattle.taking.proofs.Kept.{Fine, held-fine, feed-fine, answered-fine, leaves-held}
 use Rattle.taking.proofs.Laws.{kept-few, taken-used, used-some}
 use Rattle.paging.specs.Paging.{Fills}

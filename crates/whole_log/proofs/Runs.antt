@@ -16,19 +16,14 @@ use Rattle.store.specs.Store.{tableOf}
 use Rattle.board.specs.Board.{sized, structOf, stateIn, Held}
 use Rattle.gathering.specs.Lumps.{LINE}
 use Rattle.taking.specs.declared.Show.{Show}
-use Rattle.taking.specs.declared.Taken.{Taken}
-use Rattle.taking.specs.Desk.{Desk, deskOf, needed, fits, filled, closed, finished, Leaves}
+use Rattle.taking.specs.Desk.{Taken, Desk, deskOf, needed, fits, filled, closed, finished, Leaves}
 use Rattle.taking.proofs.Kept.{held-fine}
 use Rattle.paging.specs.Paging.{Fills}
 use Rattle.finishing.specs.Finishing.{Finishes}
 use Rattle.finishing.proofs.Laws.{finished-fits}
-use Rattle.whole_log.specs.Whole.{joined, Ran, fills, used-up, finishes, writes, over}
+use Rattle.whole_log.specs.Whole.{joined, fills, used-up, finishes, writes, over, Runs}
 use Rattle.whole_log.proofs.Progress.{Good, Went, filled-went, filled-on, finished-went, left-held}
 use Rattle.whole_log.proofs.Whole.{fresh-held}
-
-pub record Runs (show : Show) (s : Board) (tb dp l : List ℕ) (n : ℕ) (page : List ℕ) (bss : List (List ℕ)) : Type 0 where
-  pub out : List ℕ
-  pub ran : Ran show s tb dp l n page 0 bss out
 
 -- a desk, as a call would leave it
 abbrev takenOf : Desk → Taken

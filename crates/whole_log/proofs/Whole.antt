@@ -22,16 +22,15 @@ use Rattle.board.specs.declared.Board.{Board}
 use Rattle.store.specs.Store.{tableOf}
 use Rattle.board.specs.Board.{sized, structOf, stateIn, Held}
 use Rattle.board.proofs.Laws.{held-of, stateIn-of, fresh-sane}
-use Rattle.gathering.specs.Lumps.{LINE, front, ended, used, kept, gatheredOf, Gathers}
-use Rattle.gathering.proofs.Lumps.{Stands, stands-none, stands-more, stands-frame, stands-feed, stands-within, front-open, used-open, lines-none, lines-last, lines-step, lines-on}
+use Rattle.gathering.specs.Lumps.{LINE, front, ended, used, kept, gatheredOf, Gathers, Stands}
+use Rattle.gathering.proofs.Lumps.{stands-none, stands-more, stands-frame, stands-feed, stands-within, front-open, used-open, lines-none, lines-last, lines-step, lines-on}
 use Rattle.taking.specs.declared.Show.{Show}
-use Rattle.taking.specs.declared.Taken.{Taken}
-use Rattle.taking.specs.Desk.{hidden, shownOf, displayAfter, fed, runShown, logShown, Desk, deskOf, gathered, answered, taken, fits, takes, filled, closed, finished, Leaves}
+use Rattle.taking.specs.Desk.{Taken, hidden, shownOf, displayAfter, fed, runShown, logShown, Desk, deskOf, gathered, answered, taken, fits, takes, filled, closed, finished, Leaves}
 use Rattle.taking.proofs.Kept.{leaves-state}
 use Rattle.taking.proofs.Laws.{fed-hidden, taken-open, taken-ended, taken-used, closed-none, closed-some}
 use Rattle.paging.specs.Paging.{Fills}
 use Rattle.finishing.specs.Finishing.{Finishes}
-use Rattle.whole_log.specs.Whole.{joined, Ran, fills, used-up, finishes, writes, over, boardAt, tableAt}
+use Rattle.whole_log.specs.Whole.{joined, Ran, fills, used-up, finishes, writes, over, boardAt, tableAt, Ended}
 use Rattle.whole_log.proofs.Progress.{Good, Went, desk-good, taken-went, filled-went, finished-went, left-held, left-shown, left-inside}
 
 -- ---- runShown
@@ -249,11 +248,6 @@ ran-run p h e r t o (over {show} {s} {tb} {dp} {l} z) =
     sym (ap (λ (x : List ℕ). runShown show (stateIn s tb) dp (lines (x ++ []))) q ∙ ap (runShown show (stateIn s tb) dp) lines-none ∙ run-none show (stateIn s tb) dp)
 
 -- ---- where it ends
-
--- the struct and the table that a run ends with hold the state that the machine comes to
-pub record Ended (s : StateM) (ls : List (List ℕ)) (b : Board) (tb : List ℕ) : Type 0 where
-  pub held : Held b tb
-  pub state : stateIn b tb ≡ run s ls .next
 
 left-arrives : {t : Taken} {l tb dp page : List ℕ} {d x : Desk} {m : ℕ} → Went d m x → Leaves t l tb dp page x → (p rest : List ℕ)
     → run (stateIn (t .state) tb) (lines (p ++ rest)) .next ≡ arrives x p rest

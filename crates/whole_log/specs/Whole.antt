@@ -11,15 +11,20 @@
 --     writes                     what stands on the page is written, and the page is empty again: after any call
 --     over                       the input has ended, and nothing stands of a line or on the page
 --   boardAt r, tableAt r         the struct and the table that a run ends with
+--   Runs show s tb dp l n page bss   there is such a run, from an empty page
+--   Ended s ls b tb              the struct b and the table tb hold the state that the machine comes to after the lines ls
 use Prim.Native.Nat.{ℕ}
 use mathlib.Core.Path.{_≡_}
 use mathlib.Core.List.{List, [], _∷_, _++_}
 use lib.ListN.{take, drop}
 use Rattle.board.specs.declared.Board.{Board}
 use Rattle.taking.specs.declared.Show.{Show}
-use Rattle.taking.specs.declared.Taken.{Taken}
+use Rattle.taking.specs.Desk.{Taken}
 use Rattle.paging.specs.Paging.{Fills}
 use Rattle.finishing.specs.Finishing.{Finishes}
+use Rattle.machine.specs.State.{State as StateM}
+use Rattle.machine.specs.Log.{run}
+use Rattle.board.specs.Board.{stateIn, Held}
 
 abbrev pub joined : List (List ℕ) → List ℕ
 joined [] = []
@@ -50,3 +55,13 @@ tableAt (used-up k) = tableAt k
 tableAt (finishes w k) = tableAt k
 tableAt (writes k) = tableAt k
 tableAt (over {tb = tb} z) = tb
+
+-- whatever the lumps are: `run-exists` of proofs/Runs.antt
+pub record Runs (show : Show) (s : Board) (tb dp l : List ℕ) (n : ℕ) (page : List ℕ) (bss : List (List ℕ)) : Type 0 where
+  pub out : List ℕ
+  pub ran : Ran show s tb dp l n page 0 bss out
+
+-- the state at the end is the machine's: `ran-ends` of proofs/Whole.antt
+pub record Ended (s : StateM) (ls : List (List ℕ)) (b : Board) (tb : List ℕ) : Type 0 where
+  pub held : Held b tb
+  pub state : stateIn b tb ≡ run s ls .next

@@ -23,14 +23,15 @@ use Rattle.machine.specs.Refusals.{Refusal, accepted, refused, first, badMap, b
 use Rattle.machine.specs.Call.{perform, settling, openSettling, accept, answering, call, inRange}
 use Rattle.machine.proofs.Tests.{if-elim, and-left, and-right, and-both, nor-left, nor-right, nor-both, test-false}
 use Rattle.machine_laws.proofs.Maps.{length-change}
-use Rattle.machine_laws.proofs.Sound.{Parts, unparts, in-use-few}
-use Rattle.machine.proofs.Steps.{NoneOf, first-none}
+use Rattle.machine_laws.specs.Sound.{Parts}
+use Rattle.machine_laws.proofs.Sound.{unparts, in-use-few}
+use Rattle.machine.specs.Steps.{NoneOf}
+use Rattle.machine.proofs.Steps.{first-none}
 use Rattle.machine_laws.proofs.KeepingSettle.{look-unlocked}
 use Rattle.machine_laws.proofs.KeepingCalls.{open-sound, close-sound, abort-sound, event-sound, perform-sound, range-prec, range-key, id-small}
-use Rattle.widening.specs.Widening.{wider, widen, widenO, widenS, smallList}
-use Rattle.widening.proofs.Keys.{Few}
+use Rattle.widening.specs.Widening.{wider, widen, widenO, widenS, smallList, Few, Waits}
 use Rattle.widening.proofs.Sound.{map-more, maps-more, ids-wide, sound-wide}
-use Rattle.widening.proofs.Settling.{Waits, settle-wide}
+use Rattle.widening.proofs.Settling.{settle-wide}
 use Rattle.widening.proofs.Commands.{Locks, change-each, free-wide, lock-wide, read-wide, write-wide, waitcycle-wide, finish-wide, event-wide, close-wide, abort-wide, allocate-wide, open-wide}
 
 -- ---- what a sound state stores fits its board

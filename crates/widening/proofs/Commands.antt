@@ -17,10 +17,10 @@ use Rattle.machine.specs.Kinds.{Kind, RESET, READ, WRITE, UPDATE, CLEAR, STOP, 
 use Rattle.machine.specs.Call.{perform}
 use Rattle.machine.proofs.Tests.{and-left, and-right, by-test, test-true, test-false}
 use Rattle.machine_laws.proofs.Maps.{lowest-small}
-use Rattle.widening.specs.Widening.{wider, widen, widenO, smallList}
+use Rattle.widening.specs.Widening.{wider, widen, widenO, smallList, Few}
 use Rattle.widening.proofs.Maps.{length-wider, named-wide, change-wide, at-wide, matching-wide, inProgress-wide, led-wide, owned-wide, fronts-wide, aborted-wide, lowest-wide, minus-wide, matching-small, inProgress-small, led-small, owned-small}
 use Rattle.widening.proofs.Choosing.{BelowL, look-below, look-wide}
-use Rattle.widening.proofs.Keys.{Few, keyFor-wide, on-wide, cut-wide, cut-says, dropped-wide, granted-wide}
+use Rattle.widening.proofs.Keys.{keyFor-wide, on-wide, cut-wide, cut-says, dropped-wide, granted-wide}
 
 -- ---- the locks
 

@@ -14,7 +14,7 @@ use Rattle.machine.specs.Maps.{change}
 use Rattle.machine.specs.Granting.{after, inUse, firstUnused, newKey, keyFor, lastFor, onChannels, givenUp, cut, cutReplies, dropped, taken, granted}
 use Rattle.machine.proofs.Tests.{if-elim, by-test, test-true, test-false, eqb-false}
 use Rattle.machine_laws.proofs.Granting.{newKey-unused, inUse-length}
-use Rattle.widening.specs.Widening.{wider, widen}
+use Rattle.widening.specs.Widening.{wider, widen, Few}
 use Rattle.widening.proofs.Maps.{change-wide, length-frees, length-wider, meets-wide, aborted-wide}
 
 after-one : (k : ℕ) → 1 ≤ after k
@@ -53,9 +53,6 @@ first-more (suc n) i j used t =
     (by-test (among j used)
     (λ u. rw (test-true (among j used) u) (first-more n i (after j) used (subst (λ (b : Bool). T (not (among (if b then firstUnused n (after j) used else j) used))) (test-true (among j used) u) t)))
     (λ u. rw (test-false (among j used) u) refl))
-
-abbrev pub Few : State → Type 0
-Few s = length (s .channels) + length (s .waiting) + length (s .opens) < 65535
 
 fuel-wide : (k : ℕ) (s : State) → length (inUse (widen k s)) ≡ length (inUse s) + k → T (not (among (newKey s) (inUse s))) → newKey (widen k s) ≡ newKey s
 unfolding newKey

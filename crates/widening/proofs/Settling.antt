@@ -4,7 +4,6 @@ use mathlib.Core.Path.{_≡_, refl, ap, ap₂, subst, sym, _∙_}
 use mathlib.Core.Bool.{Bool, true, false, not, _&&_}
 use mathlib.Core.List.{List, [], _∷_, _++_, map}
 use native.Mathlib.Omega.{arith}
-use lib.Dec.{T}
 use lib.ListN.{length}
 use Rattle.machine.specs.Numbers.{ALLOCFAILED, CHANNELSTOLEN}
 use Rattle.machine.specs.Lists.{if_then_else_, all, keep}
@@ -16,13 +15,10 @@ use Rattle.machine.specs.Commands.{ended}
 use Rattle.machine.specs.Settling.{Found, nobody, somebody, Walk, Settled, replied, staying, saying, onLook, walk, walked, goOn, rounds, settle}
 use Rattle.machine.proofs.Tests.{if-elim, and-left, and-right, and-both}
 use Rattle.machine_laws.proofs.Maps.{length-change}
-use Rattle.widening.specs.Widening.{wider, widen, widenS, smallList}
+use Rattle.widening.specs.Widening.{wider, widen, widenS, smallList, Few, Waits}
 use Rattle.widening.proofs.Maps.{length-wider, meets-wide}
 use Rattle.widening.proofs.Choosing.{BelowL, look-below, look-wide}
-use Rattle.widening.proofs.Keys.{Few, keyFor-wide, dropped-wide, granted-wide}
-
-abbrev pub Waits : ℕ → List Request → Type 0
-Waits n rs = T (all (λ r. smallList n (r .combos)) rs)
+use Rattle.widening.proofs.Keys.{keyFor-wide, dropped-wide, granted-wide}
 
 -- ---- a walk
 

@@ -13,7 +13,7 @@ use Rattle.machine.specs.Maps.{odd, half, lowest, named}
 use Rattle.machine.specs.Sound.{soundChannel, soundLock, soundWaiter, soundRequest, writesOf, ids, sound}
 use Rattle.machine.proofs.Tests.{and-left, and-right, and-both, test-true}
 use Rattle.machine_laws.proofs.Lists.{all-append, all-mono}
-use Rattle.machine_laws.proofs.Sound.{Parts}
+use Rattle.machine_laws.specs.Sound.{Parts}
 use Rattle.machine_laws.proofs.Keeping.{served}
 use Rattle.machine_laws.proofs.Maps.{lowest-on}
 use Rattle.widening.specs.Widening.{wider, widen}

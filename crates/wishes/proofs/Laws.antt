@@ -1,11 +1,18 @@
--- Why the test of a map, step by step, is the wish. Assumes nothing.
+-- Why the test of a map, step by step, is the wish; and which channel is on which side. Assumes nothing.
 use Prim.Native.Nat.{ℕ, _≤_, _<_}
 use mathlib.Core.Path.{_≡_, refl, sym, _∙_}
 use mathlib.Core.Bool.{Bool, true, false, _&&_}
 use native.Mathlib.Omega.{arith}
 use lib.Dec.{eqb, ltb}
 use borrow.Author.Tests.{lt-ltb, le-ltb, eq-eqb, ne-eqb}
-use Rattle.wishes.specs.Wishes.{lefts, rights, meets}
+use Rattle.wishes.specs.Wishes.{named, lefts, rights, meets}
+
+-- #108: "channels 0 and 3 sound left, 1 and 2 right": each alone, one left or one right
+pub one-left-one-right :
+    (meets 1 0 1 ≡ true) × (meets 0 1 2 ≡ true) × (meets 0 1 4 ≡ true) × (meets 1 0 8 ≡ true)
+    × (meets 0 1 1 ≡ false) × (meets 1 0 2 ≡ false) × (meets 1 0 4 ≡ false) × (meets 0 1 8 ≡ false)
+unfolding meets lefts rights named
+one-left-one-right = (refl, refl, refl, refl, refl, refl, refl, refl)
 
 pub high-fails : (l r m : ℕ) → 15 < m → false ≡ meets l r m
 unfolding meets

@@ -1,4 +1,5 @@
 // Stereo: whether a map has so many left and so many right channels. For the four-channel board. Assumes nothing.
+use board::Board;
 ghost use mathlib.Core.Path.{_≡_};
 ghost use Prim.Native.Nat.{_≤_, _<_};
 ghost use Rattle.wishes.specs.Wishes.{named as namedOf, lefts as leftsOf, rights as rightsOf, meets as meetsOf};
@@ -26,7 +27,7 @@ fn rights(map: u8) -> u8
 pub fn meets(left: u8, right: u8, map: u8) -> bool
     ensures { λ b. ⌜ b ≡ meetsOf left right map ⌝ }
 {
-    if map > 15 {
+    if map > Board::TOP {
         return false;
     }
     if lefts(map) != left {

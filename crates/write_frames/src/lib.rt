@@ -32,13 +32,13 @@ pub fn take_write(s: State, f: &[u8], table: &mut [u8], kept: &[u8]) -> State
     if i >= 8 {
         return s;
     }
-    if f[2] >= 64 {
+    if f[2] >= State::REQUESTS {
         return s;
     }
     let mut cs = s.channels;
     let c = cs[i];
     let q = c.writes;
-    if q.n >= 64 {
+    if q.n >= State::REQUESTS {
         return s;
     }
     let from = i * 6;

@@ -1,8 +1,9 @@
--- `opens` meets its contract: the first five bytes are compared with those of the first line. Assumes nothing.
+-- `opens` meets its contract: the first five bytes are compared with those of the line. Assumes nothing.
 use mathlib.Core.Path.{_≡_, sym}
 use native.Mathlib.Omega.{arith}
+use lib.ListN.{length}
 use lib.Seq.{length-take-le}
-use Rattle.accepting.proofs.Accepting.{false-true, short-opening, opens-so}
+use Rattle.accepting.proofs.Accepting.{false-true, short-opening}
 use borrow.Author.Needs.{needs}
 use Rattle.accepting.proofs.opens.Statement.{statement}
 use Rattle.accepting.proofs.opens.Tie as tie
@@ -12,22 +13,19 @@ use Rattle.accepting.proofs.same.Reads as same-reads
 
 returns : tie.Need-returns
 returns c =
-    let a = c .before .before .args in
-    record { only = λ z. absurd (false-true z); always = λ e. absurd (short-opening (a .text .now) (omega arith) e) }
+    let a = c .before .before .before .args in
+    record { only = λ z. absurd (false-true z); always = λ e. absurd (short-opening (a .text .now) (a .first .now) (omega arith) e) }
 
 slice-aggregate-same : tie.Need-slice-aggregate-same
-slice-aggregate-same c = sym (length-take-le 5 (c .before .before .before .args .text .now) (omega arith))
-
-slice-aggregate-same-2 : tie.Need-slice-aggregate-same-2
-slice-aggregate-same-2 c = search needs
+slice-aggregate-same c =
+    let a = c .before .before .before .before .args in
+    sym (length-take-le (length (a .first .now)) (a .text .now) (omega arith))
 
 same-requires : tie.Need-same-requires
 same-requires c κs = search needs
 
 returns-2 : tie.Need-returns-2
-returns-2 c = opens-so (c .before .before .before .before .before .args .text .now) (c .same .ensures)
+returns-2 c = search needs
 
 pub opens-spec : {M : Type 1} → statement M
-opens-spec =
-    tie.close
-    (tie.spec returns slice-aggregate-same slice-aggregate-same-2 same-requires returns-2)
+opens-spec = tie.close (tie.spec returns slice-aggregate-same same-requires returns-2)

@@ -1,83 +1,42 @@
--- `accept2` meets its contract: a text that was saved reads back to its state, so each test that fails shows that it was not. Assumes nothing.
-use mathlib.Core.Path.{_≡_, refl, ap, sym, _∙_}
-use native.Mathlib.Omega.{arith}
-use lib.ListN.{length, drop}
-use lib.Seq.{length-take-le}
+-- `accept2` meets its contract: what is found is handed back, and of a text that is none nothing. Assumes nothing.
+use mathlib.Core.Path.{_≡_, ap, _∙_}
 use borrow.Author.Tests.{not-true, not-false}
-use Rattle.saving.proofs.Laws.{page-within}
-use Rattle.saving2.proofs.Laws2.{text2-fits}
-use Rattle.accepting.proofs.Accepting.{false-true}
-use Rattle.accepting2.proofs.Accepting2.{took-from, too-short, unsound, compared}
+use lib.ListN.{length}
+use Rattle.accepting2.proofs.Accepting2.{refused, kept}
 use borrow.Author.Needs.{needs}
 use Rattle.accepting2.proofs.accept2.Statement.{statement}
 use Rattle.accepting2.proofs.accept2.Tie as tie
 use Rattle.accepting2.proofs.accept2.Reads as reads
 use Rattle.accepting2.proofs.accept2.Lts as lts
-use Rattle.accepting.proofs.same.Reads as same-reads
-use Rattle.board.proofs.Board.fresh.Reads as fresh-reads
-use Rattle.reading.proofs.read.Reads as read-reads
-use Rattle.saving2.proofs.spell2.Reads as spell2-reads
-use Rattle.sound.proofs.sound.Reads as sound-reads
+use Rattle.accepting.proofs.blank.Reads as blank-reads
+use Rattle.accepting2.proofs.compare2.Reads as compare2-reads
 
-fresh-requires : tie.Need-fresh-requires
-fresh-requires c κs = search needs
+compare2-requires : tie.Need-compare2-requires
+compare2-requires c κs = search needs
 
-returns : tie.Need-returns
-returns c = too-short _ _ refl (omega arith)
-
-read-requires : tie.Need-read-requires
-read-requires c κs = let t = ap length (c .before .before .before .before .before .pre .1) in (omega arith, t)
-
-sound-requires : tie.Need-sound-requires
-sound-requires c κs = search needs
+blank-requires : tie.Need-blank-requires
+blank-requires c κs =
+    let k = c .before .before .before .before .before in
+    let s = k .before .before .before .before in
+    k .compare2 .kept .1 .1 .0 ∙ ap length (s .pre .1)
 
 same-length : tie.Need-same-length
 same-length c = search needs
 
-returns-2 : tie.Need-returns-2
-returns-2 c =
-    let start = c .before .before .before .before .before .before .before .before .before .before .before in
-    let r = took-from (drop 10 (start .args .text .now)) (start .pre .1) (c .before .before .before .before .before .read .ensures) in
-    unsound _ (start .pre .0) refl r (λ h. false-true (sym (not-true _ (c .if2 .taken)) ∙ c .before .sound .ensures .always h))
-
-slice-aggregate-spell2 : tie.Need-slice-aggregate-spell2
-slice-aggregate-spell2 c = search needs
-
-spell2-requires : tie.Need-spell2-requires
-spell2-requires c κs = ((c .before .before .before .sound .ensures .only (not-false _ (c .before .before .if2 .left))), refl)
-
-array-share-prefix-page : tie.Need-array-share-prefix-page
-array-share-prefix-page c = page-within (c .before .spell2 .ensures) (text2-fits (c .before .before .before .before .before .sound .ensures .only (not-false _ (c .before .before .before .before .if2 .left))))
-
-slice-aggregate-same : tie.Need-slice-aggregate-same
-slice-aggregate-same c = sym (length-take-le _ _ (page-within (c .before .before .spell2 .ensures) (text2-fits (c .before .before .before .before .before .before .sound .ensures .only (not-false _ (c .before .before .before .before .before .if2 .left))))))
-
-same-requires : tie.Need-same-requires
-same-requires c κs = search needs
+returns : tie.Need-returns
+returns c =
+    let b = c .before .before in
+    let t = b .before .before in
+    refused (t .before .before .before .before .compare2 .ensures) (not-true _ (t .if1 .taken)) (b .blank .ensures .0)
+    (b .blank .ensures .1)
 
 same-length-2 : tie.Need-same-length-2
 same-length-2 c = search needs
 
-returns-3 : tie.Need-returns-3
-returns-3 c =
-    let start = c .before .before .before .before .before .before .before .before .before .before .before .before .before .before .before .before .before in
-    let r = took-from (drop 10 (start .args .text .now)) (start .pre .1) (c .before .before .before .before .before .before .before .before .before .before .before .read .ensures) in
-    compared r (c .before .before .before .before .before .before .before .sound .ensures .only (not-false _ (c .before .before .before .before .before .before .if2 .left))) (c .before .before .before .spell2 .ensures) (c .same .ensures)
+returns-2 : tie.Need-returns-2
+returns-2 c = kept (c .before .before .before .before .compare2 .ensures) (not-false _ (c .if1 .left))
 
 pub accept2-spec : {M : Type 1} → statement M
 accept2-spec =
     tie.close
-    (tie.spec
-    fresh-requires
-    returns
-    read-requires
-    sound-requires
-    same-length
-    returns-2
-    slice-aggregate-spell2
-    spell2-requires
-    array-share-prefix-page
-    slice-aggregate-same
-    same-requires
-    same-length-2
-    returns-3)
+    (tie.spec compare2-requires blank-requires same-length returns same-length-2 returns-2)

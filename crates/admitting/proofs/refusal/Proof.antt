@@ -1,7 +1,8 @@
 -- `refusal` meets its contract, test by test. Assumes nothing.
 use native.Mathlib.Omega.{arith}
 use Rattle.image.proofs.Laws.{bytes-all}
-use Rattle.admitting.proofs.Laws.{Proper, bad-size, bad-display, bad-count, small-room, no-refusal}
+use Rattle.admitting.specs.Admitting.{Proper}
+use Rattle.admitting.proofs.Laws.{bad-size, bad-display, bad-count, small-room, no-refusal}
 use borrow.Author.Needs.{needs}
 use Rattle.admitting.proofs.refusal.Statement.{statement}
 use Rattle.admitting.proofs.refusal.Tie as tie

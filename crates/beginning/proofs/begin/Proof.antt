@@ -49,7 +49,7 @@ returns-2 c =
     let r = c .before .before .before .before in
     let d = r .before .before .before .before in
     let e = d .before .before .before .before in
-    begins-loaded2 (not-false _ (e .if1 .left)) (d .if2 .taken) (r .resume2 .ensures)
+    begins-loaded2 (not-false _ (e .if1 .left)) (d .if2 .taken) (e .before .before .before .pre .2) (r .resume2 .ensures)
     (r .resume2 .kept .1 .1 .1 .0 ∙ ap length (e .before .before .before .pre .2))
 
 array-share-prefix-text-2 : tie.Need-array-share-prefix-text-2
@@ -74,7 +74,8 @@ returns-3 c =
     let r = c .before .before .before .before in
     let d = r .before .before .before .before in
     let e = d .before .before .before .before in
-    begins-loaded (not-false _ (e .if1 .left)) (d .if2 .left) (r .resume .ensures) (r .resume .kept .1 .1 .0 ∙ ap length (e .before .before .before .pre .2))
+    begins-loaded (not-false _ (e .if1 .left)) (d .if2 .left) (e .before .before .before .pre .2) (r .resume .ensures)
+    (r .resume .kept .1 .1 .0 ∙ ap length (e .before .before .before .pre .2))
 
 pub begin-spec : {M : Type 1} → statement M
 begin-spec =

@@ -22,11 +22,14 @@ same-length-2 c = search needs
 same-length-3 : tie.Need-same-length-3
 same-length-3 c = search needs
 
+same-length-4 : tie.Need-same-length-4
+same-length-4 c = search needs
+
 returns : tie.Need-returns
 returns c =
     let w = c .before .before in
-    let k = w .before .before .before .before .before .before .before in
-    (k .call .ensures .0, shown-as (k .before .before .before .before .read .ensures) (w .write .ensures) (k .call .ensures .1))
+    let k = w .before .before .before .before .before .before .before .before .before in
+    shown-as (k .before .before .before .before .before .read .ensures) (w .write .ensures) (k .call .ensures)
 
 pub show-spec : {M : Type 1} → statement M
 show-spec =
@@ -38,4 +41,5 @@ show-spec =
     same-length
     same-length-2
     same-length-3
+    same-length-4
     returns)

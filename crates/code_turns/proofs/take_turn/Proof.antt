@@ -17,19 +17,28 @@ same-length c = search needs
 same-length-2 : tie.Need-same-length-2
 same-length-2 c = search needs
 
+same-length-3 : tie.Need-same-length-3
+same-length-3 c = search needs
+
 returns : tie.Need-returns
 returns c =
-    let a = c .before .before .before .before in
-    let r = a .before .before .before .before in
-    let b = r .before .before .before .shared-slice-known in (
-      record {
-        called = a .call .ensures .0;
-        prec = r .ranges .ensures .0;
-        key = r .ranges .ensures .1;
-        count = bytes-counted _ _ (λ i. b .given i .fits);
-      },
-      a .call .ensures .1,
-    )
+    let a = c .before .before .before .before .before .before in
+    let r = a .before .before .before .before .before in
+    let b = r .before .before .before .shared-slice-known in
+    record {
+      read = λ w.
+          let e = a .call .ensures .read w in (
+            e .0,
+            record {
+              called = e .1;
+              prec = r .ranges .ensures .0;
+              key = r .ranges .ensures .1;
+              count = bytes-counted _ _ (λ i. b .given i .fits);
+            },
+            e .2,
+          );
+      unread = a .call .ensures .unread;
+    }
 
 pub take-turn-spec : {M : Type 1} → statement M
 take-turn-spec =
@@ -39,4 +48,5 @@ take-turn-spec =
     call-requires
     same-length
     same-length-2
+    same-length-3
     returns)

@@ -7,9 +7,7 @@ use native.Mathlib.Omega.{arith}
 use lib.ListN.{take}
 use lib.Seq.{length-take-le}
 use Rattle.memory.specs.Splice.{splice}
-use Rattle.store.specs.Store.{stateIn}
-use Rattle.display.specs.Display.{corrected}
-use Rattle.channel_numbers.proofs.Laws.{length-corrected}
+use Rattle.channel_numbers.proofs.Laws.{length-moved}
 use Rattle.correcting.proofs.Laws.{whole-display}
 use borrow.Author.Needs.{needs}
 use Rattle.correcting.proofs.show.Statement.{statement}
@@ -33,14 +31,14 @@ same-length c = search needs
 
 returns : tie.Need-returns
 returns c =
-    let a = c .before .before .before .before .before .before .before .before .before .before .before .args in
-    let p = c .before .before .before .before .before .before .before .before .before .before .before .pre in
-    let s = stateIn (a .before) (a .was .now) in
-    let t = stateIn (a .after) (a .table .now) in
-    let xs = corrected s t 0 (take 16 (a .display .now)) in
+    let s = c .before .before .before .before .before .before .before .before .before in
+    let d = s .args .display .now in
+    let k = s .args .looks in
+    let e = c .before .before .before .before .before .before .correct .ensures in
     c .before .before .put-key .ensures
-    ∙ (ap (λ (x : List ℕ). splice x 16 ((a .looks / 256) ∷ (a .looks % 256) ∷ [])) (c .before .before .before .before .before .before .correct .ensures)
-    ∙ whole-display (a .display .now) xs (a .looks / 256) (a .looks % 256) (p .3) (length-corrected s t 0 (take 16 (a .display .now)) ∙ length-take-le 16 (a .display .now) (omega (arith, p .3))))
+    ∙ (ap (λ (x : List ℕ). splice x 16 ((k / 256) ∷ (k % 256) ∷ [])) e
+    ∙ whole-display d _ (k / 256) (k % 256) (s .pre .0)
+    (length-moved _ _ 0 (take 16 d) ∙ length-take-le 16 d (omega (arith, s .pre .0))))
 
 pub show-spec : {M : Type 1} → statement M
 show-spec = tie.close (tie.spec correct-requires cast-put-key put-key-requires same-length returns)

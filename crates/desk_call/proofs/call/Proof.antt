@@ -5,7 +5,7 @@ use mathlib.Core.List.{List}
 use native.Mathlib.Omega.{arith}
 use borrow.Author.Needs.{needs}
 use lib.ListN.{length, replicate}
-use Rattle.desk_call.proofs.Laws.{room-most, part-long, may-lay, was-called, was-shown}
+use Rattle.desk_call.proofs.Laws.{room-most, part-long, may-lay-any, was-lent}
 use Rattle.desk_call.proofs.call.Statement.{statement}
 use Rattle.desk_call.proofs.call.Tie as tie
 
@@ -17,19 +17,20 @@ room-requires : tie.Need-room-requires
 room-requires c κs = search needs
 
 array-borrow-prefix-made : tie.Need-array-borrow-prefix-made
-array-borrow-prefix-made c = room-most (length (c .before .before .before .before .before .before .args .replies .now)) (c .before .before .room .ensures)
+array-borrow-prefix-made c = room-most (length (c .before .before .before .before .before .before .before .before .args .replies .now))
+    (c .before .before .before .room .ensures)
 
 slice-aggregate-call : tie.Need-slice-aggregate-call
-slice-aggregate-call c = part-long (length (c .before .before .before .before .before .before .before .args .replies .now)) zeros (c .before .before .before .room .ensures) refl
+slice-aggregate-call c = part-long (length (c .before .before .before .before .before .before .before .before .before .args .replies .now)) zeros (c .before .before .before .before .room .ensures) refl
 
 call-requires : tie.Need-call-requires
 call-requires c κs = search needs
 
 lay-requires : tie.Need-lay-requires
 lay-requires c κs =
-    let k = c .before .before .before .before .before in
-    let m = k .before .before .before .before in
-    may-lay (m .before .before .before .before .args .replies .now) zeros refl (m .room .ensures) (k .call .ensures .0)
+    let k = c .before .before .before .before .before .before .before in
+    let m = k .before .before .before .before .before in
+    may-lay-any (m .before .before .before .before .before .args .replies .now) zeros refl (m .room .ensures) (k .call .ensures)
 
 same-length : tie.Need-same-length
 same-length c = search needs
@@ -37,13 +38,16 @@ same-length c = search needs
 same-length-2 : tie.Need-same-length-2
 same-length-2 c = search needs
 
+same-length-3 : tie.Need-same-length-3
+same-length-3 c = search needs
+
 returns : tie.Need-returns
 returns c =
-    let y = c .before .before .before .before in
-    let k = y .before .before .before .before .before .before in
-    let m = k .before .before .before .before in
-    let l = m .before .before .before .before .args .replies .now in
-    (was-called l zeros refl (m .room .ensures) (k .call .ensures .0) (y .lay .ensures), was-shown l zeros refl (m .room .ensures) (k .call .ensures .1))
+    let y = c .before .before .before in
+    let k = y .before .before .before .before .before .before .before .before in
+    let m = k .before .before .before .before .before in
+    let l = m .before .before .before .before .before .args .replies .now in
+    was-lent l zeros refl (m .room .ensures) (k .call .ensures) (y .lay .ensures)
 
 pub call-spec : {M : Type 1} → statement M
 call-spec =
@@ -56,4 +60,5 @@ call-spec =
     lay-requires
     same-length
     same-length-2
+    same-length-3
     returns)

@@ -1,8 +1,8 @@
--- `put_records` meets its contract: a record's line stands behind those of the records before it. Assumes nothing.
+-- `put_records` meets its contract: a struct's line stands behind those of the structs before it. Assumes nothing.
 use Prim.Native.Nat.{_+_, _-_, _*_, _≤_, _<_}
 use mathlib.Core.Path.{_≡_, refl, ap, sym, _∙_}
 use native.Mathlib.Omega.{arith}
-use lib.ListN.{length}
+use lib.ListN.{length, take}
 use Rattle.memory.specs.Splice.{splice}
 use Rattle.memory.proofs.Splice.{splice-none}
 use Rattle.display_lines.specs.DisplayLines.{recordLines}
@@ -12,42 +12,34 @@ use Rattle.display_lines.proofs.put_records.Statement.{statement}
 use Rattle.display_lines.proofs.put_records.Tie as tie
 use Rattle.display_lines.proofs.put_records.Reads as reads
 use Rattle.display_lines.proofs.put_records.Lts as lts
-use Rattle.display_lines.proofs.put_record.Reads as put-record-reads
+use Rattle.display_lines.proofs.put_waiter.Reads as put-waiter-reads
 
 abbrev Inv-loop : tie.InvT-loop
-Inv-loop out₀ at bs n i₀ out i =
-    (i ≤ n) × (n * 4 ≤ length bs) × (at + n * 11 ≤ length out₀) × (length out ≡ length out₀) × (out ≡ splice out₀ at (recordLines i bs))
+Inv-loop out₀ at n list i₀ out i =
+    (i ≤ n) × (n ≤ 64) × (length list ≡ 64) × (at + n * 11 ≤ length out₀) × (length out ≡ length out₀)
+    × (out ≡ splice out₀ at (recordLines (take i list)))
 
 abbrev μ-loop : tie.MeasureT-loop
-μ-loop out₀ at bs n i₀ out i = n - i
+μ-loop out₀ at n list i₀ out i = n - i
 
 loop-holds : tie.Need-loop-holds Inv-loop μ-loop
 unfolding recordLines
-loop-holds c = (omega arith, search needs, search needs, refl, sym (splice-none _ _))
+loop-holds c = (omega arith, search needs, search needs, search needs, refl, sym (splice-none _ _))
 
-mul-a : tie.Need-mul-a Inv-loop μ-loop
-mul-a c = search needs
+mul-put-waiter : tie.Need-mul-put-waiter Inv-loop μ-loop
+mul-put-waiter c = search needs
 
-add-e : tie.Need-add-e Inv-loop μ-loop
-add-e c = search needs
+add-put-waiter : tie.Need-add-put-waiter Inv-loop μ-loop
+add-put-waiter c = search needs
 
-mul-put-record : tie.Need-mul-put-record Inv-loop μ-loop
-mul-put-record c = search needs
+mul-put-waiter-2 : tie.Need-mul-put-waiter-2 Inv-loop μ-loop
+mul-put-waiter-2 c = search needs
 
-add-put-record : tie.Need-add-put-record Inv-loop μ-loop
-add-put-record c = search needs
+array-copy-out-put-waiter : tie.Need-array-copy-out-put-waiter Inv-loop μ-loop
+array-copy-out-put-waiter c = search needs
 
-sub-put-record : tie.Need-sub-put-record Inv-loop μ-loop
-sub-put-record c = search needs
-
-part-put-record-start : tie.Need-part-put-record-start Inv-loop μ-loop
-part-put-record-start c = search needs
-
-part-put-record-end : tie.Need-part-put-record-end Inv-loop μ-loop
-part-put-record-end c = search needs
-
-put-record-requires : tie.Need-put-record-requires Inv-loop μ-loop
-put-record-requires c κs = search needs
+put-waiter-requires : tie.Need-put-waiter-requires Inv-loop μ-loop
+put-waiter-requires c κs = search needs
 
 add-i : tie.Need-add-i Inv-loop μ-loop
 add-i c = search needs
@@ -58,16 +50,29 @@ loop-less c = search needs
 loop-again : tie.Need-loop-again Inv-loop μ-loop
 loop-again c =
     let p = c .before .before in
-    let l = p .before .before .before .before .loop in
-    let a = p .before .before .before .before .before .before .before .args in
-    let h : l .i < a .n = search needs in
-    (omega arith, l .inv .1, l .inv .2, omega arith, rw (p .put-record .ensures, l .inv .4) (record-turn (a .out .now) (a .at) (a .bs .now) (l .i) (l .i * 4 + 4 - l .i * 4) (omega arith) (omega arith) (omega arith)))
+    let t = p .before .before .before .before in
+    let l = t .loop in
+    let v = l .inv in
+    let a = t .before .before .args in
+    let h : l .i < a .n = search needs in (
+      omega arith,
+      v .1,
+      v .2,
+      v .3,
+      omega (arith, v .4),
+      rw (p .put-waiter .ensures, v .5)
+          (record-turn (a .out .now) (a .at) (a .t3) (l .i) _ _ (omega (arith, v .1, v .2)) (omega (arith, v .3)) (omega arith)),
+    )
 
 same-length : tie.Need-same-length Inv-loop μ-loop
 same-length c = search needs
 
 returns : tie.Need-returns Inv-loop μ-loop
-returns c = let l = c .before .loop in let a = c .before .before .before .before .args in let e : l .i ≡ a .n = omega arith in l .inv .4 ∙ ap (λ k. splice (a .out .now) (a .at) (recordLines k (a .bs .now))) e
+returns c =
+    let l = c .before .loop in
+    let a = c .before .before .before .args in
+    let e : l .i ≡ a .n = omega arith in
+    l .inv .5 ∙ ap (λ k. splice (a .out .now) (a .at) (recordLines (take k (a .t3)))) e
 
 pub put-records-spec : {M : Type 1} → statement M
 put-records-spec =
@@ -76,14 +81,11 @@ put-records-spec =
     Inv-loop
     μ-loop
     loop-holds
-    mul-a
-    add-e
-    mul-put-record
-    add-put-record
-    sub-put-record
-    part-put-record-start
-    part-put-record-end
-    put-record-requires
+    mul-put-waiter
+    add-put-waiter
+    mul-put-waiter-2
+    array-copy-out-put-waiter
+    put-waiter-requires
     add-i
     loop-less
     loop-again

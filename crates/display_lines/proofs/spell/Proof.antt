@@ -1,4 +1,4 @@
--- `spell` meets its contract: the lines of the records stand behind that of the numbers. Assumes nothing.
+-- `spell` meets its contract: the lines of the structs stand behind that of the numbers. Assumes nothing.
 use Rattle.display_lines.proofs.DisplayLines.{spelt}
 use borrow.Author.Needs.{needs}
 use Rattle.display_lines.proofs.spell.Statement.{statement}
@@ -28,10 +28,10 @@ add-result c = search needs
 
 returns : tie.Need-returns
 returns c =
-    let l = c .before .before .before in
+    let l = c .before .before in
     let start = l .before .before .before in
     let p = start .pre in
-    spelt (p .0) (p .1) (search needs) (search needs) (search needs) (l .put-load .ensures) (c .put-records .ensures)
+    spelt _ (p .0) (p .1) (search needs) (search needs) (search needs) (l .put-load .ensures) (c .put-records .ensures)
 
 pub spell-spec : {M : Type 1} → statement M
 spell-spec =

@@ -20,27 +20,29 @@ same-length c = search needs
 returns : tie.Need-returns
 returns c =
     let r = c .before in
-    let start = r .before .before .before .before in
-    let a = start .args in
-    full-stays (a .show) (start .pre .0) (a .display .now) (a .line .now) (a .n) (a .page .now) (a .at) (sym (r .room .ensures) ∙ not-true (r .room .result) (c .if1 .taken))
+    let start = r .before .before .before .before .before in
+    let a = start .args in (
+      start .pre .0,
+      full-stays (a .show) (start .pre .1) (a .display .now) (a .line .now) (a .n) (a .page .now) (a .at)
+          (sym (r .room .ensures) ∙ not-true (r .room .result) (c .if1 .taken)),
+    )
 
 take-end-requires : tie.Need-take-end-requires
 take-end-requires c κs = search needs
 
 slice-aggregate-put : tie.Need-slice-aggregate-put
-slice-aggregate-put c =
-    let t = c .before .before .before .before .before in
-    let r = t .before .before .before .before .before in
-    end-size (t .take-end .ensures) (r .before .before .before .before .pre .0) refl
+slice-aggregate-put c = let t = c .before .before .before .before .before .before .before .before in end-size (t .take-end .ensures .1)
+    (t .before .before .before .before .before .before .before .before .before .before .before .pre .1) refl
 
 put-requires : tie.Need-put-requires
 put-requires c κs =
-    let t = c .before .before .before .before .before .before in
-    let some = t .before .before .before .before in
+    let t = c .before .before .before .before .before .before .before .before .before in
+    let some = t .before .before .before .before .before in
     let r = some .before in
-    let held = r .before .before .before .before .pre .0 in
+    let held = r .before .before .before .before .before .pre .1 in
+    let e = t .take-end .ensures in
     let fits = sym (r .room .ensures) ∙ not-false (r .room .result) (some .if1 .left) in
-    (end-few (t .take-end .ensures) held, sym (end-size (t .take-end .ensures) held refl), end-held (t .take-end .ensures) held, leb-true _ _ fits)
+    (e .0, end-few (e .1) held, sym (end-size (e .1) held refl), end-held (e .1) held, leb-true _ _ fits)
 
 same-length-2 : tie.Need-same-length-2
 same-length-2 c = search needs
@@ -48,13 +50,20 @@ same-length-2 c = search needs
 same-length-3 : tie.Need-same-length-3
 same-length-3 c = search needs
 
+same-length-4 : tie.Need-same-length-4
+same-length-4 c = search needs
+
 returns-2 : tie.Need-returns-2
 returns-2 c =
     let p = c .before .before in
-    let t = p .before .before .before .before .before .before .before in
-    let some = t .before .before .before .before in
+    let t = p .before .before .before .before .before .before .before .before .before .before in
+    let some = t .before .before .before .before .before in
     let r = some .before in
-    end-put (t .take-end .ensures) (r .before .before .before .before .pre .0) (sym (r .room .ensures) ∙ not-false (r .room .result) (some .if1 .left)) (p .put .ensures)
+    let e = t .take-end .ensures in (
+      e .0,
+      end-put (e .1) (r .before .before .before .before .before .pre .1)
+          (sym (r .room .ensures) ∙ not-false (r .room .result) (some .if1 .left)) (p .put .ensures),
+    )
 
 pub finish-spec : {M : Type 1} → statement M
 finish-spec =
@@ -68,4 +77,5 @@ finish-spec =
     put-requires
     same-length-2
     same-length-3
+    same-length-4
     returns-2)

@@ -6,7 +6,8 @@ use borrow.Author.Tests.{not-true, not-false}
 use lib.ListN.{length}
 use Rattle.gathering.specs.Lumps.{LINE}
 use Rattle.sizes.specs.Sizes.{ROOM}
-use Rattle.admitting.proofs.Laws.{Proper, allowed}
+use Rattle.admitting.specs.Admitting.{Proper}
+use Rattle.admitting.proofs.Laws.{allowed}
 use Rattle.telling.proofs.Laws.{is-refused, is-served}
 use Rattle.fragments.proofs.Laws.{open-moves, ended-moves, gathered-within, gathered-length, gathered-used, open-used}
 use borrow.Author.Needs.{needs}

@@ -3,7 +3,7 @@ use Prim.Native.Nat.{ℕ, _+_, _-_, _*_, _/_, _%_, _≤_, _<_}
 use mathlib.Core.Path.{_≡_, refl, ap, sym, _∙_}
 use native.Mathlib.Omega.{arith}
 use lib.ListN.{length, getD, take, drop}
-use Rattle.saved.specs.Saved.{markOf}
+use Rattle.machine.specs.InBytes.{markOf}
 use Rattle.frame_lines.proofs.FrameLines.{put-as, length-list, request-line}
 use borrow.Author.Needs.{needs}
 use Rattle.frame_lines.proofs.put_request.Statement.{statement}

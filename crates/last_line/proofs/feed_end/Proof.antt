@@ -4,7 +4,8 @@ use mathlib.Core.Path.{_≡_, refl, ap, sym, _∙_}
 use native.Mathlib.Omega.{arith}
 use lib.ListN.{length, length-drop}
 use Rattle.sizes.specs.Sizes.{ROOM}
-use Rattle.admitting.proofs.Laws.{Proper, allowed}
+use Rattle.admitting.specs.Admitting.{Proper}
+use Rattle.admitting.proofs.Laws.{allowed}
 use Rattle.telling.proofs.Laws.{is-refused, is-served}
 use Rattle.last_line.proofs.Laws.{none-moves, last-moves}
 use borrow.Author.Needs.{needs}

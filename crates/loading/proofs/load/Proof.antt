@@ -4,7 +4,8 @@ use native.Mathlib.Omega.{arith}
 use borrow.Author.Tests.{not-true, not-false}
 use Rattle.board.proofs.Laws.{held-length}
 use Rattle.loading.specs.Loading.{Fits}
-use Rattle.loading.proofs.Laws.{does-not-fit, not-four, not-saved, was-saved, copied-all}
+use Rattle.memory.proofs.Splice.{splice-all}
+use Rattle.loading.proofs.Laws.{does-not-fit, not-four, not-saved, was-saved}
 use borrow.Author.Needs.{needs}
 use Rattle.loading.proofs.load.Statement.{statement}
 use Rattle.loading.proofs.load.Tie as tie
@@ -75,7 +76,8 @@ returns-6 c =
     let e = c .before .before .before .before .before .before .before .before .before .before .before .before .before .before .before .before .before .before .before .before in
     let y = c .before .before .before .before .before .before .before .before .before .before .before .before .before .before .before .before .before .before .accept .ensures .yes (not-false _ (c .before .before .before .before .before .before .before .before .before .before .before .before .before .before .before .if5 .left)) in
     was-saved (fits-so e) (four-so e) y (c .before .before .before .before .before .before .before .before .before .before .before .before .save .ensures)
-    (c .before .before .before .before .before .before .before .copy .ensures ∙ copied-all (start .args .table .now) _ (held-length (y .held) ∙ sym (fits-so e .table))) (c .before .before .recount .ensures)
+    (c .before .before .before .before .before .before .before .copy .ensures
+    ∙ splice-all (start .args .table .now) _ (held-length (y .held) ∙ sym (fits-so e .table))) (c .before .before .recount .ensures)
 
 pub load-spec : {M : Type 1} → statement M
 load-spec =

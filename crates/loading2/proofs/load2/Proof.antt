@@ -7,7 +7,7 @@ use Rattle.board.specs.Board.{sized}
 use Rattle.board.proofs.Laws.{held-length}
 use Rattle.sound.proofs.Laws.{yes-T}
 use Rattle.loading.specs.Loading.{Fits}
-use Rattle.loading.proofs.Laws.{copied-all}
+use Rattle.memory.proofs.Splice.{splice-all}
 use Rattle.loading2.proofs.Laws2.{no-T, does-not-fit, no-board, not-saved, was-saved}
 use borrow.Author.Needs.{needs}
 use Rattle.loading2.proofs.load2.Statement.{statement}
@@ -80,7 +80,8 @@ returns-6 c =
     let e = c .before .before .before .before .before .before .before .before .before .before .before .before .before .before .before .before .before .before .before .before in
     let y = c .before .before .before .before .before .before .before .before .before .before .before .before .before .before .before .before .before .before .accept2 .ensures .yes (not-false _ (c .before .before .before .before .before .before .before .before .before .before .before .before .before .before .before .if5 .left)) in
     was-saved (fits-so e) (yes-T _ (sym (c .before .before .before .before .before .before .before .before .before .before .before .before .before .before .before .before .before .before .before .before .before .sized .ensures) ∙ not-false _ (c .before .before .before .before .before .before .before .before .before .before .before .before .before .before .before .before .before .before .before .before .if4 .left))) y (c .before .before .before .before .before .before .before .before .before .before .before .before .save .ensures)
-    (c .before .before .before .before .before .before .before .copy .ensures ∙ copied-all (start .args .table .now) _ (held-length (y .held) ∙ sym (fits-so e .table))) (c .before .before .recount .ensures)
+    (c .before .before .before .before .before .before .before .copy .ensures
+    ∙ splice-all (start .args .table .now) _ (held-length (y .held) ∙ sym (fits-so e .table))) (c .before .before .recount .ensures)
 
 pub load2-spec : {M : Type 1} → statement M
 load2-spec =

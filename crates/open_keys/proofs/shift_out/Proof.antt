@@ -4,8 +4,8 @@ use mathlib.Core.Path.{_≡_, refl, _∙_}
 use native.Mathlib.Omega.{arith}
 use borrow.Author.Needs.{needs}
 use lib.ListN.{length, length-set}
-use Rattle.open_keys.specs.OpenKeys.{removeAt}
-use Rattle.open_keys.proofs.Laws.{shift-turn, shift-end}
+use Rattle.queue.specs.Queue.{removeAt}
+use Rattle.queue.proofs.Laws.{shift-turn, shift-end}
 use Rattle.open_keys.proofs.shift_out.Statement.{statement}
 use Rattle.open_keys.proofs.shift_out.Tie as tie
 use Rattle.open_keys.proofs.shift_out.Reads as reads

@@ -5,6 +5,7 @@ use native.Mathlib.Omega.{arith}
 use lib.ListN.{length}
 use lib.Seq.{length-take-le}
 use Rattle.board.proofs.Laws.{held-eight}
+use Rattle.image.specs.Image.{stateOf}
 use Rattle.putting.proofs.Laws.{channels-few, put-none, put-some}
 use borrow.Author.Needs.{needs}
 use Rattle.putting.proofs.put.Statement.{statement}
@@ -19,15 +20,16 @@ returns : tie.Need-returns
 returns c = put-none (c .if1 .taken)
 
 slice-aggregate-copy : tie.Need-slice-aggregate-copy
-slice-aggregate-copy c = let p = c .before .before .before .before .before .before .before .pre in let a = p .0 in let b = p .1 in sym (length-take-le _ _ (omega arith))
+slice-aggregate-copy c = let p = c .before .before .before .before .before .before .before .pre in let a = p .1 in
+    let b = p .2 in sym (length-take-le _ _ (omega arith))
 
 copy-requires : tie.Need-copy-requires
 copy-requires c κs =
     let start = c .before .before .before .before .before .before .before in
     let p = start .pre in
-    let a = p .0 in
-    let b = p .1 in
-    let d = p .3 in
+    let a = p .1 in
+    let b = p .2 in
+    let d = p .4 in
     let k : start .args .t .at ≤ length (start .args .out .now) = omega arith in
     rw (length-take-le _ _ k) (omega arith)
 
@@ -38,23 +40,23 @@ put-channels-requires : tie.Need-put-channels-requires
 put-channels-requires c κs =
     let copied = c .before .before .before in
     let start = copied .before .before .before .before .before .before .before .before in
-    let a = start .pre .0 in
-    let d = start .pre .3 in
+    let a = start .pre .1 in
+    let d = start .pre .4 in
     let k = copied .copy .kept .0 in
-    (held-eight (start .pre .2), omega arith)
+    (start .pre .0, held-eight (start .pre .3), omega arith)
 
 put-display-requires : tie.Need-put-display-requires
 put-display-requires c κs =
     let shown = c .before .before .before in
     let copied = shown .before .before .before .before in
     let start = copied .before .before .before .before .before .before .before .before in
-    let a = start .pre .0 in
-    let d = start .pre .3 in
+    let a = start .pre .1 in
+    let d = start .pre .4 in
     let k = copied .copy .kept .0 in
     let m = shown .put-channels .kept .1 .1 .0 in
-    let few = channels-few (start .args .show .channels) (start .args .t .state) (held-eight (start .pre .2)) in
+    let few = channels-few (start .args .show .channels) (stateOf (start .args .state .now)) (held-eight (start .pre .3)) in
     let n = shown .put-channels .ensures .count in
-    (start .pre .2, omega arith)
+    (start .pre .0, start .pre .3, omega arith)
 
 same-length : tie.Need-same-length
 same-length c = search needs
@@ -67,9 +69,10 @@ returns-2 c =
     let some = copied .before .before .before in
     let start = some .before .before .before .before .before in
     let p = start .pre in
-    let a = p .0 in
-    let b = p .1 in
-    put-some (some .if1 .left) (omega arith) (p .2) (p .3) a (copied .copy .ensures) (shown .put-channels .ensures) (told .put-display .ensures)
+    let a = p .1 in
+    let b = p .2 in
+    put-some (some .if1 .left) (omega arith) (p .3) (p .4) a (copied .copy .ensures) (shown .put-channels .ensures)
+    (told .put-display .ensures)
 
 pub put-spec : {M : Type 1} → statement M
 put-spec =

@@ -16,25 +16,29 @@ gather-requires c κs = search needs
 returns : tie.Need-returns
 returns c =
     let g = c .before .before in
-    open-takes (g .gather .ensures) (g .before .before .before .before .pre .0) (not-true (g .gather .result .ended) (c .if1 .taken))
+    let p = g .before .before .before .before .before .pre in
+    (p .0, open-takes (g .gather .ensures) (p .1) (not-true (g .gather .result .ended) (c .if1 .taken)))
 
 answer-requires : tie.Need-answer-requires
 answer-requires c κs =
-    let g = c .before .before .before .before .before .before .before in
-    let p = g .before .before .before .before .pre in
-    let f = gathered-few (g .gather .ensures) (p .1) in
-    (p .0, omega arith)
+    let g = c .before .before .before .before .before .before .before .before in
+    let p = g .before .before .before .before .before .pre in
+    let f = gathered-few (g .gather .ensures) (p .2) in
+    (p .0, p .1, omega arith)
 
 same-length : tie.Need-same-length
 same-length c = search needs
 
+same-length-2 : tie.Need-same-length-2
+same-length-2 c = search needs
+
 returns-2 : tie.Need-returns-2
 returns-2 c =
-    let f = c .before .before .before in
-    let t = f .before .before .before .before .before .before in
+    let f = c .before .before .before .before in
+    let t = f .before .before .before .before .before .before .before in
     let g = t .before .before in
     let e = f .answer .ensures in
-    ended-takes _ (g .gather .ensures) (not-false (g .gather .result .ended) (t .if1 .left)) (e .0) (e .1)
+    (e .0, ended-takes _ (g .gather .ensures) (not-false (g .gather .result .ended) (t .if1 .left)) (e .1) (e .2))
 
 pub take-spec : {M : Type 1} → statement M
-take-spec = tie.close (tie.spec gather-requires returns answer-requires same-length returns-2)
+take-spec = tie.close (tie.spec gather-requires returns answer-requires same-length same-length-2 returns-2)
