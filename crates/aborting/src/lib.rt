@@ -1,6 +1,8 @@
 // ABORT: a write, a WAITCYCLE or a waiting allocation is removed and replied -2; a lock or an idle id is left alone. Where the write
 // was in front, those who wait for its cycle follow it.
 // The id's entry tells which it is. Assumes nothing.
+#![tactic(auto)]
+
 ghost use Rattle.std.specs.Prelude.{◌≡◌, true, [], ◌<◌, get_or};
 ghost use Rattle.memory.specs.Splice.{block};
 ghost use Rattle.machine.specs.Commands.{do_abort};

@@ -1,5 +1,7 @@
 // Whether a text is one that was saved, and of which state. The text's lines are read into a board and a table; it was saved of these where
 // they hold a sound state whose text is the one handed in, to the last byte (specs/Accepting.antt). Assumes nothing.
+#![tactic(auto)]
+
 ghost use Rattle.std.specs.Prelude.{◌≡◌, false, length, take, replicate};
 ghost use Rattle.board.specs.Board.{fresh_board};
 ghost use Rattle.sound.specs.Sound.{Decides};

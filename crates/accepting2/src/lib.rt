@@ -1,6 +1,8 @@
 // Whether a text is one that was saved in the second form of a board with so many channels, and of which state. The text's lines behind
 // the first two are read into a board and a table; it was saved of these where they hold a sound state whose text is the one handed in,
 // to the last byte, the first two lines and the numbers among them (specs/Accepting2.antt). Assumes nothing.
+#![tactic(auto)]
+
 ghost use Rattle.std.specs.Prelude.{◌≡◌, T, replicate};
 ghost use Rattle.board.specs.Board.{sized};
 ghost use Rattle.accepting2.specs.Accepting2.{Finds2, Accepts2};

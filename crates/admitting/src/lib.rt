@@ -1,4 +1,6 @@
 // Whether a call on a port is let in: the port, and how much display and room it lends, tested. Assumes nothing.
+#![tactic(auto)]
+
 ghost use Rattle.std.specs.Prelude.{◌≡◌};
 ghost use Rattle.admitting.specs.Admitting.{refusal as refusal_of};
 

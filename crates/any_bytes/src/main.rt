@@ -17,6 +17,8 @@
 //
 // It writes the name, the answer and the replies as the log has them, and what has moved: the state, the table, or the reply list
 // beyond the replies. These are compared with copies made before the call.
+#![tactic(auto)]
+
 mod same;
 mod scene;
 mod terms;

@@ -4,6 +4,8 @@
 // descriptor 3, and where s is, the text of the state at the end goes to descriptor 4; where t is, these texts are of the second form. It
 // reads, calls `beginning`, `paging`, `finishing` and `keeping`, and writes: what is read and written is the C library's to say, and that
 // each page is passed to `write` as it was handed back stands in `lump` and `last` to be read.
+#![tactic(auto)]
+
 ghost use Rattle.std.specs.Prelude.{T, ◌≤◌, length};
 ghost use Rattle.board.specs.Board.{sized, Held};
 ghost use Rattle.arbiter_log.specs.Desk.{Ready};

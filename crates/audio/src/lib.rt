@@ -1,6 +1,7 @@
 // The numbers of exec/io.h, exec/errors.h, devices/audio.h and include/qamhudeer.h, by their names there; the arbiter's own without
 // QAMHUDEER_ in front. An error is the byte that a reply and the log show. What each means is said in machine's specs/Numbers.antt, and
 // proved of the code that names it here. Assumes nothing.
+#![tactic(auto)]
 
 // ---- commands and flags
 

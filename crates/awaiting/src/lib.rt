@@ -1,5 +1,7 @@
 // WAITCYCLE, on the lowest channel that the map names: outstanding while a write is in progress there, else done at once. Assumes
 // nothing.
+#![tactic(auto)]
+
 ghost use Rattle.std.specs.Prelude.{◌≡◌, not, [], ◌<◌, T};
 ghost use Rattle.machine.specs.Lists.{among};
 ghost use Rattle.machine.specs.Sound.{ids};

@@ -1,5 +1,7 @@
 // What the log program begins with: a fresh board, or what a saved text on descriptor 3 holds. It reads, and calls `carrying`: what is read
 // is the C library's to say. Assumes nothing.
+#![tactic(auto)]
+
 ghost use Rattle.std.specs.Prelude.{◌≡◌, T, replicate};
 ghost use Rattle.display.specs.Display.{blank};
 ghost use Rattle.board.specs.Board.{sized};

@@ -1,5 +1,7 @@
 // A board of four or eight channels: its number of channels stands beside the state, which has room for eight. It is read here, by
 // the test of a state, and where a board's own channels are shown; the code below the call never reads it. Assumes nothing.
+#![tactic(auto)]
+
 ghost use Rattle.std.specs.Prelude.{◌≡◌};
 ghost use Rattle.board.specs.Board.{sized as sized_m, top_of, fresh_board};
 

@@ -1,6 +1,8 @@
 // The arbiter on bytes. State, table, display, replies and answer are bytes that the caller keeps and lends; nothing is kept here.
 // `call` asks nothing: whatever the bytes are, the answer and every byte lent are determined (specs/Boundary.antt).
 // `qamhudeer` exports it to programs in C. Assumes nothing.
+#![tactic(auto)]
+
 ghost use Rattle.handed.specs.Handed.{request_of};
 ghost use Rattle.boundary.specs.Boundary.{Crossed};
 

@@ -1,5 +1,7 @@
 // The desk's call on any bytes of a state, where the display's bytes and the answer's are lent too. `boundary` tests that these two have
 // room and calls `carry`. Assumes nothing.
+#![tactic(auto)]
+
 ghost use Rattle.std.specs.Prelude.{◌≡◌, length};
 ghost use Rattle.desk_call.specs.DeskCall.{Lent};
 ghost use Rattle.bytes_call.specs.BytesCall.{Carries};

@@ -1,5 +1,7 @@
 // A log that goes on from a saved text: document 02, #106 and #112. What is written for it is the machine's run from the state that was saved, and
 // what is saved behind it is the text of the state that the machine comes to: proofs/Carrying.antt. Assumes nothing.
+#![tactic(auto)]
+
 ghost use Rattle.std.specs.Prelude.{◌≡◌, T, length, replicate};
 ghost use Rattle.board.specs.Board.{sized};
 ghost use Rattle.carrying.specs.Carrying.{Resumes, Resumes2};

@@ -1,4 +1,6 @@
 // The commands over several channels by their number, up to settling. Assumes nothing.
+#![tactic(auto)]
+
 ghost use Rattle.std.specs.Prelude.{[], ◌∷◌};
 ghost use Rattle.answers.specs.Answers.{Does};
 ghost use Rattle.changing.specs.Changing.{command_of, Accepted, Among};

@@ -1,5 +1,7 @@
 // D1, the frame of a channel in a saved text, taken into what was read before it. A frame that is none, or that has no place, is passed
 // over. Assumes nothing.
+#![tactic(auto)]
+
 ghost use Rattle.std.specs.Prelude.{◌≡◌, [], length};
 ghost use Rattle.sheet.specs.Sheet.{sheet, channel_from, channel_taken, Takes};
 

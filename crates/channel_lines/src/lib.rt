@@ -1,5 +1,7 @@
 // The board's channels as lines of upper-case hexadecimal, each ended by LF, for service staff.
 // A line is written at its place and nowhere else. Assumes nothing.
+#![tactic(auto)]
+
 ghost use Rattle.std.specs.Prelude.{◌≡◌, ◌+◌, ◌*◌, ◌≤◌, ◌<◌, ◌%◌, ltb, length, take};
 ghost use Rattle.memory.specs.Splice.{splice};
 ghost use Rattle.machine.specs.Lists.{if◌then◌else◌};

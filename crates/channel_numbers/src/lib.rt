@@ -1,6 +1,8 @@
 // The numbers of the wall display after a call: as many are added as joined a queue, and as many taken away as left it. A queue of writes
 // knows its length. Who joined or left the waiting list comes as two numbers of eight lanes: nobody who stays is counted, and no table is
 // read. Assumes nothing.
+#![tactic(auto)]
+
 ghost use Rattle.std.specs.Prelude.{◌≡◌, map, length, take};
 ghost use Rattle.memory.specs.Splice.{splice};
 ghost use Rattle.channel_numbers.specs.ChannelNumbers.{count_at, moved};

@@ -1,6 +1,8 @@
 // A call of a run, as demand 3 on the code (`code_runs`) speaks of it: it makes `arbiter::call`, and its types see to the ranges
 // that a run asks. The board stands in the bytes that are lent: where they hold none, the answer is 1 and nothing moves. The display is the
 // managers' and no part of a run. Assumes nothing.
+#![tactic(auto)]
+
 ghost use Rattle.std.specs.Prelude.{◌≤◌};
 ghost use Rattle.code_turns.specs.CodeTurns.{Turns};
 

@@ -1,4 +1,6 @@
 // The wall display after a call: its numbers corrected, and the looks of the last settling. Assumes nothing.
+#![tactic(auto)]
+
 ghost use Rattle.std.specs.Prelude.{◌<◌, ◌≡◌, ◌++◌, map, length, take};
 ghost use Rattle.machine.specs.InBytes.{two_bytes};
 ghost use Rattle.display.specs.Display.{looks_of};

@@ -1,5 +1,7 @@
 // The front writes of channels cut; and FINISH without SYNCCYCLE, which cuts the write in progress at each channel that matches. Assumes
 // nothing.
+#![tactic(auto)]
+
 ghost use Rattle.std.specs.Prelude.{◌≡◌, false, [], ◌+◌, ◌<◌, length};
 ghost use Rattle.machine.specs.Numbers.{synced};
 ghost use Rattle.machine.specs.Commands.{front_replies, do_finish};

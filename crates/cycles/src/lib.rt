@@ -1,4 +1,6 @@
 // What the end of a cycle makes of a write, by the twelve bytes of its numbers: whether it ends, and with what it goes on. Assumes nothing.
+#![tactic(auto)]
+
 ghost use Rattle.std.specs.Prelude.{◌≡◌};
 ghost use Rattle.cycles.specs.Cycles.{turn_in, applied_in, counted_in, next_in};
 

@@ -1,4 +1,6 @@
 // What is done once a call's refusal is decided: it is refused, or performed and settled. Assumes nothing.
+#![tactic(auto)]
+
 ghost use Rattle.std.specs.Prelude.{◌≤◌, ◌<◌, ◌≡◌, true, length, get_or};
 ghost use Rattle.memory.specs.Splice.{block};
 ghost use Rattle.refusals.specs.declared.Op.TheVariants.{Abort};

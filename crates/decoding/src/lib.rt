@@ -1,4 +1,6 @@
 // The state read from the 823 bytes that a caller keeps, which `image` has tested. Assumes nothing.
+#![tactic(auto)]
+
 ghost use Rattle.std.specs.Prelude.{◌≡◌, ◌+◌, ◌≤◌, length};
 ghost use Rattle.image.specs.Image.{keys_from, open_at, queue_at, channel_at, channels_at, state_of, Whole};
 

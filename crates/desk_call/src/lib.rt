@@ -1,6 +1,8 @@
 // The call of a desk: the arbiter's call on any board, any table, any reply list, with any request, its replies laid out in the two
 // halves of the list: desk A's from the first record on, desk B's from record 32 on. The display is that of the arbiter's call, and so are the
 // bytes that hold the board. Assumes nothing.
+#![tactic(auto)]
+
 ghost use Rattle.std.specs.Prelude.{◌≡◌};
 ghost use Rattle.desk_call.specs.DeskCall.{room_of, Lent};
 

@@ -1,4 +1,6 @@
 // Which desk an id belongs to. Assumes nothing.
+#![tactic(auto)]
+
 ghost use Rattle.std.specs.Prelude.{◌≡◌};
 ghost use Rattle.machine.specs.Desks.{desk_of};
 

@@ -1,4 +1,6 @@
 // The bytes that a line's upper-case hexadecimal digits spell. Assumes nothing.
+#![tactic(auto)]
+
 ghost use Rattle.std.specs.Prelude.{◌≡◌, true, ◌+◌, ◌*◌, ◌<◌, length, get_or};
 ghost use Rattle.machine.specs.Log.{digit as digit_m};
 ghost use Rattle.digits.specs.Digits.{value_of, spells, pairs};

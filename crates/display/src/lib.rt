@@ -1,1 +1,2 @@
 // Document 02, #110, "The wall display", as definitions (specs/) and laws (proofs/). Assumes nothing.
+#![tactic(auto)]

@@ -1,4 +1,6 @@
 // The 18 bytes of a display that a caller lends, in an array and back. Assumes nothing.
+#![tactic(auto)]
+
 ghost use Rattle.std.specs.Prelude.{◌≡◌, length};
 
 pub fn read(display: &[u8]) -> [u8; 18]

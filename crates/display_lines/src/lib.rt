@@ -1,5 +1,7 @@
 // The wall display as lines of upper-case hexadecimal, each ended by LF: the numbers, then who waits, from a list of structs.
 // A line is written at its place and nowhere else. Assumes nothing.
+#![tactic(auto)]
+
 ghost use Rattle.std.specs.Prelude.{◌≡◌, ◌∷◌, ◌+◌, ◌*◌, ◌≤◌, length, take};
 ghost use Rattle.machine.specs.Lists.{if◌then◌else◌};
 ghost use Rattle.memory.specs.Splice.{splice};

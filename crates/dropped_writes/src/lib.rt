@@ -1,6 +1,8 @@
 // Writes aborted, with those who wait for a cycle of theirs.
 // A write that is aborted is replied -2 and its id is idle again; where it was in front, so are those who wait for its cycle. Assumes
 // nothing.
+#![tactic(auto)]
+
 ghost use Rattle.std.specs.Prelude.{◌≡◌, ◌+◌, ◌*◌, ◌≤◌, length};
 ghost use Rattle.queue.specs.Queue.{list_of};
 ghost use Rattle.machine.specs.Granting.{aborted_in};

@@ -1,5 +1,7 @@
 // The state written as the 823 bytes that a caller keeps (image's specs/Image.antt has the layout, and what is promised).
 // Assumes nothing.
+#![tactic(auto)]
+
 ghost use Rattle.std.specs.Prelude.{◌≡◌, ◌+◌, ◌≤◌, ◌<◌, length, set};
 ghost use Rattle.machine.specs.InBytes.{mark_of};
 ghost use Rattle.image.specs.Image.{keys_bytes, open_bytes, queue_bytes, channel_bytes, Wrote, Entered, Saved};

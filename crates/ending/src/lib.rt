@@ -1,5 +1,7 @@
 // The end of a cycle of a channel's front write, once those who wait for it are answered: the write is cut, or is over, or goes on.
 // Assumes nothing.
+#![tactic(auto)]
+
 ghost use Rattle.std.specs.Prelude.{◌≡◌, ◌<◌, length, get_or};
 ghost use Rattle.memory.specs.Splice.{block};
 ghost use Rattle.table.specs.Entry.{list_in};

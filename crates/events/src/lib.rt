@@ -1,5 +1,7 @@
 // The two events, on the lowest channel that the map names, where a write is in progress there: a cycle of it ended, or the driver gave
 // it up. Else they answer map 0. Assumes nothing.
+#![tactic(auto)]
+
 ghost use Rattle.std.specs.Prelude.{◌≡◌, [], length};
 ghost use Rattle.machine.specs.State.{CYCLE_ENDED, GAVE_UP};
 ghost use Rattle.machine.specs.Commands.{do_event};

@@ -1,5 +1,7 @@
 // What becomes of a lock when channels are freed and when a held request wants them; of a WAITCYCLE when a write is cut and when a
 // cycle of it ends. Assumes nothing.
+#![tactic(auto)]
+
 ghost use Rattle.std.specs.Prelude.{◌≡◌, ◌<◌};
 ghost use Rattle.fates.specs.declared.End.TheVariants.{Freed, Cut};
 ghost use Rattle.fates.specs.Fates.{command_of, Told, Fated};

@@ -1,4 +1,6 @@
 // Which line of a text is no frame of its kind: for the message where a text is refused. Assumes nothing.
+#![tactic(auto)]
+
 ghost use Rattle.std.specs.Prelude.{◌≡◌, ◌<◌, length};
 ghost use Rattle.hex_lines.specs.HexLines.{octets_of};
 ghost use Rattle.faults.specs.Faults.{length_of, length_in, frame_of, fault as fault_of};

@@ -1,5 +1,7 @@
 // The end of a log: the output of what stands of a last line, on a lent page. The state is known to be sound, and stands in lent
 // bytes. Assumes nothing.
+#![tactic(auto)]
+
 ghost use Rattle.std.specs.Prelude.{◌≤◌};
 ghost use Rattle.board.specs.Board.{Held};
 ghost use Rattle.gathering.specs.Lumps.{LINE};

@@ -1,6 +1,8 @@
 // A log over a slow line: fed a fragment at a time, of any length, in the memory of one line. State, table, display, port and room are
 // bytes that the caller keeps and lends; nothing is kept here. A call answers one line at most. It asks nothing: whatever the bytes are, the
 // answer and every byte lent are determined (specs/Fragments.antt). The end of the log is `last_line`'s. Assumes nothing.
+#![tactic(auto)]
+
 ghost use Rattle.fragments.specs.Fragments.{Feeds};
 
 // The refusal, or 0; how much of the fragment is used; how much output stands in front of the room.

@@ -1,5 +1,7 @@
 // The lines of outstanding requests in a saved text, from a queue of ids and a table. A line is written at its place and nowhere else; each
 // function hands back the place behind what it wrote. Assumes nothing.
+#![tactic(auto)]
+
 ghost use Rattle.std.specs.Prelude.{◌≡◌, map, ◌+◌, ◌*◌, ◌%◌, ◌≤◌, ◌<◌, length, get_or};
 ghost use Rattle.memory.specs.Splice.{block};
 ghost use Rattle.machine.specs.Log.{line};

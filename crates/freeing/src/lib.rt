@@ -1,5 +1,7 @@
 // FREE and CLOSE: channels freed, their writes aborted with those who wait for a cycle, their bits cleared in every lock.
 // A command is promised in the machine's words: its answer, the state it leaves and its replies. Assumes nothing.
+#![tactic(auto)]
+
 ghost use Rattle.std.specs.Prelude.{◌≡◌, false, [], ◌+◌, ◌≤◌, ◌<◌, length};
 ghost use Rattle.machine.specs.Commands.{freeing_replies, do_free, do_close};
 ghost use Rattle.store.specs.Store.{state_in};

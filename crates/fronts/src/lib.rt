@@ -1,4 +1,6 @@
 // The channels by their front write: which have one in progress, at which an id is in front. Assumes nothing.
+#![tactic(auto)]
+
 ghost use Rattle.std.specs.Prelude.{◌≡◌, ◌<◌, ◌/◌, ◌^◌};
 ghost use Rattle.channel.specs.Channel.{map_where};
 ghost use Rattle.fronts.specs.Fronts.{on_air, leads_at, passes as passes_m, named};

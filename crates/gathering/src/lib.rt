@@ -1,4 +1,6 @@
 // From lumps of input to lines. Assumes nothing.
+#![tactic(auto)]
+
 ghost use Rattle.std.specs.Prelude.{◌≡◌, ◌-◌, ◌<◌, ◌≤◌, length};
 ghost use Rattle.gathering.specs.Lumps.{front, Gathers};
 

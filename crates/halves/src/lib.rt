@@ -1,6 +1,8 @@
 // The replies of a call, made one behind the other, laid out in the two halves of the list that the caller lends: desk A's from the
 // first record on, desk B's from record 32 on. Records behind each half's number are untouched. Or, as the log has them, desk B's behind
 // desk A's. Assumes nothing.
+#![tactic(auto)]
+
 ghost use Rattle.std.specs.Prelude.{◌≡◌, ◌+◌, ◌*◌, ◌≤◌, length};
 ghost use Rattle.memory.specs.Splice.{splice};
 ghost use Rattle.halves.specs.Halves.{one, picked, Laying, Laid, in_order, Ordering};

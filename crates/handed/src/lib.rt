@@ -1,4 +1,6 @@
 // What a program in C hands in as numbers, and the answer that it gets back as bytes. Assumes nothing.
+#![tactic(auto)]
+
 ghost use Rattle.std.specs.Prelude.{◌≡◌, ◌+◌, ◌%◌, ◌≤◌, length};
 ghost use Rattle.machine.specs.Desks.{HALF};
 ghost use Rattle.machine.specs.Log.{op_of};

@@ -1,5 +1,7 @@
 // One line of a log on the bytes of a state, a table and a display. `hear` asks nothing: bytes that hold no sound state answer 1 to a frame, and
 // nothing moves. Assumes nothing.
+#![tactic(auto)]
+
 ghost use Rattle.hearing.specs.Hearing.{Tells};
 
 // How many bytes of output there are.

@@ -1,4 +1,6 @@
 // Lines of upper-case hexadecimal, of any bytes: written at a place of lent memory, each ended by LF, and read. Assumes nothing.
+#![tactic(auto)]
+
 ghost use Rattle.std.specs.Prelude.{◌≡◌, ◌++◌, ◌+◌, ◌*◌, ◌≤◌, length};
 ghost use Rattle.memory.specs.Splice.{splice};
 ghost use Rattle.machine.specs.Log.{line};

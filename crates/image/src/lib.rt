@@ -1,5 +1,7 @@
 // The state as 823 bytes that a caller keeps: tested (specs/Image.antt has the layout; `decoding` reads it, `encoding` writes it).
 // Assumes nothing.
+#![tactic(auto)]
+
 ghost use Rattle.std.specs.Prelude.{◌≡◌, ◌+◌, ◌≤◌, length};
 ghost use Rattle.image.specs.Image.{marks_at, all_marks, is_whole};
 

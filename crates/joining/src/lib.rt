@@ -1,4 +1,6 @@
 // A request joins the waiting ones, at its place by precedence and arrival. Assumes nothing.
+#![tactic(auto)]
+
 ghost use Rattle.std.specs.Prelude.{◌≡◌, List, ℕ, ◌+◌, ◌≤◌, ◌<◌, length, not, T};
 ghost use Rattle.machine.specs.Lists.{among};
 ghost use Rattle.machine.specs.Sound.{ids};

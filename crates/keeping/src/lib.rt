@@ -1,4 +1,6 @@
 // What the log program keeps at its end, in the first form: the text of its state. Assumes nothing.
+#![tactic(auto)]
+
 ghost use Rattle.std.specs.Prelude.{◌≡◌, length};
 ghost use Rattle.board.specs.Board.{Held};
 ghost use Rattle.keeping.specs.Keeping.{Kept};

@@ -1,5 +1,7 @@
 // Which channels a request names, as a number of eight bytes: byte c, its lane, is 1 where one of the combinations names channel c. Sums of
 // few such numbers count in every lane at once. Assumes nothing.
+#![tactic(auto)]
+
 ghost use Rattle.std.specs.Prelude.{◌≡◌, ℕ, ◌/◌, ◌%◌, ◌^◌};
 ghost use Rattle.machine.specs.Lists.{any};
 ghost use Rattle.machine.specs.Maps.{odd};

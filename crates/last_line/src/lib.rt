@@ -1,5 +1,7 @@
 // The end of a log over a slow line: what stands in the port is answered as a line. It asks nothing: whatever the bytes are, the answer
 // and every byte lent are determined (specs/LastLine.antt). Assumes nothing.
+#![tactic(auto)]
+
 ghost use Rattle.last_line.specs.LastLine.{Ends};
 
 // The refusal, or 0; how much output stands in front of the room.

@@ -1,4 +1,6 @@
 // A state without a write, a WAITCYCLE or a waiting request of an id. Assumes nothing.
+#![tactic(auto)]
+
 ghost use Rattle.std.specs.Prelude.{◌≡◌, map as each, ◌<◌};
 ghost use Rattle.store.specs.Store.{Each};
 ghost use Rattle.leaving.specs.Leaving.{Tidy, struck, cleaned, leaving};

@@ -1,6 +1,8 @@
 // The state in the 823 bytes that a caller lends: what stands where (image's specs/Image.antt has the layout), the last key, the number of
 // channels, a fresh state. Each function that stores says which bytes it leaves, every one, and which board they hold (specs/Lent.antt).
 // Its queues, channels and open keys are changed by lent_queues, lent_channels and lent_opens. Assumes nothing.
+#![tactic(auto)]
+
 ghost use Rattle.std.specs.Prelude.{◌≡◌, ◌+◌, ◌*◌, ◌<◌, length};
 ghost use Rattle.image.specs.Image.{state_of};
 ghost use Rattle.lent.specs.Lent.{PutLast, PutFresh};

@@ -1,6 +1,8 @@
 // The channels of a state, in the bytes that a caller lends. A channel is read as a small head by value, changed by its methods, which hand
 // the new one back, and stored again. What is stored determines every byte, and the board that they hold (specs/Heads.antt). Assumes
 // nothing.
+#![tactic(auto)]
+
 ghost use Rattle.std.specs.Prelude.{◌≡◌, ◌<◌, length};
 ghost use Rattle.machine.specs.InBytes.{mark_of};
 ghost use Rattle.image.specs.Image.{state_of};

@@ -1,5 +1,7 @@
 // The open keys of a state, in the bytes that a caller lends: their number, then 32 keys of two bytes. Each function that stores says which
 // bytes it leaves, every one, and which board they hold (specs/Lent.antt of crate `lent`). Assumes nothing.
+#![tactic(auto)]
+
 ghost use Rattle.std.specs.Prelude.{◌≡◌, [], ◌∷◌, ◌++◌, ◌≤◌, ◌<◌, length, get_or};
 ghost use Rattle.machine.specs.Lists.{among};
 ghost use Rattle.machine.specs.Commands.{closed};

@@ -1,5 +1,7 @@
 // The eleven queues of a state, in the bytes that a caller lends. A queue at `at` is its number and 64 ids. Each function that stores says
 // which bytes it leaves, every one, and which board they hold (specs/Lent.antt of crate `lent`). Assumes nothing.
+#![tactic(auto)]
+
 ghost use Rattle.std.specs.Prelude.{◌≡◌, [], ◌+◌, ◌≤◌, ◌<◌, length, get_or};
 ghost use Rattle.queue.specs.Queue.{queue_of, list_of, pushed, inserted, removed, index_of};
 ghost use Rattle.image.specs.Image.{queue_at};

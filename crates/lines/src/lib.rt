@@ -1,5 +1,7 @@
 // Replies and answers as lines of upper-case hexadecimal, two digits a byte, each line ended by LF.
 // A line is written at its place and nowhere else. Assumes nothing.
+#![tactic(auto)]
+
 ghost use Rattle.std.specs.Prelude.{◌≡◌, ◌+◌, ◌*◌, ◌≤◌, length};
 ghost use Rattle.memory.specs.Splice.{splice, block};
 ghost use Rattle.machine.specs.Log.{answer_line};

@@ -1,5 +1,7 @@
 // A state loaded from a text that was saved: document 02, #106. `load` asks nothing: whatever the bytes are, the answer and every byte lent
 // are determined (specs/Loading.antt). `qamhudeer` exports it to programs in C. Assumes nothing.
+#![tactic(auto)]
+
 ghost use Rattle.loading.specs.Loading.{Loads};
 
 use board::Board;

@@ -1,5 +1,7 @@
 // A state loaded from a text of the second form: document 02, #112. `load2` asks nothing: whatever the bytes are, the answer and every byte
 // lent are determined (specs/Loading2.antt). `qamhudeer` exports it to programs in C. Assumes nothing.
+#![tactic(auto)]
+
 ghost use Rattle.loading2.specs.Loading2.{Loads2};
 
 use board::Board;

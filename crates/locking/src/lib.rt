@@ -1,4 +1,6 @@
 // LOCK: all that was asked for, or nothing. Assumes nothing.
+#![tactic(auto)]
+
 ghost use Rattle.std.specs.Prelude.{◌≡◌, not, [], ◌<◌, T};
 ghost use Rattle.machine.specs.Lists.{among};
 ghost use Rattle.machine.specs.Sound.{ids};

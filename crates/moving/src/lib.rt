@@ -1,6 +1,8 @@
 // A saved text moved from one form to the other, in room that the caller lends: document 02, #112. Neither function asks anything:
 // whatever the bytes are, the answer and every byte lent are determined (specs/Moving.antt). `qamhudeer` exports both to programs in C.
 // Assumes nothing.
+#![tactic(auto)]
+
 ghost use Rattle.moving.specs.Moving.{MovesNew, MovesOld};
 
 use board::Board;

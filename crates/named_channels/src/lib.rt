@@ -1,4 +1,6 @@
 // What the commands do to the channels that a map names, and which of them match a key, in the lent bytes. Assumes nothing.
+#![tactic(auto)]
+
 ghost use Rattle.std.specs.Prelude.{◌≡◌, ◌/◌, ◌^◌, ◌<◌, T, length};
 ghost use Rattle.channel.specs.Channel.{hits, matching_each};
 ghost use Rattle.image.specs.Image.{Whole, state_of};

@@ -1,5 +1,7 @@
 // The numbers of a display as lines of a saved text in its second form, one for each channel of a board: document 02, #112. A line is
 // written at its place and nowhere else; each function hands back the place behind what it wrote. Assumes nothing.
+#![tactic(auto)]
+
 ghost use Rattle.std.specs.Prelude.{◌≡◌, ◌+◌, ◌*◌, ◌≤◌, ◌<◌, length};
 ghost use Rattle.machine.specs.Log.{line};
 ghost use Rattle.hex_lines.specs.HexLines.{Put};

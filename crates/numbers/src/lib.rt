@@ -1,4 +1,6 @@
 // The numbers that WRITE and PERVOL carry: cycles, period and volume as their bytes, and what a write keeps of them. Assumes nothing.
+#![tactic(auto)]
+
 ghost use Rattle.std.specs.Prelude.{◌≡◌, ◌⊎◌, ◌+◌, ◌*◌, ◌<◌, length, get_or};
 ghost use Rattle.machine.specs.Sound.{sound_tone};
 ghost use Rattle.table.specs.Entry.{tone_at, number_bytes};

@@ -1,5 +1,7 @@
 // One line of a log at most, its output on a lent page that has room for it. The state is known to be sound, and stands in lent
 // bytes. Assumes nothing.
+#![tactic(auto)]
+
 ghost use Rattle.std.specs.Prelude.{◌+◌, ◌≤◌, ◌≡◌, leb, length};
 ghost use Rattle.board.specs.Board.{Held};
 ghost use Rattle.gathering.specs.Lumps.{LINE};

@@ -1,5 +1,7 @@
 // What is done to one waiting request: dropped, granted, or held, which ends the locks over its map.
 // A step is promised in the machine's words: the state it leaves and the replies it adds. Assumes nothing.
+#![tactic(auto)]
+
 ghost use Rattle.std.specs.Prelude.{◌+◌, ◌<◌, length};
 ghost use Rattle.machine.specs.Granting.{dropped};
 ghost use Rattle.store.specs.Store.{state_in, Held};

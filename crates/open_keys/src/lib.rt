@@ -1,5 +1,7 @@
 // The table of open keys, in order of opening: document 02, #105. At most 32, in an array with zeros behind them, so that each list
 // of keys has one table (specs/OpenKeys.antt). Assumes nothing.
+#![tactic(auto)]
+
 ghost use Rattle.std.specs.Prelude.{◌≡◌, [], ◌∷◌, ◌++◌, ◌≤◌, ◌<◌, take};
 ghost use Rattle.machine.specs.Lists.{among};
 ghost use Rattle.machine.specs.Commands.{closed};

@@ -1,4 +1,6 @@
 // The table of open keys by itself: document 02, #105, "at most 32 entries, none 0". Assumes nothing.
+#![tactic(auto)]
+
 ghost use Rattle.std.specs.Prelude.{◌≡◌, ◌≤◌, take, drop};
 ghost use Rattle.machine.specs.Lists.{all};
 ghost use Rattle.open_shape.specs.OpenShape.{is_key, is_none, sound_keys};

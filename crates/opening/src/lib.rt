@@ -1,4 +1,6 @@
 // OPEN, before settling: a grant, or nothing. Assumes nothing.
+#![tactic(auto)]
+
 ghost use Rattle.std.specs.Prelude.{List, ℕ, ◌+◌, ◌<◌, length};
 ghost use Rattle.machine.specs.Choosing.{grants};
 ghost use Rattle.machine.specs.Granting.{dropped};

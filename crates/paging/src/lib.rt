@@ -1,5 +1,7 @@
 // The output of a log on a lent page: a lump of input is taken as far as the page has room, and the caller writes the page and
 // comes back with the rest. The state is known to be sound, and stands in lent bytes. Assumes nothing.
+#![tactic(auto)]
+
 ghost use Rattle.std.specs.Prelude.{◌≤◌};
 ghost use Rattle.board.specs.Board.{Held};
 ghost use Rattle.gathering.specs.Lumps.{LINE};

@@ -1,4 +1,6 @@
 // How a combination is chosen: one walk over a list, by what each costs. Assumes nothing.
+#![tactic(auto)]
+
 ghost use Rattle.std.specs.Prelude.{◌≡◌, List};
 ghost use Rattle.machine.specs.State.{Channel as ChannelM};
 ghost use Rattle.machine.specs.Choosing.{choose as choose_m};

@@ -1,5 +1,7 @@
 // Each id that a queue of the state names, placed once: the table has it, it was not seen before, and its entry is what its place
 // asks for. Assumes nothing.
+#![tactic(auto)]
+
 ghost use Rattle.std.specs.Prelude.{◌≡◌, ◌&&◌, ◌+◌, ◌≤◌, ◌<◌, T, eqb, length, replicate};
 ghost use Rattle.queue.specs.Queue.{list_of};
 ghost use Rattle.machine.specs.Lists.{all};

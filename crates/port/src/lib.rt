@@ -1,4 +1,6 @@
 // A port: what stands of a line between two fragments, in 529 bytes that a caller keeps: read and written. Assumes nothing.
+#![tactic(auto)]
+
 ghost use Rattle.std.specs.Prelude.{◌≡◌, ◌≤◌, length};
 ghost use Rattle.gathering.specs.Lumps.{LINE};
 ghost use Rattle.sizes.specs.Sizes.{PORT};

@@ -1,4 +1,6 @@
 // The output of a line, as far as it is counted, at the front of a room. Assumes nothing.
+#![tactic(auto)]
+
 ghost use Rattle.std.specs.Prelude.{◌≤◌, length};
 ghost use Rattle.pouring.specs.Pouring.{Pours};
 

@@ -1,4 +1,6 @@
 // What a combination costs, as one number, by how the channels stand. Assumes nothing.
+#![tactic(auto)]
+
 ghost use Rattle.std.specs.Prelude.{◌≡◌, List, max, ◌<◌};
 ghost use Rattle.machine.specs.State.{Channel as ChannelM};
 ghost use Rattle.standing.specs.Standing.{Stood};

@@ -1,5 +1,7 @@
 // The arbiter for programs in C: every exported function, and nothing else. Each forwards to a library function with the same promise.
 // None asks anything of its caller but memory that is its own. Assumes nothing.
+#![tactic(auto)]
+
 ghost use Rattle.std.specs.Prelude.{◌≡◌};
 ghost use Rattle.qamhudeer.specs.Version.{VERSION};
 ghost use Rattle.image.specs.Image.{STATE, CHANNEL, LOCKS, WAITERS, WAITING, OPENS, LAST, CHANNELS};

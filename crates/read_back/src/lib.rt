@@ -1,2 +1,3 @@
 // That the saved text of a sound state reads back to that state is a law (proofs/) over what `saved` and `reading` define. Assumes
 // nothing.
+#![tactic(auto)]

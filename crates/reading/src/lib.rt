@@ -1,4 +1,6 @@
 // The lines of a saved text, one after another, taken into a fresh state and a lent table. Assumes nothing.
+#![tactic(auto)]
+
 ghost use Rattle.std.specs.Prelude.{◌+◌, ◌≤◌, min, ◌≡◌, length, drop};
 ghost use Rattle.reading.specs.Reading.{read_from};
 ghost use Rattle.sheet.specs.Sheet.{Took};

@@ -1,5 +1,7 @@
 // The list of who waits, as records of four bytes in a list that the caller lends: id, precedence (two's complement), held or not,
 // desk. The requests stand in their order, and no byte behind the last record is written. Assumes nothing.
+#![tactic(auto)]
+
 ghost use Rattle.std.specs.Prelude.{◌≡◌, List, ◌+◌, ◌*◌, ◌≤◌, ◌%◌, length};
 ghost use Rattle.machine.specs.Lists.{if◌then◌else◌};
 ghost use Rattle.machine.specs.State.{Channel as ChannelM};

@@ -1,5 +1,7 @@
 // The wall display of a state that was loaded: its numbers counted once, the looks 0. A fresh state's are all 0, so they are those of a
 // fresh display corrected to the state. Assumes nothing.
+#![tactic(auto)]
+
 ghost use Rattle.std.specs.Prelude.{◌≡◌, map, length};
 ghost use Rattle.queue.specs.Queue.{list_of};
 ghost use Rattle.store.specs.Store.{request_in};

@@ -1,4 +1,6 @@
 // A call that is refused: its number is answered, its own reply sent where one is due, and the state stays. Assumes nothing.
+#![tactic(auto)]
+
 ghost use Rattle.std.specs.Prelude.{◌≡◌, ◌≤◌, ◌<◌, length};
 ghost use Rattle.refusing.specs.Refusing.{is_due, Refused};
 

@@ -1,4 +1,6 @@
 // What PERVOL, a synced FINISH and the end of a cycle make of the numbers of a write, in their twelve bytes. Assumes nothing.
+#![tactic(auto)]
+
 ghost use Rattle.std.specs.Prelude.{◌≡◌};
 ghost use Rattle.retuning.specs.Retuning.{tone_set, tone_kept, finish_kept, retuned_of};
 

@@ -1,5 +1,7 @@
 // The lines of the channels in a saved text, each with what is remembered for its front write. A line is written at its place and nowhere
 // else; each function hands back the place behind what it wrote. Assumes nothing.
+#![tactic(auto)]
+
 ghost use Rattle.std.specs.Prelude.{◌≡◌, map, ◌+◌, ◌≤◌, length, take};
 ghost use Rattle.machine.specs.Log.{line};
 ghost use Rattle.hex_lines.specs.HexLines.{Put};

@@ -1,5 +1,7 @@
 // One frame of a saved text, taken into a state and its table (crate `sheet`). A frame that is none of its kind, or that has no place, is
 // passed over: whether a text is one that was saved is told afterwards, by saving again what was read. Assumes nothing.
+#![tactic(auto)]
+
 ghost use Rattle.std.specs.Prelude.{◌≡◌, [], ◌<◌, length};
 ghost use Rattle.sheet.specs.Sheet.{sheet, added_key, request_taken, open_taken, last_taken, part_taken, taken, Took, Takes};
 

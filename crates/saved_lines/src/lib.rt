@@ -1,5 +1,7 @@
 // The frames of a saved text, as lines of hexadecimal, from a struct and its table. A line is written at its place and nowhere else; each
 // function hands back the place behind what it wrote. Assumes nothing.
+#![tactic(auto)]
+
 ghost use Rattle.std.specs.Prelude.{map, ◌+◌, ◌≤◌, length};
 ghost use Rattle.machine.specs.Log.{line};
 ghost use Rattle.open_keys.specs.OpenKeys.{keys_in};

@@ -1,6 +1,8 @@
 // The program behind ./saved. Standard input: n or o, then a saved text. Standard output: the text in the new form or in the old, or one
 // line that says 'refused' and the number. The wrapper checks its words and gives the status. What a text becomes is the crate `moving`'s
 // to say; what is read and written is the C library's.
+#![tactic(auto)]
+
 fn say(line: &[u8]) {
     let written = io::write_all(libc::STDOUT_FILENO, line);
     if !written {

@@ -1,5 +1,7 @@
 // The lines of all outstanding requests in a saved text: the waiting ones, the locks and the WAITCYCLEs, and the writes of the channels.
 // Each function hands back the place behind what it wrote. Assumes nothing.
+#![tactic(auto)]
+
 ghost use Rattle.std.specs.Prelude.{◌+◌, ◌≤◌, length, take};
 ghost use Rattle.hex_lines.specs.HexLines.{Put};
 ghost use Rattle.store.specs.Store.{Held as WideHeld};

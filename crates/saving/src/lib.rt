@@ -1,5 +1,7 @@
 // A state saved as a text, in room that the caller lends: document 02, #106. `save` asks nothing: whatever the bytes are, the answer and
 // every byte lent are determined (specs/Saving.antt). `qamhudeer` exports it to programs in C. Assumes nothing.
+#![tactic(auto)]
+
 ghost use Rattle.std.specs.Prelude.{◌≡◌, length};
 ghost use Rattle.hex_lines.specs.HexLines.{Put};
 ghost use Rattle.board.specs.Board.{state_in, Held};

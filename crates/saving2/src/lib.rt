@@ -1,5 +1,7 @@
 // A state saved as a text of the second form, in room that the caller lends: document 02, #112. `save2` asks nothing: whatever the bytes
 // are, the answer and every byte lent are determined (specs/Saving2.antt). `qamhudeer` exports it to programs in C. Assumes nothing.
+#![tactic(auto)]
+
 ghost use Rattle.std.specs.Prelude.{◌≡◌, ◌≤◌, length, take};
 ghost use Rattle.hex_lines.specs.HexLines.{Put};
 ghost use Rattle.sound.specs.Sound.{Decides};

@@ -1,5 +1,7 @@
 // One line of a log on bytes that hold a state known to be sound, as the log program's is: read, served, and told in lines of output.
 // Assumes nothing.
+#![tactic(auto)]
+
 ghost use Rattle.std.specs.Prelude.{◌≤◌, length, take};
 ghost use Rattle.board.specs.Board.{Held};
 ghost use Rattle.image.specs.Image.{state_of, Whole};

@@ -1,4 +1,6 @@
 // What was read so far of a saved text, and what each frame makes of it (specs/Sheet.antt). Assumes nothing.
+#![tactic(auto)]
+
 ghost use Rattle.std.specs.Prelude.{◌≡◌, ◌+◌, ◌%◌};
 
 use store::State;

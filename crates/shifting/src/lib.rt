@@ -1,4 +1,6 @@
 // A number of the wall display, moved by what joined its queue and what left it. Assumes nothing.
+#![tactic(auto)]
+
 ghost use Rattle.std.specs.Prelude.{◌<◌, ◌≡◌, [], ◌∷◌, length, get_or};
 ghost use Rattle.memory.specs.Splice.{splice};
 ghost use Rattle.shifting.specs.Shifting.{shifted};

@@ -1,5 +1,7 @@
 // What a trial of `any_bytes` writes. No function hands anything back or changes memory; what is written, no contract can say.
 // Assumes nothing.
+#![tactic(auto)]
+
 ghost use Rattle.std.specs.Prelude.{◌<◌};
 
 use answers::Answer;

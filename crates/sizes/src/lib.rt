@@ -1,5 +1,7 @@
 // Sizes of what a program in C lends, and the places in the state's bytes, for the header to be held against.
 // Assumes nothing.
+#![tactic(auto)]
+
 ghost use Rattle.std.specs.Prelude.{◌≡◌};
 ghost use Rattle.image.specs.Image.{STATE, CHANNEL, LOCKS, WAITERS, WAITING, OPENS, LAST, CHANNELS};
 ghost use Rattle.display.specs.Display.{DISPLAY};

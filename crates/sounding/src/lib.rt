@@ -1,4 +1,6 @@
 // The commands that say what a cycle is played with: WRITE, and FINISH and PERVOL, at once or remembered. Assumes nothing.
+#![tactic(auto)]
+
 ghost use Rattle.std.specs.Prelude.{◌≡◌, ◌⊎◌, [], ◌∷◌, length};
 ghost use Rattle.machine.specs.Steps.{Carries};
 ghost use Rattle.answers.specs.Answers.{call_of, Does};

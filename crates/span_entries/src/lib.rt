@@ -1,4 +1,6 @@
 // The entry of a lock, or of a WAITCYCLE. Assumes nothing.
+#![tactic(auto)]
+
 ghost use Rattle.std.specs.Prelude.{◌≡◌, not, ◌&&◌, map as each, ℕ, ◌<◌, eqb, length};
 ghost use Rattle.memory.specs.Splice.{block};
 ghost use Rattle.queue.specs.Queue.{list_of};

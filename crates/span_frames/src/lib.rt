@@ -1,5 +1,7 @@
 // D3 and D4, the frames of a lock and a WAITCYCLE in a saved text: each puts its entry into the table, and its id behind the others. A
 // frame that is none of its kind, or that has no place, is passed over. Assumes nothing.
+#![tactic(auto)]
+
 ghost use Rattle.std.specs.Prelude.{◌≡◌, [], ◌*◌, ◌<◌, length, get_or};
 ghost use Rattle.memory.specs.Splice.{splice};
 ghost use Rattle.sheet.specs.Sheet.{sheet, span_of, lock_taken, waiter_taken, Took};

@@ -1,5 +1,7 @@
 // Bytes spelt as upper-case hexadecimal, two digits a byte, and a line of seven bytes, ended by LF.
 // They are written at their place and nowhere else. Assumes nothing.
+#![tactic(auto)]
+
 ghost use Rattle.std.specs.Prelude.{◌≡◌, [], ◌∷◌, ◌+◌, ◌≤◌, ◌<◌, length};
 ghost use Rattle.memory.specs.Splice.{splice};
 ghost use Rattle.machine.specs.Log.{hex_digit, line};

@@ -1,4 +1,6 @@
 // A fresh device in bytes that the caller lends. Assumes nothing.
+#![tactic(auto)]
+
 ghost use Rattle.starting.specs.Starting.{Started};
 
 use board::Board;

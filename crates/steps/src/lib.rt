@@ -1,4 +1,6 @@
 // The steps of a refusal: what is wrong with a list of combinations, a map, a command's number, an id. Assumes nothing.
+#![tactic(auto)]
+
 ghost use Rattle.std.specs.Prelude.{◌≡◌, not, ◌+◌, ◌<◌, length};
 ghost use Rattle.machine.specs.Lists.{any};
 ghost use Rattle.machine.specs.Kinds.{kind, unknown, carries as carries_m};

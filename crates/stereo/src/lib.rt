@@ -1,5 +1,7 @@
 // Stereo: the list of all maps with so many left and so many right channels, and the test of any list from anyone. For the
 // four-channel board. Assumes nothing.
+#![tactic(auto)]
+
 ghost use Rattle.std.specs.Prelude.{◌≡◌, ◌≤◌, eqb, length};
 ghost use Rattle.machine.specs.Lists.{all};
 ghost use Rattle.memory.specs.Splice.{splice};

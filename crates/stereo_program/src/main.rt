@@ -1,6 +1,8 @@
 // The program behind ./stereo. Standard input: pairs of hexadecimal digits, 00 to make a list or 01 to check one, the left number,
 // the right number, and the maps to check. Standard output: one line. The wrapper checks its words and gives the status.
 // What is made and accepted is the crate `stereo`'s; what is read and written is the C library's to say.
+#![tactic(auto)]
+
 ghost use Rattle.std.specs.Prelude.{◌≤◌, length};
 
 fn digit(b: u8) -> u8 {

@@ -1,6 +1,8 @@
 // The state by value, with eight channels; the table of requests is lent beside it. specs/Store.antt says which struct and which
 // table stand for a state of the machine. A board of four keeps the channels behind its own free (crate `board`): nothing here and
 // nothing below the call reads how many a board has. Assumes nothing.
+#![tactic(auto)]
+
 ghost use Rattle.std.specs.Prelude.{◌≡◌, set, ◌<◌};
 ghost use Rattle.machine.specs.State.{fresh_on};
 ghost use Rattle.store.specs.Store.{struct_of};

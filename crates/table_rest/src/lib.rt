@@ -1,5 +1,7 @@
 // What the test of a state reads of the table besides each outstanding id's own entry: the order of the waiting requests, and the
 // entries of the idle ids. Assumes nothing.
+#![tactic(auto)]
+
 ghost use Rattle.std.specs.Prelude.{◌≡◌, ◌&&◌, ◌+◌, ◌-◌, ◌≤◌, ◌<◌, T, ltb, leb, length, take, drop};
 ghost use Rattle.memory.specs.Splice.{block};
 ghost use Rattle.words.specs.Words.{zeros};

@@ -1,5 +1,7 @@
 // A log taken a fragment at a time, of any length: what stands of a line is kept in lent bytes, and a call answers one line at
 // most. The state is known to be sound, and stands in lent bytes too. Assumes nothing.
+#![tactic(auto)]
+
 ghost use Rattle.std.specs.Prelude.{◌≤◌, length, take};
 ghost use Rattle.board.specs.Board.{Held};
 ghost use Rattle.image.specs.Image.{state_of, Whole};

@@ -1,5 +1,7 @@
 // The answer to a line, at the front of a room that the caller lends; and what a call on a port promises, whichever line it answers.
 // Assumes nothing.
+#![tactic(auto)]
+
 ghost use Rattle.std.specs.Prelude.{◌≡◌, ◌≤◌, length};
 ghost use Rattle.telling.specs.Telling.{Says};
 

@@ -3,6 +3,8 @@
 // Standard input: a text. Standard output: one line, 'accepted', 'line N' for the first line that is no frame of its kind, or 'no sound
 // state'. The wrapper gives the message and the status. What is accepted is said by the crates `accepting` and `accepting2`, and the line
 // by the crate `faults`.
+#![tactic(auto)]
+
 ghost use Rattle.std.specs.Prelude.{T};
 ghost use Rattle.board.specs.Board.{sized};
 

@@ -1,5 +1,7 @@
 // The numbers of the write in progress at each channel that a map names, or what it remembers: where a cycle ended and it goes on, by
 // PERVOL, and by FINISH with SYNCCYCLE. No channel and no reply but the command's own. Assumes nothing.
+#![tactic(auto)]
+
 ghost use Rattle.std.specs.Prelude.{◌≡◌, ◌⊎◌, ◌<◌, length, get_or};
 ghost use Rattle.memory.specs.Splice.{block};
 ghost use Rattle.store.specs.Store.{Held};

@@ -1,5 +1,7 @@
 // A line of a log that is not served: 7 to what is no frame, 1 to a frame on a state that is not sound. The state stays.
 // Assumes nothing.
+#![tactic(auto)]
+
 ghost use Rattle.board.specs.declared.Board.{Board};
 ghost use Rattle.unheard.specs.Unheard.{Dull, Unheard};
 

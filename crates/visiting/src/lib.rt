@@ -1,5 +1,7 @@
 // A turn of settling: one waiting request was looked at, and is dropped, held or granted.
 // A turn is promised by what is still to come: the same state and the same replies. Assumes nothing.
+#![tactic(auto)]
+
 ghost use Rattle.std.specs.Prelude.{◌≡◌, ◌+◌, ◌<◌, true, false};
 ghost use Rattle.machine.specs.Choosing.{fails as fails_m, held, grants};
 ghost use Rattle.lanes.specs.Lanes.{word_of};

@@ -1,4 +1,6 @@
 // The entry of a waiting request. Assumes nothing.
+#![tactic(auto)]
+
 ghost use Rattle.std.specs.Prelude.{◌≡◌, ◌+◌, ◌≤◌, ◌<◌, ltb, length, get_or};
 ghost use Rattle.memory.specs.Splice.{block};
 ghost use Rattle.table.specs.Entry.{wait_entry};

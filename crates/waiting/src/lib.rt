@@ -1,4 +1,6 @@
 // The next waiting request of which something comes. Assumes nothing.
+#![tactic(auto)]
+
 ghost use Rattle.std.specs.Prelude.{◌≡◌, List};
 ghost use Rattle.machine.specs.State.{Channel as ChannelM};
 ghost use Rattle.standing.specs.Standing.{Stood};

@@ -1,5 +1,7 @@
 // The list of who waits, of the bytes of a state and a table. `waiting` asks nothing: whatever the bytes are, the answer and every byte
 // lent are determined (specs/WaitingList.antt). `qamhudeer` exports it to programs in C. Assumes nothing.
+#![tactic(auto)]
+
 ghost use Rattle.waiting_list.specs.WaitingList.{Tells};
 
 // The refusal, or 0; how many records stand in front of the list.

@@ -1,4 +1,6 @@
 // Stereo: whether a map has so many left and so many right channels. For the four-channel board. Assumes nothing.
+#![tactic(auto)]
+
 ghost use Rattle.std.specs.Prelude.{◌≡◌, ◌≤◌, ◌<◌};
 ghost use Rattle.wishes.specs.Wishes.{named as named_of, lefts as leftsOf, rights as rightsOf, meets as meets_of};
 

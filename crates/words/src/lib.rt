@@ -1,4 +1,6 @@
 // Eight bytes read as one number, lowest first: the compiler makes one load of it. Assumes nothing.
+#![tactic(auto)]
+
 ghost use Rattle.std.specs.Prelude.{◌≡◌, ◌+◌, ◌*◌, ◌≤◌, ◌<◌, length, take, drop};
 ghost use Rattle.words.specs.Words.{number, zeros};
 

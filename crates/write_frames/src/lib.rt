@@ -1,5 +1,7 @@
 // D5, the frame of a write in a saved text: its entry goes into the table, and its id behind the others of its channel. A frame that is
 // none, or that has no place, is passed over. Assumes nothing.
+#![tactic(auto)]
+
 ghost use Rattle.std.specs.Prelude.{◌≡◌, length};
 ghost use Rattle.sheet.specs.Sheet.{sheet, numbers_from, write_taken, Took};
 

@@ -1,4 +1,6 @@
 // WRITE, on the lowest channel that the map names: the write joins its queue with its numbers. Assumes nothing.
+#![tactic(auto)]
+
 ghost use Rattle.std.specs.Prelude.{◌≡◌, ◌⊎◌, ◌<◌, length, get_or, not, T};
 ghost use Rattle.machine.specs.Lists.{among};
 ghost use Rattle.machine.specs.Sound.{ids};
