@@ -19,7 +19,7 @@ PATH = re.compile(r"(?<![\w.'’₀-₉-])([A-Za-z][\w'₀-₉-]*)((?:\.[A-Za-z0
 
 def norm(name):
     name = re.sub(r"^overflow[-_]", "", name)
-    return re.sub(r"_lem\b", "", name.replace("-", "_"))
+    return re.sub(r"_lem\b", "", name.replace("-", "_")).lower()
 
 
 class Function:
@@ -29,6 +29,7 @@ class Function:
         self.place = {}
         for (old, parent, field, callee, _), new in zip(entry["places"], entry["places_by_name"]):
             self.place[old] = (parent, field[0], field[1], new)
+        self.arms = {p[0]: a for p, a in zip(entry["places"], entry["arms"]) if a}
         self.by_norm = {norm(p): p for p in self.place}
         self.need = {}
         for (old, new), (at, _) in zip(entry["needs"], entry["asked_at"]):
@@ -58,6 +59,15 @@ class Function:
             if first in ("args", "ranges") and rest:
                 rest[0] = self.arg_names.get(rest[0], rest[0])
             return None, "." + ".".join([first.replace("-", "_")] + rest)
+        # what the arm of a match binds
+        p = up
+        while p:
+            if p in self.arms:
+                step, _, binds = self.arms[p]
+                for new, old, path in binds:
+                    if norm(old) == norm(first) and path and rest[:len(path)] == path:
+                        return None, "." + ".".join([step, new] + rest[len(path):])
+            p = self.place[p][0]
         p = up
         seen = 0
         while p:
@@ -119,7 +129,8 @@ class Function:
                 continue
             out += text[i]
             i += 1
-        return out
+        # the test of `if !x` says that x is false
+        return re.sub(r"\bnot-(?:true|false) _ (c\.[\w'-]+\.(?:true|false))(?![\w.'-])", r"\1", out)
 
     def invariant(self, args, text, loop):
         new, names, changed = self.loops[loop]

@@ -10,7 +10,7 @@ ghost use Rattle.accepting.specs.Accepting.{Finds, Accepts};
 use board::Board;
 
 // What was read, and whether it is what was saved.
-#[derive(Drop)]
+#[derive(Clone, Copy)]
 pub struct Found {
     pub ok: bool,
     pub board: Board,

@@ -8,14 +8,14 @@ ghost use Rattle.board.specs.Board.{sized as sized_m, top_of, fresh_board};
 use answers::Answer;
 use store::State;
 
-#[derive(Drop)]
+#[derive(Clone, Copy)]
 pub struct Board {
     pub width: u8,
     pub state: State,
 }
 
 // An answer, the board afterwards, and how many replies there are.
-#[derive(Drop)]
+#[derive(Clone, Copy)]
 pub struct Outcome {
     pub answer: Answer,
     pub state: Board,

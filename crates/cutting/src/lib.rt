@@ -16,7 +16,7 @@ use fronts::Front;
 use store::State;
 
 // The state without the front writes, and how many replies there are.
-#[derive(Drop)]
+#[derive(Clone, Copy)]
 pub struct Cut {
     pub state: State,
     pub n: usize,

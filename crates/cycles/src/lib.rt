@@ -7,7 +7,7 @@ ghost use Rattle.cycles.specs.Cycles.{turn_in, applied_in, counted_in, next_in};
 use table::Head;
 
 // FINISH is remembered, so the write is cut; or the cycle was its last; or it goes on.
-#[derive(Drop)]
+#[derive(Clone, Copy)]
 pub enum Turn {
     Cut,
     Over,

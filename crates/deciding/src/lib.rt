@@ -69,7 +69,7 @@ fn joined(waited: u8, wait: u8, combos: &[u8]) -> u64
 
 // What came of a call, and how many waiting requests the last settling looked at: its own, or an earlier one where it settled nothing.
 // `left` and `joined` have in each lane how many that name its channel left the waiting list, and joined it.
-#[derive(Drop)]
+#[derive(Clone, Copy)]
 pub struct Done {
     pub outcome: answers::Outcome,
     pub looks: usize,

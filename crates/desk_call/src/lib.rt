@@ -10,7 +10,7 @@ use answers::{Answer, Request};
 use refusals::Op;
 
 // An answer, and how many replies there are in each half. The board afterwards is in the bytes that were lent.
-#[derive(Drop)]
+#[derive(Clone, Copy)]
 pub struct Answered {
     pub answer: Answer,
     pub a: usize,

@@ -67,7 +67,7 @@ pub fn abort_named(
 }
 
 // The WAITCYCLEs that are left, and how many replies there are.
-#[derive(Drop)]
+#[derive(Clone, Copy)]
 pub struct Dropped {
     pub waiters: Queue,
     pub n: usize,

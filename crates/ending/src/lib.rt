@@ -17,7 +17,7 @@ use store::State;
 use table::Head;
 
 // The state after it, and how many replies there are.
-#[derive(Drop)]
+#[derive(Clone, Copy)]
 pub struct Ended {
     pub state: State,
     pub n: usize,

@@ -10,7 +10,7 @@ use store::State;
 
 // What happens to the channels that a lock or a WAITCYCLE names: they are freed, a held request wants them; the front write is cut,
 // its event comes.
-#[derive(Drop)]
+#[derive(Clone, Copy)]
 pub enum End {
     Freed,
     Stolen,
@@ -19,7 +19,7 @@ pub enum End {
 }
 
 // It ends with an error and a map, or stays with the map.
-#[derive(Drop)]
+#[derive(Clone, Copy)]
 pub struct Fate {
     pub ends: bool,
     pub error: u8,

@@ -6,7 +6,7 @@
 ghost use Rattle.fragments.specs.Fragments.{Feeds};
 
 // The refusal, or 0; how much of the fragment is used; how much output stands in front of the room.
-#[derive(Drop)]
+#[derive(Clone, Copy)]
 pub struct Fed {
     pub error: u8,
     pub used: usize,

@@ -14,7 +14,7 @@ use channel::Change;
 use fates::End;
 use store::State;
 
-#[derive(Drop)]
+#[derive(Clone, Copy)]
 pub struct Freed {
     pub state: State,
     pub n: usize,

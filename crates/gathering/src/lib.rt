@@ -5,7 +5,7 @@ ghost use Rattle.std.specs.Prelude.{◌≡◌, ◌-◌, ◌<◌, ◌≤◌, leng
 ghost use Rattle.gathering.specs.Lumps.{front, Gathers};
 
 // What stands of a line after a lump of input, how much of the lump is used, and whether the line has ended.
-#[derive(Drop)]
+#[derive(Clone, Copy)]
 pub struct Gathered {
     pub n: usize,
     pub used: usize,

@@ -8,7 +8,7 @@ ghost use Rattle.memory.specs.Splice.{splice};
 ghost use Rattle.halves.specs.Halves.{one, picked, Laying, Laid, in_order, Ordering};
 
 // How many replies there are in each half.
-#[derive(Drop)]
+#[derive(Clone, Copy)]
 pub struct Halves {
     pub a: usize,
     pub b: usize,

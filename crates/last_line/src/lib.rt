@@ -5,7 +5,7 @@
 ghost use Rattle.last_line.specs.LastLine.{Ends};
 
 // The refusal, or 0; how much output stands in front of the room.
-#[derive(Drop)]
+#[derive(Clone, Copy)]
 pub struct Ended {
     pub error: u8,
     pub written: usize,

@@ -11,7 +11,7 @@ ghost use Rattle.lent_channels.specs.Heads.{head_in, unused_head, reset_head, pr
 
 // A channel by value: all of it but the ids of its writes, which stay in the lent bytes. `writes` is how many they are; a channel stored
 // with 0 has none.
-#[derive(Drop)]
+#[derive(Clone, Copy)]
 pub struct Channel {
     pub key: u16,
     pub prec: u8,

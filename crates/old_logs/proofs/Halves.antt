@@ -109,13 +109,18 @@ above-mute d n c s e t u m =
     (λ _. mute d c s (refused NOROOM) NOROOM refl tt m) (λ _. mute d c s (refused BADID) BADID refl tt m))
 
 pub call_stays : (d : ℕ) (s : State) (c : Call) → Mine d (ids s) → T (half_op d c.op c.id) → Stays d (call s c)
-unfolding half_op in_half
+unfolding half_op in_half call all own
 call_stays d s c m h =
-    by_test (sound s) (λ t. go c.op refl t h)
-    (λ t. unfold call in mute d c s (refusal c.op c s) UNSOUND (unsound-refused c.op c s t) tt m)
+    by_test (sound s) (λ t. go c.op refl t h) (λ t. unsound t)
   where
+    unsound : T (not (sound s)) → Stays d (call s c)
+    unsound t = mute d c s (refusal c.op c s) UNSOUND (unsound-refused c.op c s t) tt m
+
+    none_mine : Mine d []
+    none_mine = tt
+
     brings_none : (o : Op) → c.op ≡ o → own o c ≡ [] → T (sound s) → Stays d (call s c)
-    brings_none o e q t = counted-stays d s c t m (subst (λ (o : Op). Mine d (own o c)) (sym e) (rw q (unfold all in tt)))
+    brings_none o e q t = counted-stays d s c t m (subst (λ (o : Op). Mine d (own o c)) (sym e) (rw q none_mine))
 
     go : (o : Op) → c.op ≡ o → T (sound s) → T (half_op d o c.id) → Stays d (call s c)
     go OPEN e t g = brings_none OPEN e (unfold own in refl) t

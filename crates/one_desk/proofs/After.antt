@@ -238,6 +238,10 @@ module _ (d : ℕ) (c : Call) where
         (subst (λ (i : ℕ). T (eqb i k)) (eqb→eq e.key c.key (and_right (not (eqb c.key 0)) (eqb e.key c.key) h)) x)
         (and_both (of_desk d c.id) (p c.id) own (or_rest (wrote p e.writes) (p c.id) (behind p e.writes (and_right a b t)) u))))
 
+    at_other : (x : ℕ) (e : Channel) (cs : List Channel) → at (bit false x) (e ∷ cs) ≡ at x cs
+    unfolding at
+    at_other x e cs = rw (odd-bit false x, half-bit false x) refl
+
     joined : (m : ℕ) (cs : List Channel) → T (matches c.key (at (lowest (length cs) m) cs))
         → Grown d c cs (change (set_writes ((at (lowest (length cs) m) cs).writes ++ write_of c ∷ [])) (lowest (length cs) m) cs)
     unfolding lowest change any
@@ -264,10 +268,11 @@ module _ (d : ℕ) (c : Call) where
             (longer e v p k) (or_left (any (has p k) cs) (New p k))
             (rw (change_zero (set_writes (e.writes ++ write_of c ∷ [])) cs) at u)
         go false v ih u =
-            unfold at in
+            let o : at (if false then 1 else bit false x) (e ∷ cs) ≡ at x cs = at_other x e cs in
+            let w = subst (λ (d : Channel). T (any (has p k) (change (set_writes (d.writes ++ write_of c ∷ [])) (bit false x) (e ∷ cs)))) o u in
             with_tail (has p k e) (has p k e) (any (has p k) (change (set_writes ((at x cs).writes ++ write_of c ∷ [])) x cs)) (any (has p k) cs) (New p k)
-            (or_left (has p k e) (New p k)) (ih (rw (odd-bit false x, half-bit false x) at v) p k)
-            (rw (odd-bit false x, half-bit false x) at u)
+            (or_left (has p k e) (New p k)) (ih (rw o at v) p k)
+            (rw (odd-bit false x, half-bit false x) at w)
 
     write_after : (s : State) → After s (do_write c s)
     unfolding do_write silent finished

@@ -12,7 +12,7 @@ use fates::End;
 use reply::Reply;
 use store::State;
 
-#[derive(Drop)]
+#[derive(Clone, Copy)]
 pub struct Settled {
     pub state: State,
     pub n: usize,

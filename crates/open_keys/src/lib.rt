@@ -8,7 +8,7 @@ ghost use Rattle.machine.specs.Commands.{closed};
 ghost use Rattle.queue.specs.Queue.{remove_at};
 ghost use Rattle.open_keys.specs.OpenKeys.{keys_of, keys_in, Tidy, index_of};
 
-#[derive(Drop)]
+#[derive(Clone, Copy)]
 pub struct Keys {
     pub n: u8,
     pub keys: [u16; Keys::ROOM],

@@ -9,14 +9,14 @@ ghost use Rattle.picking.specs.Picking.{choice_of, Beaten};
 
 use standing::Standing;
 
-#[derive(Drop)]
+#[derive(Clone, Copy)]
 pub enum Choice {
     None,
     Chosen(u8),
 }
 
 // The cheapest combination so far and its cost: 65,535, above every cost, where there is none.
-#[derive(Drop)]
+#[derive(Clone, Copy)]
 struct Best {
     map: u8,
     cost: u16,

@@ -13,7 +13,7 @@ use queue::Queue;
 use store::State;
 
 // Whether a walk found all in order, and the ids seen so far: 1 at each.
-#[derive(Drop)]
+#[derive(Clone, Copy)]
 pub struct Marks {
     pub ok: bool,
     pub seen: [u8; Queue::ROOM],
@@ -21,7 +21,7 @@ pub struct Marks {
 
 // The place where an id is outstanding: among a channel's writes, with the channel's key and its front write, among the locks, among
 // the WAITCYCLEs, or waiting, on a board with that highest map.
-#[derive(Drop)]
+#[derive(Clone, Copy)]
 enum Kind {
     Write(u16, u8),
     Lock,

@@ -13,7 +13,7 @@ use waiting_list::Listed;
 pub const ROOM: usize = State::REQUESTS as usize;
 
 // A waiting request: its id, its precedence (two's complement), whether it is held, its desk.
-#[derive(Drop)]
+#[derive(Clone, Copy)]
 pub struct Waiter {
     pub id: u8,
     pub prec: u8,
@@ -22,7 +22,7 @@ pub struct Waiter {
 }
 
 // Who waits, as byte records: the refusal, or 0, with how many they are; the bytes.
-#[derive(Drop)]
+#[derive(Clone, Copy)]
 struct Told {
     listed: Listed,
     bytes: [u8; audio::RECORDS_SIZE],
@@ -76,7 +76,7 @@ pub fn waiting(state: &[u8], table: &[u8], list: &mut [Waiter]) -> Listed
 }
 
 // A list by value, and what `waiting` answered of it.
-#[derive(Drop)]
+#[derive(Clone, Copy)]
 pub struct Waiters {
     pub listed: Listed,
     pub list: [Waiter; ROOM],

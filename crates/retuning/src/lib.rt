@@ -8,7 +8,7 @@ use table::Head;
 
 // What is done to a write: its period and volume are set, or remembered for its cycle's end; or its finish is; or a cycle of it ended and it
 // goes on.
-#[derive(Drop)]
+#[derive(Clone, Copy)]
 pub enum Tune {
     Set,
     Later,

@@ -11,7 +11,7 @@ ghost use Rattle.saving.specs.Saving.{TEXT, Saves};
 use board::Board;
 
 // The refusal, or 0; how long the text is.
-#[derive(Drop)]
+#[derive(Clone, Copy)]
 pub struct Written {
     pub error: u8,
     pub written: usize,

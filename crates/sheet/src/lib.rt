@@ -6,7 +6,7 @@ ghost use Rattle.std.specs.Prelude.{◌≡◌, ◌+◌, ◌%◌};
 use store::State;
 
 // What was read so far: the state, and how many channels. The table and what is remembered for each channel are lent beside it.
-#[derive(Drop)]
+#[derive(Clone, Copy)]
 pub struct Draft {
     pub state: State,
     pub seen: usize,

@@ -11,7 +11,7 @@ ghost use Rattle.stereo.specs.Stereo.{wished, Makes, times as timesOf, accepts a
 use board::Board;
 
 // The refusal, or 0, and how many maps were written.
-#[derive(Drop)]
+#[derive(Clone, Copy)]
 pub struct Made {
     pub error: u8,
     pub count: usize,

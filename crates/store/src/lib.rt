@@ -12,7 +12,7 @@ use open_keys::Keys;
 use queue::Queue;
 use table::Head;
 
-#[derive(Drop)]
+#[derive(Clone, Copy)]
 pub struct State {
     pub channels: [Channel; 8],
     pub locks: Queue,

@@ -10,7 +10,7 @@ ghost use Rattle.gathering.specs.Lumps.{LINE};
 ghost use Rattle.taking.specs.Desk.{taken_in, Takes, Ends};
 
 // What is told behind each line's answer: the board's channels, the wall display.
-#[derive(Drop)]
+#[derive(Clone, Copy)]
 pub struct Show {
     pub channels: bool,
     pub display: bool,
@@ -18,7 +18,7 @@ pub struct Show {
 
 // What a call leaves beside the lent bytes: how much stands of a line that has not ended, how much of the fragment is used, and how much
 // output stands.
-#[derive(Drop)]
+#[derive(Clone, Copy)]
 pub struct Left {
     pub line: usize,
     pub used: usize,

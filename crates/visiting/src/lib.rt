@@ -15,7 +15,7 @@ use store::State;
 
 // One look: what became of the request at place i. `next` is the place to look at next; after a grant the walk starts again. `left` is the
 // word of who left the waiting list: a 1 in the lane of each channel that it named.
-#[derive(Drop)]
+#[derive(Clone, Copy)]
 pub struct Turn {
     pub state: State,
     pub n: usize,

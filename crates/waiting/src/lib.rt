@@ -12,7 +12,7 @@ use queue::Queue;
 use standing::Standing;
 
 // Where a walk stops: a place, and what the request there comes to.
-#[derive(Drop)]
+#[derive(Clone, Copy)]
 pub struct Found {
     pub at: usize,
     pub look: Look,

@@ -5,7 +5,7 @@
 ghost use Rattle.waiting_list.specs.WaitingList.{Tells};
 
 // The refusal, or 0; how many records stand in front of the list.
-#[derive(Drop)]
+#[derive(Clone, Copy)]
 pub struct Listed {
     pub error: u8,
     pub count: usize,

@@ -1,0 +1,17 @@
+-- `change_named` meets its contract: the channels done and the change of the rest make the change. Assumes nothing.
+use Prim.Native.Nat.{◌≤◌, ◌<◌, ◌-◌, ◌+◌}
+use mathlib.Core.Path.{◌≡◌, sym, ◌∙◌}
+use mathlib.Core.Logic.{⊎_elim}
+use native.Mathlib.Omega.{arith}
+use lib.ListN.{length, length-set}
+use Rattle.machine.specs.State.{free}
+use Rattle.channel.specs.Channel.{channel_of, changed_of, change_each}
+use Rattle.channel.proofs.Turns.{rest, change_start, change-named, change-passed, change_end}
+use borrow.Author.Rules.{rules}
+use Rattle.channel.proofs.change_named.Given as goal
+
+abbrev pub invariant-loop-i : goal.invariant-loop-i
+invariant-loop-i l = (l.i ≤ 8) × (length l.ds ≡ 8) × (rest (changed_of l.how) l.map l.i l.ds ≡ change_each (changed_of l.how) l.map l.initial.ds)
+
+abbrev pub decreases-loop-i : goal.decreases-loop-i
+decreases-loop-i l = 8 - l.i

@@ -1,0 +1,28 @@
+-- `matching` meets its contract: the bits found and what the channels from i on add make the map. Assumes nothing.
+use Prim.Native.Nat.{◌≤◌, ◌<◌, ◌-◌, ◌+◌}
+use mathlib.Core.Path.{◌≡◌, sym, ◌∙◌}
+use mathlib.Core.Logic.{⊎_elim}
+use native.Mathlib.Omega.{arith}
+use lib.ListN.{length}
+use Rattle.channel.specs.Channel.{hits}
+use Rattle.channel.proofs.Turns.{Matched, matched_start, matched_hit, matched_miss, matched_end}
+use borrow.Author.Rules.{rules}
+use Rattle.channel.proofs.matching.Goals as goal
+use Rattle.channel.proofs.matching.Goals.{then-hit, else-hit}
+
+pub loop-i-init : goal.loop-i-init
+loop-i-init c = (omega arith, matched_start _ _ _)
+
+pub loop-i-preserved : goal.loop-i-preserved
+loop-i-preserved c =
+    let l = c.loop-i in
+    let e = c.hit.ensures in
+    elim c.if-hit.branch [
+      | then-hit w ↦ rw w.ok-is (omega arith, matched_hit _ l.invariant.1 (search rules) (omega arith) (sym e ∙ w.if-hit.true))
+      | else-hit w ↦ rw w.ok-is (omega arith, matched_miss _ l.invariant.1 (search rules) (sym e ∙ w.if-hit.false))
+    ]
+
+pub returns : goal.returns
+returns c =
+    let l = c.loop-i in
+    matched_end l.invariant.1 (search rules)

@@ -1,0 +1,16 @@
+-- `matching` meets its contract: the bits found and what the channels from i on add make the map. Assumes nothing.
+use Prim.Native.Nat.{◌≤◌, ◌<◌, ◌-◌, ◌+◌}
+use mathlib.Core.Path.{◌≡◌, sym, ◌∙◌}
+use mathlib.Core.Logic.{⊎_elim}
+use native.Mathlib.Omega.{arith}
+use lib.ListN.{length}
+use Rattle.channel.specs.Channel.{hits}
+use Rattle.channel.proofs.Turns.{Matched, matched_start, matched_hit, matched_miss, matched_end}
+use borrow.Author.Rules.{rules}
+use Rattle.channel.proofs.matching.Given as goal
+
+abbrev pub invariant-loop-i : goal.invariant-loop-i
+invariant-loop-i l = (l.i ≤ 8) × Matched (hits l.key) l.map l.cs l.ok l.i
+
+abbrev pub decreases-loop-i : goal.decreases-loop-i
+decreases-loop-i l = 8 - l.i

@@ -1,0 +1,18 @@
+-- `put_bytes` meets its contract: a byte's two digits stand behind those of the bytes before it. Assumes nothing.
+use Prim.Native.Nat.{◌+◌, ◌-◌, ◌*◌, ◌≤◌, ◌<◌}
+use mathlib.Core.Path.{◌≡◌, refl, ap, sym, ◌∙◌}
+use native.Mathlib.Omega.{arith}
+use lib.ListN.{length, take}
+use lib.Seq.{take_all}
+use Rattle.memory.specs.Splice.{splice}
+use Rattle.memory.proofs.Splice.{splice_none}
+use Rattle.spelling.specs.Spelling.{digits}
+use Rattle.hex_lines.proofs.HexLines.{digits_turn}
+use borrow.Author.Rules.{rules}
+use Rattle.hex_lines.proofs.put_bytes.Given as goal
+
+abbrev pub invariant-loop-i : goal.invariant-loop-i
+invariant-loop-i l = (l.i ≤ length l.bs) × (l.at + 2 * length l.bs ≤ length l.initial.out) × (length l.out ≡ length l.initial.out) × (l.out ≡ splice l.initial.out l.at (digits (take l.i l.bs)))
+
+abbrev pub decreases-loop-i : goal.decreases-loop-i
+decreases-loop-i l = length l.bs - l.i

@@ -1,0 +1,11 @@
+-- `head` meets its contract: the first id, and zeros behind it. Assumes nothing.
+use mathlib.Core.Path.{◌≡◌}
+use borrow.Author.Rules.{rules}
+use borrow.Author.Tests.{eq-eqb, ne_eqb}
+use Rattle.queue.proofs.Queue.head.Goals as goal
+
+pub returns-then-self-eq0 : goal.returns-then-self-eq0
+returns-then-self-eq0 c = rw (eq-eqb _ _ c.if-self-eq0.true)
+
+pub returns : goal.returns
+returns c = rw (ne_eqb _ _ c.if-self-eq0.false)

@@ -1,0 +1,14 @@
+use Prim.Native.Nat.{◌≤◌, ◌<◌, ◌-◌, ◌+◌}
+use mathlib.Core.Path.{◌≡◌, refl, ◌∙◌}
+use native.Mathlib.Omega.{arith}
+use borrow.Author.Rules.{rules}
+use lib.ListN.{length, length-set}
+use Rattle.queue.specs.Queue.{remove_at}
+use Rattle.queue.proofs.Laws.{shift_turn, shift_end}
+use Rattle.queue.proofs.shift_out.Given as goal
+
+abbrev pub invariant-loop-i : goal.invariant-loop-i
+invariant-loop-i l = (l.i ≤ 63) × (length l.a ≡ 64) × (remove_at l.a l.i ≡ remove_at l.initial.a l.k)
+
+abbrev pub decreases-loop-i : goal.decreases-loop-i
+decreases-loop-i l = 63 - l.i
