@@ -1,11 +1,11 @@
 -- Turns over the eight channels in the bytes: those before place i are done, those from it on are as they were. Assumes nothing.
-use Prim.Native.Nat.{ℕ, zero, suc, ◌+◌, ◌/◌, ◌^◌, ◌≤◌, ◌<◌}
-use mathlib.Core.Path.{◌≡◌, refl, ap, ap₂, sym, subst, ◌∙◌}
+use Prim.Native.Nat.{ℕ, ◌+◌, ◌/◌, ◌^◌, ◌≤◌, ◌<◌}
+use mathlib.Core.Path.{◌≡◌, refl, ap, sym, subst, ◌∙◌}
 use mathlib.Core.Bool.{Bool, true, false}
-use mathlib.Core.List.{List, [], ◌∷◌}
+use mathlib.Core.List.{List}
 use native.Mathlib.Omega.{arith}
 use lib.Dec.{T}
-use lib.ListN.{length, get_or, set, length-set}
+use lib.ListN.{length, get_or, set}
 use lib.Seq.{get_or-set_other}
 use Rattle.machine.specs.Lists.{if◌then◌else◌}
 use Rattle.machine.specs.Maps.{odd}
@@ -18,7 +18,7 @@ use Rattle.channel.proofs.Turns.{rest, change_start, change-named, change-passed
 use Rattle.board.specs.declared.Board.{Board}
 use Rattle.image.specs.Image.{channels_at, state_of, Whole}
 use Rattle.lent_channels.specs.declared.Channel.{Channel as Head}
-use Rattle.lent.specs.Lent.{Tidy, channel_on, with_channel, Holds}
+use Rattle.lent.specs.Lent.{Tidy, channel_on, with_channel}
 use Rattle.lent_channels.specs.Heads.{head_in, stored, PutHead}
 use Rattle.lent_channels.proofs.Heads.{stored-reset, stored_free, stored_flush, stored-take, stored_same, stored-prec, stored_stop, stored-lock}
 use Rattle.named_channels.specs.Named.{by_head, changed_head, with_channels, TidyAll, Once, Changed}

@@ -10,7 +10,6 @@ use native.Mathlib.Omega.{arith}
 use lib.Bits.{bit_and}
 use lib.ListN.{length, drop, get_or, drop_of_length-le}
 use lib.Seq.{drop-cons}
-use Rattle.machine.specs.Lists.{if◌then◌else◌}
 use Rattle.machine.specs.State.{Channel as ChannelM, is_free}
 use Rattle.machine.specs.Maps.{odd, half}
 use Rattle.machine.specs.Choosing.{highest, stolen}

@@ -1,0 +1,8 @@
+-- `channel_of` meets its contract: each part of the channel is read where `channel_from` reads it. Assumes nothing.
+use Rattle.sheet.specs.Sheet.{channel_from}
+use borrow.Author.Rules.{rules}
+use Rattle.channel_frames.proofs.channel_of.Goals as goal
+
+pub returns : goal.returns
+unfolding channel_from
+returns c = rw (c.empty-q.ensures, c.key_at.ensures, c.stored.ensures)

@@ -1,0 +1,8 @@
+-- `width` meets its contract. Assumes nothing.
+use Rattle.image.specs.Image.{state_of}
+use borrow.Author.Rules.{rules}
+use Rattle.lent.proofs.width.Goals as goal
+
+pub returns : goal.returns
+unfolding state_of
+returns c = search rules

@@ -1,0 +1,11 @@
+-- `locked` meets its contract: the lock mark of channel i stands there. Assumes nothing.
+use mathlib.Core.Path.{◌≡◌, refl, ap, ap₂, sym, subst, ◌∙◌}
+use Rattle.channel.specs.declared.Channel.{Channel}
+use Rattle.image.specs.Image.{channel_at}
+use Rattle.lent.proofs.Puts.{channel_read}
+use borrow.Author.Rules.{rules}
+use Rattle.lent_channels.proofs.locked.Goals as goal
+
+pub returns : goal.returns
+unfolding channel_at
+returns c = sym (ap (λ (x : Channel). x.locked) (channel_read c.args.state.now c.args.i c.requires.0))

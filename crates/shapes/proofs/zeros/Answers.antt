@@ -1,0 +1,16 @@
+-- `zeros` meets its contract: what was gathered so far, and the test of the ids left, are the test of all. Assumes nothing.
+use mathlib.Core.Path.{refl}
+use Rattle.shapes.specs.Shapes.{is_zero}
+use Rattle.open_shape.proofs.Turns.{gathered_start, gathered_more, gathered_end}
+use borrow.Author.Rules.{rules}
+use Rattle.shapes.proofs.zeros.Goals as goal
+
+pub loop-i-init : goal.loop-i-init
+loop-i-init c = (search rules, gathered_start _ _ _)
+
+pub loop-i-preserved : goal.loop-i-preserved
+unfolding is_zero
+loop-i-preserved c = (search rules, gathered_more c.loop-i.invariant.1 (search rules) refl)
+
+pub returns : goal.returns
+returns c = gathered_end c.loop-i.invariant.1 (search rules)

@@ -1,0 +1,11 @@
+-- `of` meets its contract: the masks and the precedences of the channels read so far, from the last on. Assumes nothing.
+use native.Mathlib.Omega.{arith}
+use Rattle.standing.proofs.Turns.{Reading, reading_start, reading_more, reading_end, masked_room}
+use borrow.Author.Rules.{rules}
+use Rattle.standing.proofs.of.Given as goal
+
+abbrev pub invariant-loop-i : goal.invariant-loop-i
+invariant-loop-i l = Reading l.cs l.busy l.locked l.precs l.i
+
+abbrev pub decreases-loop-i : goal.decreases-loop-i
+decreases-loop-i l = l.i
