@@ -22,6 +22,21 @@ def norm(name):
     return re.sub(r"_lem\b", "", name.replace("-", "_")).lower()
 
 
+def paren(s, i):
+    """Where the next pair of parentheses begins and ends."""
+    while i < len(s) and s[i] in " \n":
+        i += 1
+    if i == len(s) or s[i] != "(":
+        return None
+    d, j = 0, i
+    while j < len(s):
+        d += {"(": 1, ")": -1}.get(s[j], 0)
+        j += 1
+        if d == 0:
+            return i, j
+    return None
+
+
 class Function:
     def __init__(self, crate, path, entry):
         self.crate, self.path, self.e = crate, path, entry
@@ -39,6 +54,9 @@ class Function:
             (old, new), names = item[0], item[1]
             self.loops[norm(old)] = (new, names, changed)
         self.arg_names = {}
+        self.cited = {}
+        self.goals = set()
+        self.src = ""
         for a, b in entry["args"]:
             m, k = re.match(r"\.args \.(\S+)$", a), re.match(r"\.args \.(\S+)$", b)
             if m and k:
@@ -83,6 +101,12 @@ class Function:
                 self.notes.append(f"{first} stands lower")
                 return None, "." + ".".join([self.place[p][2]] + rest)
             p = self.place[p][0]
+        if re.search(r"[a-z_]\d$", first):
+            was = len(self.notes)
+            got = self.resolve(at, ["before"] * k + [first[:-1]] + rest)
+            if not any("no step" in n or "lower" in n or "higher" in n for n in self.notes[was:]):
+                return got
+            del self.notes[was:]
         self.notes.append(f"no step {first} at {at}")
         return None, "." + ".".join([first] + rest)
 
@@ -115,6 +139,10 @@ class Function:
                         out += "(" + helpers[v] + ")"
                         i = m.end() + h.end()
                         continue
+                if v in self.cited and v not in names_of_args and re.match(r"\s+c(?![\w'.-])", text[m.end():]):
+                    out += self.cited[v]
+                    i = m.end()
+                    continue
                 if v in env and (tail or v != "c"):
                     place, new = self.resolve(env[v], tail)
                     if new is None:
@@ -130,7 +158,87 @@ class Function:
             out += text[i]
             i += 1
         # the test of `if !x` says that x is false
-        return re.sub(r"\bnot-(?:true|false) _ (c\.[\w'-]+\.(?:true|false))(?![\w.'-])", r"\1", out)
+        out = self.elims(out)
+        out = re.sub(r"\(λ (\w+)\. \(c\.(?:shared_)?slice_known-[\w-]+\.given \1\)\.fits\)", r"(λ \1. search rules)", out)
+
+        def negated(m):
+            if not self.direct(m[3]):
+                return m[0]
+            if m[1]:
+                return m[2]
+            return m[0] if m[0].startswith("not-") else f"(ap not {m[2]})"
+
+        return re.sub(r"(\bnot-(?:true|false) _ )?((?<![\w.])\w\.if-not-([\w+'-]+)\.(?:true|false))(?![\w.'-])", negated, out)
+
+    def direct(self, name):
+        """Whether the test `if !x` is of a call or a variable, and not of a field."""
+        return not re.search(r"!\s*(?:\w+\.)+" + re.escape(re.sub(r"-\d+$", "", name)) + r"\b(?!\()|!\s*" + re.escape(re.sub(r"-\d+$", "", name)) + r"(\.\w+)+(?![\w(])", self.src)
+
+    def arms_of(self, step):
+        """The arms of the branch of a step: the ways through it that do not return, with their places."""
+        returned = {at for new, at in self.need.values() if new.startswith("returns")}
+        out = []
+
+        def walk(p, names, places):
+            kids = [q for q in self.place if self.place[q][0] == p and not q.startswith("Joined")]
+            join = [q for q in self.place if self.place[q][0] == p and q.startswith("Joined")]
+            if join:
+                kids = join
+            if not kids:
+                if p not in returned:
+                    out.append(("+".join(names), places))
+                return
+            for q in kids:
+                n = self.place[q][3]
+                k = re.match(r"(Then|Else)-(.*)$", n)
+                walk(q, names + ([k[1].lower() + "-" + k[2]] if k else []), places + [self.place[q][2]])
+
+        for q in self.place:
+            if self.place[q][2] == step and not q.startswith("Joined"):
+                k = re.match(r"(Then|Else)-(.*)$", self.place[q][3])
+                if k:
+                    walk(q, [k[1].lower() + "-" + k[2]], [step])
+        return out
+
+    def elims(self, text):
+        pos = 0
+        while True:
+            i = text.find("⊎_elim", pos)
+            if i < 0:
+                return text
+            pos = i + 6
+            a = paren(text, i + 6)
+            b = a and paren(text, a[1])
+            m = b and re.compile(r"\s*c\.(if-[^\s.]+)\.branch(?![\w.'-])").match(text, b[1])
+            arms = m and self.arms_of(m[1])
+            if not arms or len(arms) != 2:
+                continue
+            said = []
+            for (x, y), (name, places) in zip((a, b), arms):
+                t = text[x + 1:y - 1]
+                k = re.match(r"λ (\w+)((?: \w+)*)\.\s*", t)
+                if not k:
+                    break
+                w, body = k[1], t[k.end():]
+
+                def field(q):
+                    n = int(q[1])
+                    return f"{w}.{places[n]}" if n < len(places) else q[0]
+
+                body = re.sub(r"(?<![\w.])%s\.(\d+)(?![\d])" % w, field, body)
+                body = re.sub(r"(?<![\w.])(%s\.if-[\w+'-]+)\.taken\b" % w, r"\1.true", body)
+                body = re.sub(r"(?<![\w.])(%s\.if-[\w+'-]+)\.left\b" % w, r"\1.false", body)
+                body = re.sub(r"(?<![\w.])%s\.taken\b" % w, f"{w}.{m[1]}.true", body)
+                body = re.sub(r"(?<![\w.])%s\.left\b" % w, f"{w}.{m[1]}.false", body)
+                if k[2].strip():
+                    body = f"λ{k[2]}. {body}"
+                said.append(f"{name} {w} ↦ {body}")
+            if len(said) != 2:
+                continue
+            self.goals |= {n for n, _ in arms}
+            new = f"elim c.{m[1]}.branch\n    [ {said[0]}\n    | {said[1]} ]"
+            text = text[:i] + new + text[m.end():]
+            pos = i + len(new)
 
     def invariant(self, args, text, loop):
         new, names, changed = self.loops[loop]
@@ -210,6 +318,12 @@ def turn(crate, folder, where, entry):
             else:
                 lost.append(f"{it['name']} : {it['type'][:60]}")
     for it in items:
+        m = re.match(r"tie\.Need-([^\s]+)", it["type"])
+        if m and f.need.get(norm(m[1])):
+            f.cited[it["name"]] = f.need[norm(m[1])][0]
+    src = os.path.join("crates", crate, "src", "lib.rt")
+    f.src = open(src, encoding="utf-8").read() if os.path.exists(src) else ""
+    for it in items:
         body, t = it["body"], it["type"]
         m = re.match(r"tie\.Need-([^\s]+)", t)
         if m:
@@ -218,17 +332,17 @@ def turn(crate, folder, where, entry):
             u = re.match(r"(unfolding [^\n]*\n)+", body)
             if u:
                 unfolding, body = u[0], body[u.end():]
-            k = re.match(re.escape(it["name"]) + r" c(?: κs)?(?: =|(?=\n))\s*(.*)$", body, re.S)
-            if k and k[1].strip() == "search rules":
+            k = re.match(re.escape(it["name"]) + r" c(?: κs)?((?: [\w'₀-₉-]+)*)(?: =|(?=\n))\s*(.*)$", body, re.S)
+            if k and k[2].strip() == "search rules" and not unfolding:
                 continue
             if not got:
                 lost.append(f"no goal {m[1]}")
                 continue
-            if not k:
+            if not k or re.search(r"^" + re.escape(it["name"]) + r"(?![\w'-])", k[2], re.M):
                 lost.append(f"clauses of {m[1]}")
                 continue
             new, at = got
-            answers.append((it["comment"], new, unfolding, f.body(k[1], at, helpers)))
+            answers.append((it["comment"], new + "\0" + k[1], unfolding, f.body(k[2], at, helpers)))
             continue
         m = re.match(r"tie\.(invariant|decreases)-([^\s]+)", t)
         if m:
@@ -283,7 +397,12 @@ def turn(crate, folder, where, entry):
         open(os.path.join(where, "Invariants.antt"), "w", encoding="utf-8").write(out.rstrip() + "\n")
     rest = [o for o in others if o not in early]
     if answers or rest:
-        mine = keep + [f"use Rattle.{crate}.proofs.{module}.Goals as goal"]
+        mine = list(keep)
+        if any("(ap not " in b for _, _, _, b in answers):
+            mine += ["use mathlib.Core.Bool.{not}", "use mathlib.Core.Path.{ap}"]
+        if f.goals:
+            mine.append(f"use Rattle.{crate}.proofs.{module}.Goals.{{{', '.join(sorted(f.goals))}}}")
+        mine.append(f"use Rattle.{crate}.proofs.{module}.Goals as goal")
         if early:
             mine.append(f"use Rattle.{crate}.proofs.{module}.Invariants.{{{', '.join(o['name'] for o in early)}}}")
         out = head + "\n".join(mine) + "\n\n"
@@ -292,11 +411,12 @@ def turn(crate, folder, where, entry):
         for o in rest:
             out += written(o, False) + "\n"
         for comment, name, unfolding, b in answers:
+            name, more = name.split("\0")
             if name in done:
                 f.notes.append(f"two answers for {name}")
                 continue
             done.add(name)
-            out += "\n".join(comment + [f"pub {name} : goal.{name}"]) + "\n" + unfolding + f"{name} c =" + (" " if "\n" not in b else "\n    ") + f"{b}\n\n"
+            out += "\n".join(comment + [f"pub {name} : goal.{name}"]) + "\n" + unfolding + f"{name} c{more} =" + (" " if "\n" not in b else "\n    ") + f"{b}\n\n"
         open(os.path.join(where, "Answers.antt"), "w", encoding="utf-8").write(out.rstrip() + "\n")
     os.remove(path)
     return [f"{folder}: {n}" for n in lost + sorted(set(f.notes))]

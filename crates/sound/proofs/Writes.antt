@@ -1,6 +1,6 @@
 -- Why the test of the writes is right: each entry is that of a sound write, and since no id stands twice only the first of a queue is
 -- in front, so only it remembers anything. Assumes nothing.
-use Prim.Native.Nat.{ℕ, zero, suc, ◌≤◌}
+use Prim.Native.Nat.{ℕ, zero, suc}
 use mathlib.Core.Path.{◌≡◌, refl, ap, subst, sym, ◌∙◌}
 use mathlib.Core.Bool.{Bool, true, false, not, ◌&&◌, ◌||◌}
 use mathlib.Core.List.{List, [], ◌∷◌, map}
@@ -8,7 +8,6 @@ use native.Mathlib.Omega.{arith}
 use lib.Dec.{T, T_not, not_T, eqb, leb, eqb→eq, eqb_refl}
 use lib.ListN.{length, take, get_or, length-map}
 use Rattle.memory.specs.Splice.{block}
-use Rattle.queue.specs.declared.Queue.{Queue}
 use Rattle.queue.specs.Queue.{list_of}
 use Rattle.channel.specs.declared.Channel.{Channel}
 use Rattle.channel.specs.Channel.{channel_in}
@@ -16,7 +15,7 @@ use Rattle.table.specs.Entry.{write_entry}
 use Rattle.machine.specs.Lists.{if◌then◌else◌, any, all, among, distinct}
 use Rattle.machine.specs.State.{Write}
 use Rattle.machine.specs.Sound.{sound_write, forgets, sound_writes, sound_channel}
-use Rattle.machine.proofs.Tests.{by_test, test_true, test_false, and_left, and_right, and_both, nor_left, nor_right, eqb_flip}
+use Rattle.machine.proofs.Tests.{test_true, test_false, and_left, and_right, and_both, nor_left, nor_right, eqb_flip}
 use Rattle.store.specs.Store.{write_item, write_in}
 use Rattle.shapes.specs.Shapes.{blank}
 use Rattle.entries.specs.Entries.{same, write_test}
