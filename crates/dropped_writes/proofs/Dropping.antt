@@ -1,6 +1,6 @@
 -- Writes aborted, then those who wait for a cycle there sifted on the table without the writes. Assumes nothing.
 use Prim.Native.Nat.{ℕ, ◌+◌, ◌*◌, ◌≤◌}
-use mathlib.Core.Path.{◌≡◌, ap, ap₂, sym, subst, ◌∙◌}
+use mathlib.Core.Path.{◌≡◌, ap, sym, subst, ◌∙◌}
 use mathlib.Core.List.{List, ◌++◌, map}
 use native.Mathlib.Omega.{arith}
 use lib.ListN.{length, length-append}
@@ -15,7 +15,7 @@ use Rattle.machine.specs.Granting.{aborted_in, on_channels, given_up}
 use Rattle.store.specs.Store.{waiter_item, entries}
 use Rattle.fates.specs.declared.End.TheVariants.{Cut}
 use Rattle.locks.specs.declared.Sifted.{Sifted}
-use Rattle.locks.specs.Locks.{Locked, ending, Sifting, Sifts}
+use Rattle.locks.specs.Locks.{Locked, Sifting, Sifts}
 use Rattle.locks.proofs.Laws.{lefts_cut, ending_cut}
 use Rattle.dropped_writes.specs.DroppedWrites.{held_in, AbortsIn, drop_replies, Dropping, Dropt}
 

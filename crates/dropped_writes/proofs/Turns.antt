@@ -1,26 +1,25 @@
 -- Turns of the loops that abort: what is left to do gives the whole. Assumes nothing.
-use Prim.Native.Nat.{ℕ, zero, suc, ◌+◌, ◌-◌, ◌*◌, ◌/◌, ◌^◌, ◌≤◌, ◌<◌}
-use mathlib.Core.Path.{◌≡◌, refl, ap, ap₂, sym, ◌∙◌}
-use mathlib.Core.Bool.{Bool, true, false}
+use Prim.Native.Nat.{ℕ, zero, suc, ◌+◌, ◌*◌, ◌/◌, ◌^◌, ◌≤◌, ◌<◌}
+use mathlib.Core.Path.{◌≡◌, refl, ap, sym, ◌∙◌}
+use mathlib.Core.Bool.{true, false}
 use mathlib.Core.List.{List, [], ◌∷◌, ◌++◌, map}
 use native.Mathlib.Omega.{arith}
 use native.Mathlib.Numerals.{add-one}
-use native.Mathlib.Nat.{div-one, add-zero}
-use lib.ListN.{length, take, drop, get_or, length-append, length-map, length-take, drop_of_length-le}
-use lib.Seq.{drop-cons, get_or-take}
+use native.Mathlib.Nat.{div-one}
+use lib.ListN.{length, drop, get_or, length-append, length-map, drop_of_length-le}
+use lib.Seq.{drop-cons}
 use Rattle.memory.specs.Splice.{splice}
 use Rattle.memory.proofs.Splice.{splice_none, length-splice}
 use Rattle.queue.specs.Queue.{list_of}
 use Rattle.channel.specs.declared.Channel.{Channel}
 use Rattle.channel.proofs.Turns.{half_pow}
 use Rattle.table.specs.Entry.{idle}
-use Rattle.reply.specs.Replies.{encode, encodes, sent}
-use Rattle.reply.proofs.Laws.{length-encodes, length-sent, sent-append, sent_one}
-use Rattle.machine.specs.Lists.{if◌then◌else◌}
+use Rattle.reply.specs.Replies.{encode, sent}
+use Rattle.reply.proofs.Laws.{length-sent, sent-append}
 use Rattle.machine.specs.State.{Write, Reply}
-use Rattle.machine.specs.Maps.{odd, half}
+use Rattle.machine.specs.Maps.{odd}
 use Rattle.machine.specs.Granting.{aborted, aborted_in}
-use Rattle.store.specs.Store.{write_in, Small, Each}
+use Rattle.store.specs.Store.{write_in, Small}
 use Rattle.dropped_writes.specs.DroppedWrites.{idled, writes_in, Writable, Writables, held_in}
 
 -- ---- small ids

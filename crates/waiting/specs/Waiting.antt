@@ -12,7 +12,6 @@
 use Rattle.std.specs.Prelude.{ℕ, ◌≤◌, ◌<◌, max, ◌≡◌, Bool, true, false, List, [], length, get_or}
 use Rattle.machine.specs.State.{Channel, Request, State}
 use Rattle.machine.specs.Choosing.{Look, fails, held, grants, look}
-use Rattle.machine.specs.Commands.{ended}
 use Rattle.memory.specs.Splice.{block}
 use Rattle.queue.specs.declared.Queue.{Queue}
 use Rattle.choosing.specs.declared.Look.TheVariants.{Fails}

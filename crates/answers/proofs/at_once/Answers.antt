@@ -1,11 +1,9 @@
 -- `at_once` meets its contract: one reply, or none where QUICK is set. Assumes nothing.
-use mathlib.Core.Path.{◌≡◌, refl, sym, ◌∙◌}
+use mathlib.Core.Path.{refl, sym}
 use native.Mathlib.Nat.{add-zero}
-use native.Mathlib.Omega.{arith}
 use borrow.Author.Tests.{eq-eqb, ne_eqb}
 use Rattle.machine.specs.Numbers.{quick}
 use Rattle.memory.proofs.Splice.{splice_none}
-use borrow.Author.Rules.{rules}
 use Rattle.answers.proofs.at_once.Goals as goal
 
 pub returns-then-r-eq1 : goal.returns-then-r-eq1

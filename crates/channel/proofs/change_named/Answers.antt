@@ -1,12 +1,11 @@
 -- `change_named` meets its contract: the channels done and the change of the rest make the change. Assumes nothing.
-use Prim.Native.Nat.{◌≤◌, ◌<◌, ◌-◌, ◌+◌}
-use mathlib.Core.Path.{◌≡◌, sym, ◌∙◌}
-use mathlib.Core.Logic.{⊎_elim}
+use Prim.Native.Nat.{◌<◌, ◌-◌}
+use mathlib.Core.Path.{sym, ◌∙◌}
 use native.Mathlib.Omega.{arith}
 use lib.ListN.{length, length-set}
 use Rattle.machine.specs.State.{free}
-use Rattle.channel.specs.Channel.{channel_of, changed_of, change_each}
-use Rattle.channel.proofs.Turns.{rest, change_start, change-named, change-passed, change_end}
+use Rattle.channel.specs.Channel.{channel_of}
+use Rattle.channel.proofs.Turns.{change_start, change-named, change-passed, change_end}
 use borrow.Author.Rules.{rules}
 use Rattle.channel.proofs.change_named.Goals as goal
 use Rattle.channel.proofs.change_named.Goals.{then-names, else-names}

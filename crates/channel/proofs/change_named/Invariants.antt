@@ -1,13 +1,9 @@
 -- `change_named` meets its contract: the channels done and the change of the rest make the change. Assumes nothing.
-use Prim.Native.Nat.{◌≤◌, ◌<◌, ◌-◌, ◌+◌}
-use mathlib.Core.Path.{◌≡◌, sym, ◌∙◌}
-use mathlib.Core.Logic.{⊎_elim}
-use native.Mathlib.Omega.{arith}
-use lib.ListN.{length, length-set}
-use Rattle.machine.specs.State.{free}
-use Rattle.channel.specs.Channel.{channel_of, changed_of, change_each}
-use Rattle.channel.proofs.Turns.{rest, change_start, change-named, change-passed, change_end}
-use borrow.Author.Rules.{rules}
+use Prim.Native.Nat.{◌≤◌, ◌-◌}
+use mathlib.Core.Path.{◌≡◌}
+use lib.ListN.{length}
+use Rattle.channel.specs.Channel.{changed_of, change_each}
+use Rattle.channel.proofs.Turns.{rest}
 use Rattle.channel.proofs.change_named.Given as goal
 
 abbrev pub invariant-loop-i : goal.invariant-loop-i

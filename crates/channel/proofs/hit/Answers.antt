@@ -1,6 +1,5 @@
 -- `hit` meets its contract, by what `names` and `matches` ensure. Assumes nothing.
 use Rattle.channel.specs.Channel.{hits}
-use borrow.Author.Rules.{rules}
 use Rattle.channel.proofs.hit.Goals as goal
 
 pub returns-then-names : goal.returns-then-names

@@ -1,11 +1,10 @@
 -- `lowest` meets its contract: i places passed and the lowest place of the rest make the lowest place. Assumes nothing.
-use Prim.Native.Nat.{suc, ◌≤◌, ◌<◌, ◌-◌, ◌+◌, ◌/◌, ◌^◌}
-use mathlib.Core.Path.{◌≡◌, refl, sym, ◌∙◌}
+use Prim.Native.Nat.{◌-◌}
+use mathlib.Core.Path.{◌≡◌, sym, ◌∙◌}
 use native.Mathlib.Nat.{div-one}
 use native.Mathlib.Omega.{arith}
 use Rattle.channel.specs.Channel.{lowest_from}
 use Rattle.channel.proofs.Turns.{lowest_here, lowest_turn}
-use borrow.Author.Rules.{rules}
 use Rattle.channel.proofs.lowest.Goals as goal
 
 pub loop-i-init : goal.loop-i-init

@@ -1,11 +1,8 @@
 -- `matching` meets its contract: the bits found and what the channels from i on add make the map. Assumes nothing.
-use Prim.Native.Nat.{◌≤◌, ◌<◌, ◌-◌, ◌+◌}
-use mathlib.Core.Path.{◌≡◌, sym, ◌∙◌}
-use mathlib.Core.Logic.{⊎_elim}
+use Prim.Native.Nat.{◌-◌}
+use mathlib.Core.Path.{sym, ◌∙◌}
 use native.Mathlib.Omega.{arith}
-use lib.ListN.{length}
-use Rattle.channel.specs.Channel.{hits}
-use Rattle.channel.proofs.Turns.{Matched, matched_start, matched_hit, matched_miss, matched_end}
+use Rattle.channel.proofs.Turns.{matched_start, matched_hit, matched_miss, matched_end}
 use borrow.Author.Rules.{rules}
 use Rattle.channel.proofs.matching.Goals as goal
 use Rattle.channel.proofs.matching.Goals.{then-hit, else-hit}

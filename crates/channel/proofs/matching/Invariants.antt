@@ -1,12 +1,7 @@
 -- `matching` meets its contract: the bits found and what the channels from i on add make the map. Assumes nothing.
-use Prim.Native.Nat.{◌≤◌, ◌<◌, ◌-◌, ◌+◌}
-use mathlib.Core.Path.{◌≡◌, sym, ◌∙◌}
-use mathlib.Core.Logic.{⊎_elim}
-use native.Mathlib.Omega.{arith}
-use lib.ListN.{length}
+use Prim.Native.Nat.{◌≤◌, ◌-◌}
 use Rattle.channel.specs.Channel.{hits}
-use Rattle.channel.proofs.Turns.{Matched, matched_start, matched_hit, matched_miss, matched_end}
-use borrow.Author.Rules.{rules}
+use Rattle.channel.proofs.Turns.{Matched}
 use Rattle.channel.proofs.matching.Given as goal
 
 abbrev pub invariant-loop-i : goal.invariant-loop-i

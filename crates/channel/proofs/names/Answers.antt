@@ -3,7 +3,6 @@
 use Prim.Native.Nat.{◌/◌, ◌^◌}
 use lib.Bits.{and_mask}
 use Rattle.machine.specs.Maps.{odd}
-use borrow.Author.Rules.{rules}
 use Rattle.channel.proofs.names.Goals as goal
 
 pub returns : goal.returns

@@ -6,7 +6,6 @@ use native.Mathlib.Omega.{arith}
 use lib.ListN.{length}
 use Rattle.memory.specs.Splice.{splice}
 use Rattle.sheet.proofs.Taking.{rest_is_drop, has_channel_lem, channel-passed, channel-took}
-use borrow.Author.Rules.{rules}
 use Rattle.channel_frames.proofs.take_channel.Goals as goal
 
 pub returns-then-f-ne12 : goal.returns-then-f-ne12

@@ -1,6 +1,5 @@
 -- `channels` meets its contract: the lines of as many channels as the board has of its own. Assumes nothing.
 use Rattle.channel_lines.proofs.ChannelLines.{board-shown}
-use borrow.Author.Rules.{rules}
 use Rattle.channel_lines.proofs.channels.Goals as goal
 
 pub returns : goal.returns

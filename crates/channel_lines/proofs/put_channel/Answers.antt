@@ -1,6 +1,5 @@
 -- `put_channel` meets its contract: each byte of its line is the field that the line wants. Assumes nothing.
 use Rattle.channel_lines.specs.ChannelLines.{channel_line}
-use borrow.Author.Rules.{rules}
 use Rattle.channel_lines.proofs.put_channel.Goals as goal
 
 pub returns : goal.returns

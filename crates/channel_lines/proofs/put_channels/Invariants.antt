@@ -1,13 +1,9 @@
 -- `put_channels` meets its contract: after i turns the lines of the first i channels stand in front. Assumes nothing.
-use Prim.Native.Nat.{ℕ, ◌≤◌, ◌<◌, ◌-◌}
-use mathlib.Core.Path.{◌≡◌, refl, ap, sym, ◌∙◌}
-use native.Mathlib.Omega.{arith}
-use borrow.Author.Rules.{rules}
+use Prim.Native.Nat.{◌≤◌, ◌-◌}
+use mathlib.Core.Path.{◌≡◌}
 use lib.ListN.{length, take}
 use Rattle.memory.specs.Splice.{splice}
-use Rattle.memory.proofs.Splice.{splice_none}
 use Rattle.channel_lines.specs.ChannelLines.{channel_lines}
-use Rattle.channel_lines.proofs.ChannelLines.{channel_turn}
 use Rattle.channel_lines.proofs.put_channels.Given as goal
 
 abbrev pub invariant-loop-i : goal.invariant-loop-i

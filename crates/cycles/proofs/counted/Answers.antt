@@ -2,7 +2,6 @@
 use mathlib.Core.Path.{refl}
 use borrow.Author.Tests.{eq-eqb, ne_eqb}
 use Rattle.cycles.specs.Cycles.{counted_in}
-use borrow.Author.Rules.{rules}
 use Rattle.cycles.proofs.counted.Goals as goal
 
 pub returns-then-low-ne0 : goal.returns-then-low-ne0

@@ -1,7 +1,6 @@
 -- `next` meets its contract: what is remembered is applied, then counted. Assumes nothing.
 use mathlib.Core.Path.{ap, ◌∙◌}
 use Rattle.cycles.specs.Cycles.{counted_in}
-use borrow.Author.Rules.{rules}
 use Rattle.cycles.proofs.next.Goals as goal
 
 pub returns : goal.returns

@@ -2,7 +2,6 @@
 use mathlib.Core.Path.{refl}
 use borrow.Author.Tests.{eq-eqb, ne_eqb}
 use Rattle.cycles.specs.Cycles.{turn_in}
-use borrow.Author.Rules.{rules}
 use Rattle.cycles.proofs.turn_of.Goals as goal
 
 pub returns-then-b-eq1 : goal.returns-then-b-eq1

@@ -1,7 +1,6 @@
 -- `channel_at` meets its contract: each field is read at its place. Assumes nothing.
 use mathlib.Core.Path.{refl}
 use Rattle.image.proofs.Laws.{channel_read}
-use borrow.Author.Rules.{rules}
 use Rattle.decoding.proofs.channel_at.Goals as goal
 
 pub returns : goal.returns

@@ -1,8 +1,8 @@
 -- `channels_at` meets its contract: after i turns the first i channels are those that the bytes hold. Assumes nothing.
-use Prim.Native.Nat.{◌+◌, ◌*◌, ◌-◌, ◌≤◌, ◌<◌}
+use Prim.Native.Nat.{◌-◌, ◌<◌}
 use mathlib.Core.Path.{◌≡◌, refl, sym, ◌∙◌}
 use native.Mathlib.Omega.{arith}
-use lib.ListN.{length, take, length-set}
+use lib.ListN.{length, length-set}
 use lib.Seq.{take_all}
 use Rattle.image.specs.Image.{channels_at}
 use Rattle.image.proofs.Laws.{channels_more_at}

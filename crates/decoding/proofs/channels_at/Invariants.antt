@@ -1,12 +1,8 @@
 -- `channels_at` meets its contract: after i turns the first i channels are those that the bytes hold. Assumes nothing.
-use Prim.Native.Nat.{◌+◌, ◌*◌, ◌-◌, ◌≤◌, ◌<◌}
-use mathlib.Core.Path.{◌≡◌, refl, sym, ◌∙◌}
-use native.Mathlib.Omega.{arith}
-use lib.ListN.{length, take, length-set}
-use lib.Seq.{take_all}
+use Prim.Native.Nat.{◌-◌, ◌≤◌}
+use mathlib.Core.Path.{◌≡◌}
+use lib.ListN.{length, take}
 use Rattle.image.specs.Image.{channels_at}
-use Rattle.image.proofs.Laws.{channels_more_at}
-use borrow.Author.Rules.{rules}
 use Rattle.decoding.proofs.channels_at.Given as goal
 
 abbrev pub invariant-loop-i : goal.invariant-loop-i

@@ -3,7 +3,6 @@ use Prim.Native.Nat.{◌+◌, ◌-◌}
 use native.Mathlib.Omega.{arith}
 use Rattle.image.specs.Image.{queue_at}
 use Rattle.image.proofs.Laws.{queue_read}
-use borrow.Author.Rules.{rules}
 use Rattle.decoding.proofs.queue_at.Goals as goal
 
 pub returns : goal.returns

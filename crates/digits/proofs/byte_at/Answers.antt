@@ -2,7 +2,6 @@
 use Prim.Native.Nat.{◌+◌, ◌*◌}
 use native.Mathlib.Omega.{arith}
 use Rattle.digits.proofs.Laws.{spelt-digit, get_d_pairs}
-use borrow.Author.Rules.{rules}
 use Rattle.digits.proofs.byte_at.Goals as goal
 
 pub overflow_mul-result : goal.overflow_mul-result

@@ -1,7 +1,6 @@
 -- `spelt` meets its contract: the test of the digits left is the test of all. Assumes nothing.
 use Prim.Native.Nat.{◌-◌, ◌<◌, ◌≤◌}
-use lib.ListN.{length}
-use Rattle.digits.proofs.Laws.{Passed, passed_start, passed_stop, passed_more, passed_end}
+use Rattle.digits.proofs.Laws.{passed_start, passed_stop, passed_more, passed_end}
 use borrow.Author.Rules.{rules}
 use Rattle.digits.proofs.spelt.Goals as goal
 

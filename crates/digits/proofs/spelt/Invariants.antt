@@ -1,8 +1,7 @@
 -- `spelt` meets its contract: the test of the digits left is the test of all. Assumes nothing.
-use Prim.Native.Nat.{◌-◌, ◌<◌, ◌≤◌}
+use Prim.Native.Nat.{◌-◌}
 use lib.ListN.{length}
-use Rattle.digits.proofs.Laws.{Passed, passed_start, passed_stop, passed_more, passed_end}
-use borrow.Author.Rules.{rules}
+use Rattle.digits.proofs.Laws.{Passed}
 use Rattle.digits.proofs.spelt.Given as goal
 
 abbrev pub invariant-loop-i : goal.invariant-loop-i

@@ -2,7 +2,6 @@
 use native.Mathlib.Omega.{arith}
 use lib.ListN.{length-set}
 use Rattle.image.proofs.Laws.{wrote-length, channel-wrote}
-use borrow.Author.Rules.{rules}
 use Rattle.encoding.proofs.put_channel.Goals as goal
 
 pub bounds-bytes-at-2 : goal.bounds-bytes-at-2

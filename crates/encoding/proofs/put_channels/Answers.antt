@@ -1,10 +1,9 @@
 -- `put_channels` meets its contract: after i turns the bytes of i channels stand in front. Assumes nothing.
-use Prim.Native.Nat.{◌-◌, ◌*◌, ◌≤◌}
+use Prim.Native.Nat.{◌-◌}
 use mathlib.Core.Path.{◌≡◌, refl, ◌∙◌}
 use native.Mathlib.Omega.{arith}
 use borrow.Author.Rules.{rules}
-use lib.ListN.{length, take}
-use Rattle.image.specs.Image.{channels_bytes, AllFilled, Wrote}
+use lib.ListN.{length}
 use Rattle.image.proofs.Laws.{wrote-length, channels_start, channels_turn, filled_turn, channels-entered}
 use Rattle.encoding.proofs.put_channels.Goals as goal
 

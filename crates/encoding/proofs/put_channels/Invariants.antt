@@ -1,11 +1,8 @@
 -- `put_channels` meets its contract: after i turns the bytes of i channels stand in front. Assumes nothing.
 use Prim.Native.Nat.{◌-◌, ◌*◌, ◌≤◌}
-use mathlib.Core.Path.{◌≡◌, refl, ◌∙◌}
-use native.Mathlib.Omega.{arith}
-use borrow.Author.Rules.{rules}
+use mathlib.Core.Path.{◌≡◌}
 use lib.ListN.{length, take}
 use Rattle.image.specs.Image.{channels_bytes, AllFilled, Wrote}
-use Rattle.image.proofs.Laws.{wrote-length, channels_start, channels_turn, filled_turn, channels-entered}
 use Rattle.encoding.proofs.put_channels.Given as goal
 
 abbrev pub invariant-loop-i : goal.invariant-loop-i

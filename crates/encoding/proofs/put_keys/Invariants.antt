@@ -1,12 +1,8 @@
 -- `put_keys` meets its contract: after i turns the bytes of i keys stand from the place on. Assumes nothing.
 use Prim.Native.Nat.{◌+◌, ◌-◌, ◌*◌, ◌≤◌}
-use mathlib.Core.Path.{◌≡◌, refl, ap, ◌∙◌}
-use native.Mathlib.Omega.{arith}
-use borrow.Author.Rules.{rules}
+use mathlib.Core.Path.{◌≡◌}
 use lib.ListN.{length, take}
-use Rattle.memory.proofs.Splice.{length-splice}
 use Rattle.image.specs.Image.{keys_bytes, Wrote}
-use Rattle.image.proofs.Laws.{keys_start, keys_turn, keys_all}
 use Rattle.encoding.proofs.put_keys.Given as goal
 
 abbrev pub invariant-loop-i : goal.invariant-loop-i

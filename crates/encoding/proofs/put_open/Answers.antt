@@ -2,7 +2,6 @@
 use native.Mathlib.Omega.{arith}
 use lib.ListN.{length-set}
 use Rattle.image.proofs.Laws.{wrote-length, open_wrote}
-use borrow.Author.Rules.{rules}
 use Rattle.encoding.proofs.put_open.Goals as goal
 
 pub put_keys-requires : goal.put_keys-requires

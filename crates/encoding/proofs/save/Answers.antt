@@ -2,7 +2,6 @@
 use mathlib.Core.Path.{◌∙◌}
 use Rattle.image.proofs.Laws.{state-wrote, queue-filled, open_filled}
 use Rattle.image.proofs.Round.{saved}
-use borrow.Author.Rules.{rules}
 use Rattle.encoding.proofs.save.Goals as goal
 
 pub returns : goal.returns

@@ -1,11 +1,8 @@
 -- `is_write` meets its contract: an entry that is not a write's by its command, its count or its numbers is none, and of the others
 -- the bytes compared tell. Assumes nothing.
-use Prim.Native.Nat.{◌≤◌}
 use mathlib.Core.Path.{◌≡◌, refl, sym, ap, ◌∙◌}
 use mathlib.Core.Bool.{true, false}
-use lib.ListN.{length, get_or}
 use native.Mathlib.Omega.{arith}
-use borrow.Author.Tests.{not-true, not-false}
 use Rattle.memory.specs.Splice.{block}
 use Rattle.table.specs.Entry.{list_in}
 use Rattle.numbers.specs.Numbers.{sound_numbers}

@@ -1,9 +1,8 @@
 -- `same` meets its contract: what was gathered so far, and the test of the bytes left, are the test of all. Assumes nothing.
-use Prim.Native.Nat.{◌-◌, ◌≤◌}
-use Rattle.memory.specs.Splice.{block}
+use Prim.Native.Nat.{◌-◌}
 use Rattle.memory.proofs.Splice.{block_byte}
 use Rattle.entries.proofs.Cases.{length-entry}
-use Rattle.entries.proofs.Turns.{Alike, alike_start, alike_more, alike_end}
+use Rattle.entries.proofs.Turns.{alike_start, alike_more, alike_end}
 use borrow.Author.Rules.{rules}
 use Rattle.entries.proofs.same.Goals as goal
 

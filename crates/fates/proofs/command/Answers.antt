@@ -1,6 +1,5 @@
 -- `command` meets its contract: by cases. Assumes nothing.
 use mathlib.Core.Path.{refl}
-use borrow.Author.Rules.{rules}
 use Rattle.fates.proofs.command.Goals as goal
 
 pub returns-in-Freed : goal.returns-in-Freed

@@ -1,7 +1,6 @@
 -- `cut` meets its contract: what ends is told, without its map. Assumes nothing.
 use mathlib.Core.Path.{refl, sym, ◌∙◌}
 use Rattle.fates.specs.Fates.{ends_at, map_at, error_of}
-use borrow.Author.Rules.{rules}
 use Rattle.fates.proofs.cut.Goals as goal
 
 pub returns-then-f : goal.returns-then-f

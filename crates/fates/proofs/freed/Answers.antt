@@ -4,7 +4,6 @@ use mathlib.Core.Path.{refl, ap}
 use lib.Dec.{eqb}
 use Rattle.fates.specs.Fates.{ends_at, map_at, error_of}
 use Rattle.fates.proofs.Bits.{and_minus}
-use borrow.Author.Rules.{rules}
 use Rattle.fates.proofs.freed.Goals as goal
 
 pub returns : goal.returns

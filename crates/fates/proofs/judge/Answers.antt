@@ -1,6 +1,5 @@
 -- `judge` meets its contract: each case is what its function says. Assumes nothing.
 use Rattle.fates.specs.Fates.{ends_at, map_at, error_of}
-use borrow.Author.Rules.{rules}
 use Rattle.fates.proofs.judge.Goals as goal
 
 pub returns-in-Freed : goal.returns-in-Freed

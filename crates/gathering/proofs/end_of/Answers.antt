@@ -1,7 +1,6 @@
 -- `end_of` meets its contract: before the loop's place stands no LF. Assumes nothing.
 use Prim.Native.Nat.{◌-◌}
-use lib.ListN.{length}
-use Rattle.gathering.proofs.Lumps.{Open, open_start, open_stop, open_more, open_end}
+use Rattle.gathering.proofs.Lumps.{open_start, open_stop, open_more, open_end}
 use borrow.Author.Rules.{rules}
 use Rattle.gathering.proofs.end_of.Goals as goal
 

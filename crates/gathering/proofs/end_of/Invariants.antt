@@ -1,8 +1,7 @@
 -- `end_of` meets its contract: before the loop's place stands no LF. Assumes nothing.
 use Prim.Native.Nat.{◌-◌}
 use lib.ListN.{length}
-use Rattle.gathering.proofs.Lumps.{Open, open_start, open_stop, open_more, open_end}
-use borrow.Author.Rules.{rules}
+use Rattle.gathering.proofs.Lumps.{Open}
 use Rattle.gathering.proofs.end_of.Given as goal
 
 abbrev pub invariant-loop-i : goal.invariant-loop-i

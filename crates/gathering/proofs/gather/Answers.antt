@@ -2,15 +2,12 @@
 -- the front or the front is all. Assumes nothing.
 use Prim.Native.Nat.{◌-◌, ◌≤◌, ◌<◌}
 use mathlib.Core.Path.{◌≡◌, sym, ◌∙◌}
-use mathlib.Core.Logic.{⊎_elim}
 use native.Mathlib.Omega.{arith}
-use lib.ListN.{length, take, length-take}
+use lib.ListN.{length, length-take}
 use lib.Seq.{length-take-le}
-use Rattle.memory.specs.Splice.{splice}
 use Rattle.memory.proofs.Splice.{splice_none}
 use Rattle.gathering.specs.Lumps.{front}
 use Rattle.gathering.proofs.Lumps.{front_within, gathers_ended, gathers_open}
-use borrow.Author.Rules.{rules}
 use Rattle.gathering.proofs.gather.Goals as goal
 use Rattle.gathering.proofs.gather.Goals.{then-k-gt0, else-k-gt0}
 

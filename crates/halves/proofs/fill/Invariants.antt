@@ -1,14 +1,9 @@
 -- `fill` meets its contract: after i turns the desk's records among the first i stand in front. Assumes nothing.
-use Prim.Native.Nat.{ℕ, suc, ◌≤◌, ◌<◌, ◌-◌, ◌+◌, ◌*◌}
-use mathlib.Core.List.{List}
-use mathlib.Core.Path.{◌≡◌, refl, sym, ap, ◌∙◌}
-use native.Mathlib.Omega.{arith}
-use borrow.Author.Rules.{rules}
+use Prim.Native.Nat.{◌≤◌, ◌-◌, ◌*◌}
+use mathlib.Core.Path.{◌≡◌}
 use lib.ListN.{length}
 use Rattle.memory.specs.Splice.{splice}
-use Rattle.memory.proofs.Splice.{splice_none}
-use Rattle.halves.specs.Halves.{one, picked}
-use Rattle.halves.proofs.Laws.{length_more, picked_grows, room_left, turn}
+use Rattle.halves.specs.Halves.{picked}
 use Rattle.halves.proofs.fill.Given as goal
 
 abbrev pub invariant-loop-i : goal.invariant-loop-i

@@ -1,7 +1,6 @@
 -- `lay` meets its contract: desk A's records are filled in from the front, then desk B's in the part from the middle on. Assumes nothing.
 use Prim.Native.Nat.{◌<◌}
 use native.Mathlib.Omega.{arith}
-use borrow.Author.Rules.{rules}
 use Rattle.halves.proofs.Laws.{nothing-laid, first_fits, still_long, second_fits, both_laid}
 use Rattle.halves.proofs.lay.Goals as goal
 

@@ -1,7 +1,5 @@
 -- `order` meets its contract: desk A's records are filled in from the front, and desk B's in the part behind them. Assumes nothing.
-use mathlib.Core.Path.{◌≡◌}
 use native.Mathlib.Omega.{arith}
-use borrow.Author.Rules.{rules}
 use Rattle.halves.proofs.Laws.{order_fits, order-within, order-rest, ordered}
 use Rattle.halves.proofs.order.Goals as goal
 

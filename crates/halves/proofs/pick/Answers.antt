@@ -1,9 +1,6 @@
 -- `pick` meets its contract: another desk's record is left out, and the desk's own is put in. Assumes nothing.
-use mathlib.Core.Path.{◌≡◌, sym, ◌∙◌}
-use native.Mathlib.Omega.{arith}
-use Rattle.machine.specs.Desks.{desk_of}
+use mathlib.Core.Path.{sym, ◌∙◌}
 use Rattle.halves.proofs.Laws.{one_mine, part_six, left_out, put_in}
-use borrow.Author.Rules.{rules}
 use Rattle.halves.proofs.pick.Goals as goal
 
 pub returns-then-of-desk : goal.returns-then-of-desk

@@ -1,19 +1,17 @@
 -- `octets` meets its contract: after i turns the first i bytes that the line spells stand in front, and every other byte is as before.
 -- Assumes nothing.
-use Prim.Native.Nat.{◌+◌, ◌-◌, ◌*◌, ◌/◌, ◌≤◌, ◌<◌}
-use mathlib.Core.Path.{◌≡◌, refl, ap, sym, ◌∙◌}
+use Prim.Native.Nat.{◌-◌}
+use mathlib.Core.Path.{refl, ap, sym, ◌∙◌}
 use mathlib.Core.Bool.{true, false}
 use native.Mathlib.Omega.{arith}
 use native.Mathlib.Nat.{zero-add}
-use lib.ListN.{length, take, length-set}
+use lib.ListN.{length-set}
 use lib.Seq.{take_all}
 use Rattle.memory.specs.Splice.{splice}
 use Rattle.memory.proofs.Splice.{splice_none, copy_turn}
-use Rattle.digits.specs.Digits.{spells, pairs}
+use Rattle.digits.specs.Digits.{pairs}
 use Rattle.digits.proofs.Laws.{length_pairs}
-use Rattle.hex_lines.specs.HexLines.{octets_of}
 use Rattle.hex_lines.proofs.HexLines.{octets_long, octets_unspelt, octets_are}
-use borrow.Author.Tests.{not-true, not-false}
 use borrow.Author.Rules.{rules}
 use Rattle.hex_lines.proofs.octets.Goals as goal
 

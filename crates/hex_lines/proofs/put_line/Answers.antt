@@ -1,12 +1,10 @@
 -- `put_line` meets its contract: the digits of both runs of bytes stand one behind the other, and LF ends them. Assumes nothing.
-use Prim.Native.Nat.{◌+◌, ◌*◌}
-use mathlib.Core.Path.{◌≡◌, refl}
+use Prim.Native.Nat.{◌+◌}
+use mathlib.Core.Path.{refl}
 use mathlib.Core.List.{◌++◌}
 use native.Mathlib.Omega.{arith}
-use lib.ListN.{length, length-set, length-append}
-use Rattle.machine.specs.Log.{line}
+use lib.ListN.{length-set, length-append}
 use Rattle.hex_lines.proofs.HexLines.{line_put, length_line}
-use borrow.Author.Rules.{rules}
 use Rattle.hex_lines.proofs.put_line.Goals as goal
 
 pub shape_of-out : goal.shape_of-out

@@ -1,10 +1,8 @@
 -- `all_marked` meets its contract: the marks of the channels left are those of all. Assumes nothing.
-use Prim.Native.Nat.{◌+◌, ◌*◌, ◌-◌, ◌≤◌}
-use mathlib.Core.Path.{◌≡◌, refl, sym, ◌∙◌}
+use Prim.Native.Nat.{◌-◌}
+use mathlib.Core.Path.{refl, sym, ◌∙◌}
 use native.Mathlib.Omega.{arith}
-use lib.ListN.{length}
-use borrow.Author.Tests.{not-true, not-false}
-use Rattle.image.proofs.Laws.{Marked, marked_end, marked_stop, marked_more}
+use Rattle.image.proofs.Laws.{marked_end, marked_stop, marked_more}
 use borrow.Author.Rules.{rules}
 use Rattle.image.proofs.all_marked.Goals as goal
 

@@ -1,11 +1,7 @@
 -- `all_marked` meets its contract: the marks of the channels left are those of all. Assumes nothing.
-use Prim.Native.Nat.{◌+◌, ◌*◌, ◌-◌, ◌≤◌}
-use mathlib.Core.Path.{◌≡◌, refl, sym, ◌∙◌}
-use native.Mathlib.Omega.{arith}
+use Prim.Native.Nat.{◌-◌, ◌≤◌}
 use lib.ListN.{length}
-use borrow.Author.Tests.{not-true, not-false}
-use Rattle.image.proofs.Laws.{Marked, marked_end, marked_stop, marked_more}
-use borrow.Author.Rules.{rules}
+use Rattle.image.proofs.Laws.{Marked}
 use Rattle.image.proofs.all_marked.Given as goal
 
 abbrev pub invariant-loop-i : goal.invariant-loop-i

@@ -2,7 +2,6 @@
 use mathlib.Core.Path.{◌≡◌, ◌∙◌}
 use lib.ListN.{length}
 use Rattle.image.proofs.Laws.{not_long, the_marks}
-use borrow.Author.Rules.{rules}
 use Rattle.image.proofs.whole.Goals as goal
 
 pub returns-then-bytes-ne823 : goal.returns-then-bytes-ne823

@@ -1,7 +1,6 @@
 -- `wait` meets its contract: its id stands at its place, and its entry is written. Assumes nothing.
 use Rattle.store.proofs.Store.{held_length, waiting-count, waiting-small}
 use Rattle.joining.proofs.Joining.{wait_few, wait_place, wait-told}
-use borrow.Author.Rules.{rules}
 use Rattle.joining.proofs.wait.Goals as goal
 
 pub place-k-requires : goal.place-k-requires

@@ -1,6 +1,5 @@
 -- `in_use` meets its contract: on a channel, or else at a waiting request, or else open. Assumes nothing.
 use Rattle.keys.specs.Keys.{used_in}
-use borrow.Author.Rules.{rules}
 use Rattle.keys.proofs.in_use.Goals as goal
 
 pub returns-then-on_channel : goal.returns-then-on_channel

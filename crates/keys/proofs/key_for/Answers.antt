@@ -1,8 +1,7 @@
 -- `key_for` meets its contract: the two cases of the definition, by the key. Assumes nothing.
-use mathlib.Core.Path.{◌≡◌, sym}
+use mathlib.Core.Path.{sym}
 use mathlib.Core.Path.{◌∙◌}
 use Rattle.keys.proofs.Turns.{key_for_none, key_for-given}
-use borrow.Author.Rules.{rules}
 use Rattle.keys.proofs.key_for.Goals as goal
 
 pub returns-then-key-eq0 : goal.returns-then-key-eq0

@@ -2,16 +2,12 @@
 use native.Mathlib.Nat.{sub-zero}
 use Rattle.queue.specs.Queue.{list_of}
 use Rattle.open_keys.specs.OpenKeys.{keys_in}
-use Prim.Native.Nat.{◌≤◌, ◌<◌, ◌-◌, ◌+◌}
-use mathlib.Core.Path.{◌≡◌, refl, ap, sym, ◌∙◌}
+use Prim.Native.Nat.{◌-◌, ◌+◌}
+use mathlib.Core.Path.{◌≡◌, refl, sym, ◌∙◌}
 use native.Mathlib.Omega.{arith}
-use lib.ListN.{length}
-use borrow.Author.Tests.{not-true, not-false}
 use Rattle.machine.specs.Granting.{first_unused}
-use Rattle.store.specs.Store.{state_in}
 use Rattle.store.proofs.Store.{held_length, waiting-small, waiting-count, opens-count}
 use Rattle.keys.proofs.Turns.{used_keys, used_is, new_key_is, first_found, first_turn}
-use borrow.Author.Rules.{rules}
 use Rattle.keys.proofs.new_key.Goals as goal
 
 pub loop-i-init : goal.loop-i-init

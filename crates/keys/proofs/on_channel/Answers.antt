@@ -1,11 +1,7 @@
 -- `on_channel` meets its contract: no channel passed has the key. Assumes nothing.
-use Prim.Native.Nat.{◌≤◌, ◌<◌, ◌-◌, ◌+◌}
-use mathlib.Core.Path.{◌≡◌, refl, sym, ◌∙◌}
+use Prim.Native.Nat.{◌-◌}
+use mathlib.Core.Path.{refl, sym, ◌∙◌}
 use native.Mathlib.Omega.{arith}
-use lib.ListN.{length, drop}
-use Rattle.machine.specs.State.{free}
-use Rattle.channel.specs.Channel.{channel_of}
-use Rattle.keys.specs.Keys.{on_channel}
 use Rattle.keys.proofs.Turns.{channel_here, channel_turn, channel_end}
 use borrow.Author.Rules.{rules}
 use Rattle.keys.proofs.on_channel.Goals as goal

@@ -1,13 +1,8 @@
 -- `on_channel` meets its contract: no channel passed has the key. Assumes nothing.
-use Prim.Native.Nat.{◌≤◌, ◌<◌, ◌-◌, ◌+◌}
-use mathlib.Core.Path.{◌≡◌, refl, sym, ◌∙◌}
-use native.Mathlib.Omega.{arith}
-use lib.ListN.{length, drop}
-use Rattle.machine.specs.State.{free}
-use Rattle.channel.specs.Channel.{channel_of}
+use Prim.Native.Nat.{◌≤◌, ◌-◌}
+use mathlib.Core.Path.{◌≡◌}
+use lib.ListN.{drop}
 use Rattle.keys.specs.Keys.{on_channel}
-use Rattle.keys.proofs.Turns.{channel_here, channel_turn, channel_end}
-use borrow.Author.Rules.{rules}
 use Rattle.keys.proofs.on_channel.Given as goal
 
 abbrev pub invariant-loop-i : goal.invariant-loop-i

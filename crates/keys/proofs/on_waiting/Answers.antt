@@ -1,10 +1,9 @@
 -- `on_waiting` meets its contract: no request passed has the key. Assumes nothing.
-use Prim.Native.Nat.{◌≤◌, ◌<◌, ◌-◌, ◌+◌}
+use Prim.Native.Nat.{◌≤◌, ◌<◌, ◌-◌}
 use mathlib.Core.Path.{◌≡◌, refl, sym, ◌∙◌}
 use native.Mathlib.Omega.{arith}
-use lib.ListN.{length, drop, take, length-take}
+use lib.ListN.{length, take, length-take}
 use lib.Seq.{get_or-take}
-use Rattle.keys.specs.Keys.{on_waiting}
 use Rattle.keys.proofs.Turns.{waiting_here, waiting_turn, waiting_end, small_at}
 use borrow.Author.Rules.{rules}
 use Rattle.keys.proofs.on_waiting.Goals as goal

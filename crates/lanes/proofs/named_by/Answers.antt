@@ -1,8 +1,7 @@
 -- `named_by` meets its contract: what was gathered, or one of those left, names a channel exactly where one of all does. Assumes nothing.
-use Prim.Native.Nat.{◌-◌, ◌≤◌}
-use lib.ListN.{length}
+use Prim.Native.Nat.{◌-◌}
 use borrow.Author.Rules.{rules}
-use Rattle.lanes.proofs.Laws.{Gathered, gathered_start, gathered_more, gathered_end}
+use Rattle.lanes.proofs.Laws.{gathered_start, gathered_more, gathered_end}
 use Rattle.lanes.proofs.named_by.Goals as goal
 
 pub loop-i-init : goal.loop-i-init

@@ -1,8 +1,7 @@
 -- `named_by` meets its contract: what was gathered, or one of those left, names a channel exactly where one of all does. Assumes nothing.
 use Prim.Native.Nat.{◌-◌, ◌≤◌}
 use lib.ListN.{length}
-use borrow.Author.Rules.{rules}
-use Rattle.lanes.proofs.Laws.{Gathered, gathered_start, gathered_more, gathered_end}
+use Rattle.lanes.proofs.Laws.{Gathered}
 use Rattle.lanes.proofs.named_by.Given as goal
 
 abbrev pub invariant-loop-i : goal.invariant-loop-i

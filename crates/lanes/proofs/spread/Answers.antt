@@ -1,7 +1,6 @@
 -- `spread` meets its contract: each bit stands at the byte of its lane. Assumes nothing.
 use mathlib.Core.Path.{◌∙◌}
 use Rattle.lanes.proofs.Laws.{bits_lanes}
-use borrow.Author.Rules.{rules}
 use Rattle.lanes.proofs.spread.Goals as goal
 
 pub returns : goal.returns

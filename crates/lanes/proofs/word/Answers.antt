@@ -1,7 +1,6 @@
 -- `word` meets its contract: a lane has the bit of its channel. Assumes nothing.
 use mathlib.Core.Path.{◌∙◌}
 use Rattle.lanes.proofs.Laws.{spread_is}
-use borrow.Author.Rules.{rules}
 use Rattle.lanes.proofs.word.Goals as goal
 
 pub returns : goal.returns

@@ -1,9 +1,8 @@
 -- `fresh` meets its contract: zeros, the eight precedences, the number of channels. Assumes nothing.
-use mathlib.Core.Path.{◌≡◌, refl, ap, ap₂, sym, subst, ◌∙◌}
+use mathlib.Core.Path.{sym, ◌∙◌}
 use native.Mathlib.Omega.{arith}
 use lib.ListN.{length-set}
 use Rattle.lent.proofs.Anew.{fresh-long, put-fresh}
-use borrow.Author.Rules.{rules}
 use Rattle.lent.proofs.fresh.Goals as goal
 
 pub bounds-state-72 : goal.bounds-state-72

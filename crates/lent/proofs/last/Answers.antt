@@ -1,6 +1,5 @@
 -- `last` meets its contract. Assumes nothing.
 use Rattle.image.specs.Image.{state_of}
-use borrow.Author.Rules.{rules}
 use Rattle.lent.proofs.last.Goals as goal
 
 pub returns : goal.returns

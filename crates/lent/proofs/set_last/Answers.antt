@@ -1,11 +1,9 @@
 -- `set_last` meets its contract: two bytes. Assumes nothing.
-use mathlib.Core.Path.{◌≡◌, refl, ap, ap₂, sym, subst, ◌∙◌}
 use native.Mathlib.Omega.{arith}
 use Prim.Native.Nat.{◌/◌, ◌%◌}
 use mathlib.Core.List.{[], ◌∷◌}
 use Rattle.lent.proofs.Puts.{put_last}
 use Rattle.lent.proofs.Bytes.{bytes_none, bytes_more}
-use borrow.Author.Rules.{rules}
 use Rattle.lent.proofs.set_last.Goals as goal
 
 pub returns : goal.returns

@@ -1,9 +1,8 @@
 -- `prec` meets its contract: the precedence of channel i stands there. Assumes nothing.
-use mathlib.Core.Path.{◌≡◌, refl, ap, ap₂, sym, subst, ◌∙◌}
+use mathlib.Core.Path.{ap, sym}
 use Rattle.channel.specs.declared.Channel.{Channel}
 use Rattle.image.specs.Image.{channel_at}
 use Rattle.lent.proofs.Puts.{channel_read}
-use borrow.Author.Rules.{rules}
 use Rattle.lent_channels.proofs.prec.Goals as goal
 
 pub returns : goal.returns

@@ -1,5 +1,4 @@
 -- `put_head` meets its contract: six bytes, and the ids where there are none left. Assumes nothing.
-use mathlib.Core.Path.{◌≡◌, refl, ap, ap₂, sym, subst, ◌∙◌}
 use native.Mathlib.Omega.{arith}
 use Prim.Native.Nat.{◌<◌}
 use lib.ListN.{length-set}

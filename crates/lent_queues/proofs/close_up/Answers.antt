@@ -1,9 +1,8 @@
 -- `close_up` meets its contract: with the places below i moved, what is left to do gives the list asked for. Assumes nothing.
-use Prim.Native.Nat.{ℕ, suc, ◌≤◌, ◌<◌, ◌-◌, ◌+◌}
-use mathlib.Core.Path.{◌≡◌, refl, ap, ap₂, sym, subst, ◌∙◌}
+use Prim.Native.Nat.{ℕ, ◌-◌}
+use mathlib.Core.Path.{◌≡◌, refl, ap, sym, ◌∙◌}
 use native.Mathlib.Omega.{arith}
-use lib.ListN.{length, set, length-set}
-use Rattle.lent_queues.specs.Moves.{shut}
+use lib.ListN.{set, length-set}
 use Rattle.lent_queues.proofs.Moves.{shut_turn, shut_end}
 use borrow.Author.Rules.{rules}
 use Rattle.lent_queues.proofs.close_up.Goals as goal

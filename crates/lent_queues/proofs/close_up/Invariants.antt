@@ -1,11 +1,8 @@
 -- `close_up` meets its contract: with the places below i moved, what is left to do gives the list asked for. Assumes nothing.
-use Prim.Native.Nat.{ℕ, suc, ◌≤◌, ◌<◌, ◌-◌, ◌+◌}
-use mathlib.Core.Path.{◌≡◌, refl, ap, ap₂, sym, subst, ◌∙◌}
-use native.Mathlib.Omega.{arith}
-use lib.ListN.{length, set, length-set}
+use Prim.Native.Nat.{suc, ◌≤◌, ◌-◌}
+use mathlib.Core.Path.{◌≡◌}
+use lib.ListN.{length}
 use Rattle.lent_queues.specs.Moves.{shut}
-use Rattle.lent_queues.proofs.Moves.{shut_turn, shut_end}
-use borrow.Author.Rules.{rules}
 use Rattle.lent_queues.proofs.close_up.Given as goal
 
 abbrev pub invariant-loop-i : goal.invariant-loop-i

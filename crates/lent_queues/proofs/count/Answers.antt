@@ -1,6 +1,5 @@
 -- `count` meets its contract: the number stands in front. Assumes nothing.
 use Rattle.image.specs.Image.{queue_at}
-use borrow.Author.Rules.{rules}
 use Rattle.lent_queues.proofs.count.Goals as goal
 
 pub returns : goal.returns

@@ -1,6 +1,5 @@
 -- `empty` meets its contract: 65 zeros. Assumes nothing.
 use Rattle.lent_queues.proofs.Moves.{put_empty}
-use borrow.Author.Rules.{rules}
 use Rattle.lent_queues.proofs.empty.Goals as goal
 
 pub returns : goal.returns

@@ -1,16 +1,14 @@
 -- `find` meets its contract: the first i ids are others. Assumes nothing.
-use Prim.Native.Nat.{ℕ, suc, ◌≤◌, ◌<◌, ◌-◌, ◌+◌}
-use mathlib.Core.Path.{◌≡◌, refl, ap, ap₂, sym, subst, ◌∙◌}
+use Prim.Native.Nat.{◌≤◌, ◌-◌}
+use mathlib.Core.Path.{◌≡◌, sym, ◌∙◌}
 use native.Mathlib.Omega.{arith}
 use mathlib.Core.List.{[]}
 use native.Mathlib.Numerals.{add-one}
-use lib.ListN.{length, length-take, get_or, take, drop, drop_of_length-le}
-use lib.Seq.{get_or-take, get_or-drop}
-use Rattle.queue.specs.Queue.{index_of, list_of}
+use lib.ListN.{length, drop, drop_of_length-le}
+use Rattle.queue.specs.Queue.{list_of}
 use Rattle.queue.proofs.Laws.{index_here, index_turn}
 use Rattle.image.specs.Image.{queue_at}
 use Rattle.lent.proofs.Puts.{listed, listed-long}
-use borrow.Author.Rules.{rules}
 use Rattle.lent_queues.proofs.find.Goals as goal
 
 pub loop-i-init : goal.loop-i-init

@@ -1,11 +1,9 @@
 -- `id_at` meets its contract: the ids stand behind the number. Assumes nothing.
-use mathlib.Core.Path.{◌≡◌, refl, ap, ap₂, sym, subst, ◌∙◌}
-use native.Mathlib.Omega.{arith}
+use mathlib.Core.Path.{sym, ◌∙◌}
 use Prim.Native.Nat.{◌+◌}
-use lib.ListN.{take, drop}
+use lib.ListN.{drop}
 use lib.Seq.{get_or-take, get_or-drop}
 use Rattle.image.specs.Image.{queue_at}
-use borrow.Author.Rules.{rules}
 use Rattle.lent_queues.proofs.id_at.Goals as goal
 
 pub returns : goal.returns

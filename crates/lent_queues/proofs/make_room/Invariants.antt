@@ -1,11 +1,8 @@
 -- `make_room` meets its contract: with the places above i moved, what is left to do gives the list asked for. Assumes nothing.
-use Prim.Native.Nat.{ℕ, ◌≤◌, ◌<◌, ◌-◌, ◌+◌}
-use mathlib.Core.Path.{◌≡◌, refl, ap, ap₂, sym, subst, ◌∙◌}
-use native.Mathlib.Omega.{arith}
-use lib.ListN.{length, set, length-set}
+use Prim.Native.Nat.{◌≤◌, ◌<◌, ◌-◌}
+use mathlib.Core.Path.{◌≡◌}
+use lib.ListN.{length}
 use Rattle.lent_queues.specs.Moves.{spread}
-use Rattle.lent_queues.proofs.Moves.{spread_turn, spread_end}
-use borrow.Author.Rules.{rules}
 use Rattle.lent_queues.proofs.make_room.Given as goal
 
 abbrev pub invariant-loop-i : goal.invariant-loop-i

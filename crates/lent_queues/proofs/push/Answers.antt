@@ -1,11 +1,10 @@
 -- `push` meets its contract: two stores, of the id and of the count. Assumes nothing.
-use mathlib.Core.Path.{◌≡◌, refl, ap, ap₂, sym, subst, ◌∙◌}
+use mathlib.Core.Path.{ap}
 use native.Mathlib.Omega.{arith}
 use Prim.Native.Nat.{ℕ, ◌+◌}
 use lib.ListN.{get_or, set, length-set}
 use Rattle.image.specs.Image.{queue_at}
 use Rattle.lent_queues.proofs.Moves.{put_push}
-use borrow.Author.Rules.{rules}
 use Rattle.lent_queues.proofs.push.Goals as goal
 
 pub bounds-state-at-2 : goal.bounds-state-at-2

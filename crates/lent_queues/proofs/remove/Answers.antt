@@ -1,13 +1,11 @@
 -- `remove` meets its contract: what stands behind place k moves, and the count is stored. Assumes nothing.
-use mathlib.Core.Path.{◌≡◌, refl, ap, ap₂, sym, subst, ◌∙◌}
-use native.Mathlib.Omega.{arith}
+use mathlib.Core.Path.{ap, ◌∙◌}
 use Prim.Native.Nat.{ℕ, ◌+◌, ◌-◌}
 use mathlib.Core.List.{List}
-use lib.ListN.{get_or, set, length}
+use lib.ListN.{get_or, set}
 use Rattle.image.specs.Image.{queue_at}
 use Rattle.lent_queues.specs.Moves.{shut}
 use Rattle.lent_queues.proofs.Moves.{put_remove}
-use borrow.Author.Rules.{rules}
 use Rattle.lent_queues.proofs.remove.Goals as goal
 
 pub returns : goal.returns

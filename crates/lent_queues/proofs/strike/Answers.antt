@@ -1,10 +1,7 @@
 -- `strike` meets its contract: the id goes from its first place. Assumes nothing.
-use mathlib.Core.Path.{◌≡◌, refl, ap, ap₂, sym, subst, ◌∙◌}
 use native.Mathlib.Omega.{arith}
-use Prim.Native.Nat.{ℕ, ◌<◌, ◌≤◌}
 use Rattle.image.specs.Image.{queue_at}
 use Rattle.lent_queues.proofs.Moves.{put-struck, put_absent}
-use borrow.Author.Rules.{rules}
 use Rattle.lent_queues.proofs.strike.Goals as goal
 
 pub returns-then-k-n : goal.returns-then-k-n

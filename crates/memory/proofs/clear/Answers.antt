@@ -1,12 +1,9 @@
 -- `clear` meets its contract: after k turns the k bytes from `at` on are 0, and every other byte is as before.
 -- Assumes nothing.
-use Prim.Native.Nat.{◌≤◌, ◌-◌, ◌+◌}
-use mathlib.Core.Path.{◌≡◌, refl, sym, ◌∙◌}
+use Prim.Native.Nat.{◌-◌}
+use mathlib.Core.Path.{◌≡◌, sym}
 use native.Mathlib.Omega.{arith}
-use lib.ListN.{length, replicate}
-use Rattle.memory.specs.Splice.{splice}
 use Rattle.memory.proofs.Splice.{splice_none, clear_turn, length-zeros}
-use borrow.Author.Rules.{rules}
 use Rattle.memory.proofs.clear.Goals as goal
 
 pub loop-k-init : goal.loop-k-init

@@ -1,14 +1,9 @@
 -- `copy` meets its contract: after k turns the first k bytes of `from` stand from `at` on, and every other byte is as before.
 -- Assumes nothing.
-use Prim.Native.Nat.{◌≤◌, ◌<◌, ◌-◌, ◌+◌}
-use mathlib.Core.Path.{◌≡◌, refl, sym, ◌∙◌}
-use native.Mathlib.Omega.{arith}
+use Prim.Native.Nat.{◌≤◌, ◌-◌}
+use mathlib.Core.Path.{◌≡◌}
 use lib.ListN.{length, take}
-use lib.Seq.{take-length}
 use Rattle.memory.specs.Splice.{splice}
-use Rattle.memory.proofs.Splice.{splice_none, copy_turn, length_part}
-use Prim.Native.Nat.{◌≤◌, ◌-◌, ◌+◌}
-use borrow.Author.Rules.{rules}
 use Rattle.memory.proofs.copy.Given as goal
 
 abbrev pub invariant-loop-k : goal.invariant-loop-k

@@ -2,7 +2,6 @@
 use mathlib.Core.Path.{refl}
 use borrow.Author.Tests.{eq-eqb, ne_eqb}
 use Rattle.numbers.specs.Numbers.{pervol_kept}
-use borrow.Author.Rules.{rules}
 use Rattle.numbers.proofs.pervol_kept.Goals as goal
 
 pub returns-then-b-eq1 : goal.returns-then-b-eq1

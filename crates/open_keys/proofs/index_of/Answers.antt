@@ -1,13 +1,11 @@
 -- `index_of` meets its contract: what is behind a key that is not the one decides. Assumes nothing.
-use Prim.Native.Nat.{◌≤◌, ◌<◌, ◌-◌, ◌+◌}
-use mathlib.Core.Path.{◌≡◌, refl, sym, ◌∙◌}
+use Prim.Native.Nat.{◌≤◌, ◌<◌, ◌-◌}
+use mathlib.Core.Path.{◌≡◌, sym, ◌∙◌}
 use mathlib.Core.List.{[]}
 use native.Mathlib.Numerals.{add-one}
 use lib.Seq.{get_or-take}
 use native.Mathlib.Omega.{arith}
-use borrow.Author.Rules.{rules}
 use lib.ListN.{length, length-take, take, drop, drop_of_length-le}
-use Rattle.open_keys.specs.OpenKeys.{index_of}
 use Rattle.open_keys.proofs.Laws.{index_here, index_turn}
 use Rattle.open_keys.proofs.index_of.Goals as goal
 

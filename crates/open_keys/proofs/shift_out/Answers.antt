@@ -1,10 +1,9 @@
 -- `shift_out` meets its contract: after each turn, what is left to do gives the same. Assumes nothing.
-use Prim.Native.Nat.{◌≤◌, ◌<◌, ◌-◌, ◌+◌}
+use Prim.Native.Nat.{◌<◌, ◌-◌, ◌+◌}
 use mathlib.Core.Path.{◌≡◌, refl, ◌∙◌}
 use native.Mathlib.Omega.{arith}
 use borrow.Author.Rules.{rules}
 use lib.ListN.{length, length-set}
-use Rattle.queue.specs.Queue.{remove_at}
 use Rattle.queue.proofs.Laws.{shift_turn, shift_end}
 use Rattle.open_keys.proofs.shift_out.Goals as goal
 

@@ -1,11 +1,8 @@
 -- `shift_out` meets its contract: after each turn, what is left to do gives the same. Assumes nothing.
-use Prim.Native.Nat.{◌≤◌, ◌<◌, ◌-◌, ◌+◌}
-use mathlib.Core.Path.{◌≡◌, refl, ◌∙◌}
-use native.Mathlib.Omega.{arith}
-use borrow.Author.Rules.{rules}
-use lib.ListN.{length, length-set}
+use Prim.Native.Nat.{◌≤◌, ◌-◌}
+use mathlib.Core.Path.{◌≡◌}
+use lib.ListN.{length}
 use Rattle.queue.specs.Queue.{remove_at}
-use Rattle.queue.proofs.Laws.{shift_turn, shift_end}
 use Rattle.open_keys.proofs.shift_out.Given as goal
 
 abbrev pub invariant-loop-i : goal.invariant-loop-i

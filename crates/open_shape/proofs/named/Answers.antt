@@ -1,13 +1,11 @@
 -- `named` meets its contract: the test of the keys left is the test of all. Assumes nothing.
 use Prim.Native.Nat.{◌-◌, ◌≤◌, ◌<◌}
-use mathlib.Core.Path.{◌≡◌, sym, ◌∙◌}
+use mathlib.Core.Path.{sym, ◌∙◌}
 use native.Mathlib.Omega.{arith}
 use lib.ListN.{length, take, length-take}
 use lib.Seq.{get_or-take}
-use borrow.Author.Tests.{not-true, not-false}
 use Rattle.open_shape.specs.OpenShape.{is_key}
-use Rattle.open_shape.proofs.Turns.{Passed, passed_start, passed_stop, passed_more, passed_end}
-use borrow.Author.Rules.{rules}
+use Rattle.open_shape.proofs.Turns.{passed_start, passed_stop, passed_more, passed_end}
 use Rattle.open_shape.proofs.named.Goals as goal
 
 pub loop-i-init : goal.loop-i-init

@@ -1,13 +1,8 @@
 -- `named` meets its contract: the test of the keys left is the test of all. Assumes nothing.
-use Prim.Native.Nat.{◌-◌, ◌≤◌, ◌<◌}
-use mathlib.Core.Path.{◌≡◌, sym, ◌∙◌}
-use native.Mathlib.Omega.{arith}
-use lib.ListN.{length, take, length-take}
-use lib.Seq.{get_or-take}
-use borrow.Author.Tests.{not-true, not-false}
+use Prim.Native.Nat.{◌-◌, ◌≤◌}
+use lib.ListN.{take}
 use Rattle.open_shape.specs.OpenShape.{is_key}
-use Rattle.open_shape.proofs.Turns.{Passed, passed_start, passed_stop, passed_more, passed_end}
-use borrow.Author.Rules.{rules}
+use Rattle.open_shape.proofs.Turns.{Passed}
 use Rattle.open_shape.proofs.named.Given as goal
 
 abbrev pub invariant-loop-i : goal.invariant-loop-i

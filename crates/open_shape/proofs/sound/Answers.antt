@@ -2,7 +2,7 @@
 use Prim.Native.Nat.{◌<◌}
 use mathlib.Core.Path.{◌≡◌, sym, ◌∙◌}
 use lib.ListN.{length}
-use borrow.Author.Tests.{le-leb, lt-leb, eq-eqb, not-true, not-false}
+use borrow.Author.Tests.{le-leb, lt-leb, eq-eqb}
 use Rattle.open_shape.specs.OpenShape.{sound_keys}
 use borrow.Author.Rules.{rules}
 use Rattle.open_shape.proofs.sound.Goals as goal

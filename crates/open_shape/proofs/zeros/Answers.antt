@@ -1,8 +1,8 @@
 -- `zeros` meets its contract: what was gathered so far, and the test of the keys left, are the test of all. Assumes nothing.
-use Prim.Native.Nat.{◌-◌, ◌≤◌}
+use Prim.Native.Nat.{◌-◌}
 use mathlib.Core.Path.{refl}
 use Rattle.open_shape.specs.OpenShape.{is_none}
-use Rattle.open_shape.proofs.Turns.{Gathered, gathered_start, gathered_more, gathered_end}
+use Rattle.open_shape.proofs.Turns.{gathered_start, gathered_more, gathered_end}
 use borrow.Author.Rules.{rules}
 use Rattle.open_shape.proofs.zeros.Goals as goal
 

@@ -1,9 +1,7 @@
 -- `zeros` meets its contract: what was gathered so far, and the test of the keys left, are the test of all. Assumes nothing.
 use Prim.Native.Nat.{◌-◌, ◌≤◌}
-use mathlib.Core.Path.{refl}
 use Rattle.open_shape.specs.OpenShape.{is_none}
-use Rattle.open_shape.proofs.Turns.{Gathered, gathered_start, gathered_more, gathered_end}
-use borrow.Author.Rules.{rules}
+use Rattle.open_shape.proofs.Turns.{Gathered}
 use Rattle.open_shape.proofs.zeros.Given as goal
 
 abbrev pub invariant-loop-i : goal.invariant-loop-i

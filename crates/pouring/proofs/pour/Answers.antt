@@ -3,7 +3,6 @@ use mathlib.Core.Path.{sym}
 use native.Mathlib.Omega.{arith}
 use lib.ListN.{length-take}
 use lib.Seq.{length-take-le}
-use borrow.Author.Rules.{rules}
 use Rattle.pouring.proofs.pour.Goals as goal
 
 pub slice_bounds-copy-end : goal.slice_bounds-copy-end

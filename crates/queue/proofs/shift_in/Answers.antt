@@ -1,11 +1,10 @@
 -- `shift_in` meets its contract: with the places above i moved, what is left to do gives the array asked for.
 -- Assumes nothing.
-use Prim.Native.Nat.{suc, ◌≤◌, ◌<◌, ◌-◌, ◌+◌}
-use mathlib.Core.Path.{◌≡◌, refl, sym, ◌∙◌}
+use Prim.Native.Nat.{◌-◌}
+use mathlib.Core.Path.{◌≡◌, ◌∙◌}
 use native.Mathlib.Omega.{arith}
-use lib.ListN.{length, length-set}
-use Rattle.queue.specs.Queue.{insert_at}
-use Rattle.queue.proofs.Laws.{opened, open_start, open_turn, open_end}
+use lib.ListN.{length-set}
+use Rattle.queue.proofs.Laws.{open_start, open_turn, open_end}
 use borrow.Author.Rules.{rules}
 use Rattle.queue.proofs.shift_in.Goals as goal
 

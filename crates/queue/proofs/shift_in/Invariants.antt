@@ -1,12 +1,10 @@
 -- `shift_in` meets its contract: with the places above i moved, what is left to do gives the array asked for.
 -- Assumes nothing.
-use Prim.Native.Nat.{suc, ◌≤◌, ◌<◌, ◌-◌, ◌+◌}
-use mathlib.Core.Path.{◌≡◌, refl, sym, ◌∙◌}
-use native.Mathlib.Omega.{arith}
-use lib.ListN.{length, length-set}
+use Prim.Native.Nat.{◌≤◌, ◌-◌}
+use mathlib.Core.Path.{◌≡◌}
+use lib.ListN.{length}
 use Rattle.queue.specs.Queue.{insert_at}
-use Rattle.queue.proofs.Laws.{opened, open_start, open_turn, open_end}
-use borrow.Author.Rules.{rules}
+use Rattle.queue.proofs.Laws.{opened}
 use Rattle.queue.proofs.shift_in.Given as goal
 
 abbrev pub invariant-loop-i : goal.invariant-loop-i

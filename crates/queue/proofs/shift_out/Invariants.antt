@@ -1,10 +1,7 @@
-use Prim.Native.Nat.{◌≤◌, ◌<◌, ◌-◌, ◌+◌}
-use mathlib.Core.Path.{◌≡◌, refl, ◌∙◌}
-use native.Mathlib.Omega.{arith}
-use borrow.Author.Rules.{rules}
-use lib.ListN.{length, length-set}
+use Prim.Native.Nat.{◌≤◌, ◌-◌}
+use mathlib.Core.Path.{◌≡◌}
+use lib.ListN.{length}
 use Rattle.queue.specs.Queue.{remove_at}
-use Rattle.queue.proofs.Laws.{shift_turn, shift_end}
 use Rattle.queue.proofs.shift_out.Given as goal
 
 abbrev pub invariant-loop-i : goal.invariant-loop-i

@@ -1,6 +1,5 @@
 -- `due` meets its contract. Assumes nothing.
 use mathlib.Core.Path.{refl}
-use borrow.Author.Rules.{rules}
 use Rattle.refusing.proofs.due.Goals as goal
 
 pub returns-in-Command : goal.returns-in-Command

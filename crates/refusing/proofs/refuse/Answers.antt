@@ -2,7 +2,6 @@
 use mathlib.Core.Path.{sym, ◌∙◌}
 use Rattle.answers.proofs.Laws.{finished_of}
 use Rattle.refusing.proofs.Laws.{due_late, due_refused, mute-refused}
-use borrow.Author.Rules.{rules}
 use Rattle.refusing.proofs.refuse.Goals as goal
 
 pub finished-requires : goal.finished-requires

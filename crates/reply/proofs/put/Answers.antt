@@ -5,7 +5,6 @@ use mathlib.Core.List.{[], ◌∷◌}
 use native.Mathlib.Omega.{arith}
 use lib.ListN.{length-set}
 use Rattle.memory.proofs.Splice.{stores-splice}
-use borrow.Author.Rules.{rules}
 use Rattle.reply.proofs.put.Goals as goal
 
 pub bounds-list-at-2 : goal.bounds-list-at-2

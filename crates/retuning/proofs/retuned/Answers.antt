@@ -1,5 +1,4 @@
 -- `retuned` meets its contract: each case is the function of its name. Assumes nothing.
-use borrow.Author.Rules.{rules}
 use Rattle.retuning.proofs.retuned.Goals as goal
 
 pub returns-in-Set : goal.returns-in-Set

@@ -1,10 +1,9 @@
 -- `put` meets its contract: one byte is written. Assumes nothing.
 use Prim.Native.Nat.{ℕ}
-use mathlib.Core.Path.{◌≡◌, ap, ◌∙◌}
+use mathlib.Core.Path.{ap, ◌∙◌}
 use mathlib.Core.List.{[], ◌∷◌}
 use Rattle.memory.specs.Splice.{splice}
 use Rattle.memory.proofs.Splice.{set-splice}
-use borrow.Author.Rules.{rules}
 use Rattle.shifting.proofs.put.Goals as goal
 
 pub returns : goal.returns

@@ -1,8 +1,7 @@
 -- `is_sound_waiter` meets its contract: a map of one bit names one channel, and what is asked of that one is asked of all it names.
 -- Assumes nothing.
-use Prim.Native.Nat.{ℕ, ◌*◌, ◌%◌, ◌^◌, ◌≤◌, ◌<◌}
+use Prim.Native.Nat.{ℕ, ◌*◌, ◌%◌, ◌^◌, ◌<◌}
 use mathlib.Core.Path.{◌≡◌, refl, ap, sym, ◌∙◌}
-use borrow.Author.Tests.{eq-eqb, ne_eqb}
 use mathlib.Core.Bool.{false, not, ◌&&◌}
 use lib.Dec.{eqb}
 use lib.ListN.{length, get_or}

@@ -1,14 +1,10 @@
 -- `locked` meets its contract: the test of the channels left is the test of all. Assumes nothing.
 use Rattle.span_entries.proofs.locked.Goals.{then-names+else-not-owned, else-names}
-use Prim.Native.Nat.{ℕ, ◌-◌}
+use Prim.Native.Nat.{◌-◌}
 use mathlib.Core.Path.{sym, ◌∙◌}
-use mathlib.Core.Bool.{◌&&◌}
-use mathlib.Core.Logic.{⊎_elim}
-use lib.Dec.{eqb}
-use borrow.Author.Tests.{not-true, not-false}
-use Rattle.machine.specs.State.{Write, free}
+use Rattle.machine.specs.State.{free}
 use Rattle.channel.specs.Channel.{channel_of}
-use Rattle.span_entries.proofs.Turns.{Tested, tested_start, tested_stop, tested_more, tested-skip, tested_end}
+use Rattle.span_entries.proofs.Turns.{tested_start, tested_stop, tested_more, tested-skip, tested_end}
 use borrow.Author.Rules.{rules}
 use Rattle.span_entries.proofs.locked.Goals as goal
 

@@ -1,7 +1,6 @@
 -- `put_span` meets its contract: the entry that is put has the numbers of `span_of`. Assumes nothing.
 use mathlib.Core.Path.{◌∙◌}
 use Rattle.sheet.specs.Sheet.{span_of}
-use borrow.Author.Rules.{rules}
 use Rattle.span_frames.proofs.put_span.Goals as goal
 
 pub returns : goal.returns

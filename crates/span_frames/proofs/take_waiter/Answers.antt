@@ -4,7 +4,6 @@ use mathlib.Core.Path.{◌≡◌}
 use native.Mathlib.Omega.{arith}
 use lib.ListN.{length, get_or}
 use Rattle.sheet.proofs.Taking.{has_span_lem, waiter-passed, waiter-took}
-use borrow.Author.Rules.{rules}
 use Rattle.span_frames.proofs.take_waiter.Goals as goal
 
 pub returns-then-f-ne5 : goal.returns-then-f-ne5

@@ -5,7 +5,6 @@ use native.Mathlib.Omega.{arith}
 use lib.ListN.{length-set}
 use Rattle.memory.proofs.Splice.{stores-splice}
 use Rattle.machine.specs.Log.{hex_digit}
-use borrow.Author.Rules.{rules}
 use Rattle.spelling.proofs.put_byte.Goals as goal
 
 pub bounds-out-at-2 : goal.bounds-out-at-2

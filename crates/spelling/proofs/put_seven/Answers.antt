@@ -6,7 +6,6 @@ use Rattle.memory.proofs.Splice.{splice_snoc}
 use Rattle.machine.specs.Log.{line}
 use Rattle.spelling.specs.Spelling.{digits}
 use Rattle.spelling.proofs.Laws.{runs_splice}
-use borrow.Author.Rules.{rules}
 use Rattle.spelling.proofs.put_seven.Goals as goal
 
 pub shape_of-out : goal.shape_of-out

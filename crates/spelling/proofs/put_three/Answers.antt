@@ -3,7 +3,6 @@ use mathlib.Core.List.{[], ◌∷◌}
 use native.Mathlib.Omega.{arith}
 use Rattle.spelling.specs.Spelling.{digits}
 use Rattle.spelling.proofs.Laws.{runs_splice}
-use borrow.Author.Rules.{rules}
 use Rattle.spelling.proofs.put_three.Goals as goal
 
 pub returns : goal.returns

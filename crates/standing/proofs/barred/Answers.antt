@@ -1,7 +1,6 @@
 -- `barred` meets its contract: of the allocated channels, those that are not below the precedence. Assumes nothing.
 use native.Mathlib.Omega.{arith}
-use lib.Dec.{ltb}
-use Rattle.standing.proofs.Turns.{at_least, barred_by, Masked, masked_start, masked_more, masked_end, masked_room}
+use Rattle.standing.proofs.Turns.{at_least, barred_by, masked_start, masked_more, masked_end, masked_room}
 use borrow.Author.Rules.{rules}
 use Rattle.standing.proofs.barred.Goals as goal
 

@@ -1,7 +1,6 @@
 -- `bit` meets its contract: each return is a case of the definition. Assumes nothing.
 use native.Mathlib.Omega.{arith}
 use Rattle.machine.specs.Maps.{bit}
-use borrow.Author.Rules.{rules}
 use Rattle.standing.proofs.bit.Goals as goal
 
 pub returns-then-b : goal.returns-then-b

@@ -1,6 +1,6 @@
 -- `of` meets its contract: the masks and the precedences of the channels read so far, from the last on. Assumes nothing.
 use native.Mathlib.Omega.{arith}
-use Rattle.standing.proofs.Turns.{Reading, reading_start, reading_more, reading_end, masked_room}
+use Rattle.standing.proofs.Turns.{reading_start, reading_more, reading_end, masked_room}
 use borrow.Author.Rules.{rules}
 use Rattle.standing.proofs.of.Goals as goal
 

@@ -1,7 +1,5 @@
 -- `of` meets its contract: the masks and the precedences of the channels read so far, from the last on. Assumes nothing.
-use native.Mathlib.Omega.{arith}
-use Rattle.standing.proofs.Turns.{Reading, reading_start, reading_more, reading_end, masked_room}
-use borrow.Author.Rules.{rules}
+use Rattle.standing.proofs.Turns.{Reading}
 use Rattle.standing.proofs.of.Given as goal
 
 abbrev pub invariant-loop-i : goal.invariant-loop-i

@@ -3,9 +3,7 @@ use mathlib.Core.Path.{◌≡◌, sym, ◌∙◌}
 use mathlib.Core.Bool.{Bool, true, false}
 use lib.Dec.{T}
 use lib.ListN.{length}
-use borrow.Author.Tests.{not-true, not-false}
 use Rattle.starting.proofs.Laws.{not_begun, begun}
-use borrow.Author.Rules.{rules}
 use Rattle.starting.proofs.fresh.Goals as goal
 
 yes_T : (b : Bool) → b ≡ true → T b

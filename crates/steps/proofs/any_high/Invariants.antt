@@ -1,8 +1,7 @@
 -- `any_high` meets its contract: the test of the combinations left is the test of all. Assumes nothing.
 use Prim.Native.Nat.{◌+◌, ◌-◌}
 use lib.ListN.{length}
-use Rattle.steps.proofs.Laws.{Low, low_start, low_stop, low_more, low_end}
-use borrow.Author.Rules.{rules}
+use Rattle.steps.proofs.Laws.{Low}
 use Rattle.steps.proofs.any_high.Given as goal
 
 abbrev pub invariant-loop-i : goal.invariant-loop-i

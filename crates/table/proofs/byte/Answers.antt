@@ -1,5 +1,5 @@
 -- `byte` meets its contract: byte k of record id stands at id * 23 + k. Assumes nothing.
-use mathlib.Core.Path.{◌≡◌, sym}
+use mathlib.Core.Path.{sym}
 use Rattle.memory.proofs.Splice.{block_byte}
 use borrow.Author.Rules.{rules}
 use Rattle.table.proofs.byte.Goals as goal

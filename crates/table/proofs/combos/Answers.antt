@@ -1,11 +1,10 @@
 -- `combos` meets its contract: a part of the table that lies within the entry. Assumes nothing.
-use Prim.Native.Nat.{◌*◌, ◌+◌, ◌-◌, ◌≤◌}
-use mathlib.Core.Path.{◌≡◌, ap, ◌∙◌}
-use lib.ListN.{take, drop, length, get_or}
+use Prim.Native.Nat.{◌*◌, ◌+◌, ◌-◌}
+use mathlib.Core.Path.{◌≡◌}
+use lib.ListN.{get_or}
 use Rattle.memory.specs.Splice.{block}
 use Rattle.table.proofs.Laws.{part_in}
 use native.Mathlib.Omega.{arith}
-use borrow.Author.Rules.{rules}
 use Rattle.table.proofs.combos.Goals as goal
 
 pub returns : goal.returns

@@ -1,5 +1,4 @@
 -- `impatient` meets its contract, by what `byte` ensures. Assumes nothing.
-use borrow.Author.Rules.{rules}
 use Rattle.table.proofs.impatient.Goals as goal
 
 pub returns : goal.returns

@@ -3,7 +3,6 @@ use Prim.Native.Nat.{◌*◌, ◌+◌}
 use mathlib.Core.Path.{◌≡◌}
 use native.Mathlib.Omega.{arith}
 use Rattle.memory.proofs.Splice.{block_byte}
-use borrow.Author.Rules.{rules}
 use Rattle.table.proofs.key.Goals as goal
 
 pub returns : goal.returns

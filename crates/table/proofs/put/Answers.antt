@@ -1,11 +1,10 @@
 -- `put` meets its contract: a head, and sixteen zeros behind it. Assumes nothing.
 use Prim.Native.Nat.{◌*◌, ◌+◌}
-use mathlib.Core.Path.{◌≡◌, refl, sym, ◌∙◌}
+use mathlib.Core.Path.{refl, ◌∙◌}
 use native.Mathlib.Omega.{arith}
 use lib.ListN.{replicate}
 use Rattle.memory.proofs.Splice.{splice_then}
 use Rattle.table.specs.Entry.{head_bytes}
-use borrow.Author.Rules.{rules}
 use Rattle.table.proofs.put.Goals as goal
 
 pub returns : goal.returns

@@ -1,12 +1,11 @@
 -- `put_all` meets its contract: the combinations overwrite the first of sixteen zeros. Assumes nothing.
 use Prim.Native.Nat.{◌*◌, ◌+◌}
-use mathlib.Core.Path.{◌≡◌, refl, sym, ◌∙◌}
+use mathlib.Core.Path.{refl, ◌∙◌}
 use native.Mathlib.Omega.{arith}
 use lib.ListN.{replicate, length}
 use Rattle.memory.proofs.Splice.{splice-over}
 use Rattle.table.specs.Entry.{head_bytes}
 use Rattle.table.proofs.Laws.{drop-zeros}
-use borrow.Author.Rules.{rules}
 use Rattle.table.proofs.put_all.Goals as goal
 
 pub returns : goal.returns

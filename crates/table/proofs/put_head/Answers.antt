@@ -4,7 +4,6 @@ use mathlib.Core.List.{[], ◌∷◌}
 use native.Mathlib.Omega.{arith}
 use lib.ListN.{length-set}
 use Rattle.memory.proofs.Splice.{stores-splice}
-use borrow.Author.Rules.{rules}
 use Rattle.table.proofs.put_head.Goals as goal
 
 pub bounds-table-at-2 : goal.bounds-table-at-2

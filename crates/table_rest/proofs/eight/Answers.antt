@@ -4,7 +4,6 @@ use mathlib.Core.Path.{refl, ap, ◌∙◌}
 use borrow.Author.Tests.{lt-leb, le-leb}
 use lib.Dec.{eqb}
 use Rattle.words.proofs.Laws.{number_none}
-use borrow.Author.Rules.{rules}
 use Rattle.table_rest.proofs.eight.Goals as goal
 
 pub returns-then-i-lt8 : goal.returns-then-i-lt8

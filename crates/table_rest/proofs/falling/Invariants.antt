@@ -1,11 +1,6 @@
 -- `falling` meets its contract: the walk over the requests left, from the last precedence on, is the whole walk. Assumes nothing.
 use Prim.Native.Nat.{◌-◌, ◌≤◌}
-use mathlib.Core.Path.{◌≡◌, refl}
-use native.Mathlib.Omega.{arith}
-use lib.ListN.{length}
-use Rattle.table_rest.proofs.Turns.{Fell, fell_stop, fell_more, fell_end}
-use Rattle.placing.proofs.Cases.{id-small}
-use borrow.Author.Rules.{rules}
+use Rattle.table_rest.proofs.Turns.{Fell}
 use Rattle.table_rest.proofs.falling.Given as goal
 
 abbrev pub invariant-loop-k : goal.invariant-loop-k

@@ -1,7 +1,6 @@
 -- `is_idle` meets its contract: three words hold the entry's bytes. Assumes nothing.
 use mathlib.Core.Path.{refl}
 use Rattle.table_rest.proofs.Turns.{three}
-use borrow.Author.Rules.{rules}
 use Rattle.table_rest.proofs.is_idle.Goals as goal
 
 pub returns : goal.returns

@@ -1,11 +1,7 @@
 -- `rest_idle` meets its contract: the test of the ids left, from the last to the first, is the test of all. Assumes nothing.
-use Prim.Native.Nat.{suc, ◌-◌, ◌≤◌}
-use mathlib.Core.Path.{◌≡◌, refl, sym, ◌∙◌}
-use mathlib.Core.Bool.{true, false}
-use borrow.Author.Rules.{rules}
-use borrow.Author.Tests.{not-true, not-false}
+use Prim.Native.Nat.{◌-◌, ◌≤◌}
+use mathlib.Core.Path.{◌≡◌}
 use Rattle.table_rest.specs.TableRest.{rest_idle}
-use Rattle.table_rest.proofs.Turns.{told, idle-seen, idle_stop, idle_more, eight-least, eight_stop, eight_more}
 use Rattle.table_rest.proofs.rest_idle.Given as goal
 
 abbrev pub invariant-loop-i : goal.invariant-loop-i

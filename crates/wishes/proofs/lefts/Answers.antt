@@ -1,7 +1,6 @@
 -- `lefts` meets its contract: the two channels on that side, one behind the other. Assumes nothing.
 use mathlib.Core.Path.{refl}
 use Rattle.wishes.specs.Wishes.{lefts}
-use borrow.Author.Rules.{rules}
 use Rattle.wishes.proofs.lefts.Goals as goal
 
 pub returns : goal.returns

@@ -5,7 +5,6 @@ use mathlib.Core.Path.{refl}
 use native.Mathlib.Omega.{arith}
 use lib.Bits.{and_mask}
 use Rattle.wishes.specs.Wishes.{named}
-use borrow.Author.Rules.{rules}
 use Rattle.wishes.proofs.named.Goals as goal
 
 pub returns : goal.returns

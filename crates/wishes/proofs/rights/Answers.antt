@@ -1,7 +1,6 @@
 -- `rights` meets its contract: the two channels on that side, one behind the other. Assumes nothing.
 use mathlib.Core.Path.{refl}
 use Rattle.wishes.specs.Wishes.{rights}
-use borrow.Author.Rules.{rules}
 use Rattle.wishes.proofs.rights.Goals as goal
 
 pub returns : goal.returns

@@ -5,7 +5,6 @@ use native.Mathlib.Omega.{arith}
 use lib.ListN.{length, take, drop, length-drop}
 use lib.Seq.{take_all}
 use Rattle.words.specs.Words.{number}
-use borrow.Author.Rules.{rules}
 use Rattle.words.proofs.at.Goals as goal
 
 pub returns : goal.returns

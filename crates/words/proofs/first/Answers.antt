@@ -1,5 +1,4 @@
 -- `first` meets its contract: each byte has the weight of its place. Assumes nothing.
-use borrow.Author.Rules.{rules}
 use Rattle.words.proofs.Laws.{number-eight}
 use Rattle.words.proofs.first.Goals as goal
 

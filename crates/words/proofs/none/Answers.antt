@@ -1,10 +1,9 @@
-use Prim.Native.Nat.{ℕ, ◌+◌, ◌*◌, ◌-◌, ◌≤◌}
+use Prim.Native.Nat.{ℕ, ◌*◌, ◌-◌}
 use mathlib.Core.Path.{◌≡◌, ap, ◌∙◌}
 use lib.ListN.{take, drop}
 use Rattle.words.specs.Words.{zeros}
-use native.Mathlib.Omega.{arith}
 use borrow.Author.Rules.{rules}
-use Rattle.words.proofs.Laws.{Gathered, gathered_start, gathered_more}
+use Rattle.words.proofs.Laws.{gathered_start, gathered_more}
 use Rattle.words.proofs.none.Goals as goal
 
 pub loop-i-init : goal.loop-i-init

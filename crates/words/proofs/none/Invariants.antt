@@ -1,10 +1,5 @@
-use Prim.Native.Nat.{ℕ, ◌+◌, ◌*◌, ◌-◌, ◌≤◌}
-use mathlib.Core.Path.{◌≡◌, ap, ◌∙◌}
-use lib.ListN.{take, drop}
-use Rattle.words.specs.Words.{zeros}
-use native.Mathlib.Omega.{arith}
-use borrow.Author.Rules.{rules}
-use Rattle.words.proofs.Laws.{Gathered, gathered_start, gathered_more}
+use Prim.Native.Nat.{◌-◌, ◌≤◌}
+use Rattle.words.proofs.Laws.{Gathered}
 use Rattle.words.proofs.none.Given as goal
 
 abbrev pub invariant-loop-i : goal.invariant-loop-i

@@ -1,6 +1,4 @@
 -- `fresh` meets its contract: the fresh state beside the number. Assumes nothing.
-use mathlib.Core.Path.{refl}
-use borrow.Author.Rules.{rules}
 use Rattle.board.proofs.Board.fresh.Goals as goal
 
 pub returns : goal.returns

@@ -1,5 +1,4 @@
 -- `sized` meets its contract, test by test. Assumes nothing.
-use mathlib.Core.Path.{refl}
 use borrow.Author.Tests.{eq-eqb, ne_eqb}
 use Rattle.board.proofs.Board.sized.Goals as goal
 

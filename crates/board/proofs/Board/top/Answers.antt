@@ -1,5 +1,4 @@
 -- `top` meets its contract: the test is the definition's. Assumes nothing.
-use mathlib.Core.Path.{refl}
 use borrow.Author.Tests.{eq-eqb, ne_eqb}
 use Rattle.board.proofs.Board.top.Goals as goal
 

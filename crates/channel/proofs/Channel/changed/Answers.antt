@@ -1,5 +1,4 @@
 -- `changed` meets its contract: each case is the method of its name. Assumes nothing.
-use borrow.Author.Rules.{rules}
 use Rattle.channel.proofs.Channel.changed.Goals as goal
 
 pub returns-in-Reset : goal.returns-in-Reset

@@ -1,5 +1,4 @@
 -- `front_gone` meets its contract: the queue's `tail`. Assumes nothing.
-use borrow.Author.Rules.{rules}
 use Rattle.channel.proofs.Channel.front_gone.Goals as goal
 
 pub returns : goal.returns

@@ -1,5 +1,4 @@
 -- `front_only` meets its contract: the queue's `head`. Assumes nothing.
-use borrow.Author.Rules.{rules}
 use Rattle.channel.proofs.Channel.front_only.Goals as goal
 
 pub returns : goal.returns

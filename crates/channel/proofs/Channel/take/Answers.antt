@@ -1,5 +1,4 @@
 -- `take` meets its contract: an empty queue is that of the empty list. Assumes nothing.
-use borrow.Author.Rules.{rules}
 use Rattle.channel.proofs.Channel.take.Goals as goal
 
 pub returns : goal.returns

@@ -1,6 +1,4 @@
 -- `head` meets its contract: the first id, and zeros behind it. Assumes nothing.
-use mathlib.Core.Path.{◌≡◌}
-use borrow.Author.Rules.{rules}
 use borrow.Author.Tests.{eq-eqb, ne_eqb}
 use Rattle.queue.proofs.Queue.head.Goals as goal
 

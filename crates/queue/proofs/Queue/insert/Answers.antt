@@ -1,5 +1,4 @@
 -- `insert` meets its contract: `shift_in` moves the ids. Assumes nothing.
-use borrow.Author.Rules.{rules}
 use Rattle.queue.proofs.Queue.insert.Goals as goal
 
 pub returns : goal.returns

@@ -1,5 +1,4 @@
 -- `remove` meets its contract: `shift_out` moves the ids. Assumes nothing.
-use borrow.Author.Rules.{rules}
 use Rattle.queue.proofs.Queue.remove.Goals as goal
 
 pub returns : goal.returns

@@ -1,6 +1,4 @@
 -- `tail` meets its contract: `shift_out` moves the ids of a queue that has any. Assumes nothing.
-use mathlib.Core.Path.{◌≡◌}
-use borrow.Author.Rules.{rules}
 use borrow.Author.Tests.{eq-eqb, ne_eqb}
 use Rattle.queue.proofs.Queue.tail.Goals as goal
 

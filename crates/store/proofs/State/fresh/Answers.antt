@@ -1,6 +1,5 @@
 -- `fresh` meets its contract: eight unused channels and empty queues. Assumes nothing.
 use Rattle.machine.specs.State.{frees}
-use borrow.Author.Rules.{rules}
 use Rattle.store.proofs.State.fresh.Goals as goal
 
 pub returns : goal.returns
