@@ -41,7 +41,9 @@ for p in sorted(glob.glob(os.path.join(ROOT, "**", "*"), recursive=True)):
         if more == new:
             break
         new = more
-    if p.endswith("machine/specs/Lists.antt") or p.endswith("before_cuts/specs/Lists.antt"):
+    if p.endswith("machine/specs/Lists.antt") and NAME + " {" in new:
+        new = new.replace("--   if b then x else y   x where the test b is true, else y\n", "").replace("-- A choice by a test, and tests over lists:", "-- Tests over lists:")
+        new = new.replace("◌∷◌, eqb}", "◌∷◌, eqb, if◌then◌else◌}", 1)
         new = re.sub(r"infix 10 if◌then◌else◌\nabbrev pub if◌then◌else◌[^\n]*\nif◌then◌else◌ true[^\n]*\nif◌then◌else◌ false[^\n]*\n\n?", "", new)
     if new != text:
         open(p, "w", encoding="utf-8").write(new)

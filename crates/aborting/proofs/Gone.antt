@@ -10,7 +10,8 @@ use lib.Dec.{T, eqb, eqb→eq}
 use lib.ListN.{length}
 use Rattle.memory.specs.Splice.{splice}
 use Rattle.table.specs.Entry.{idle}
-use Rattle.machine.specs.Lists.{if◌then◌else◌, any, among, keep, distinct}
+use Rattle.std.specs.Prelude.{if◌then◌else◌}
+use Rattle.machine.specs.Lists.{any, among, keep, distinct}
 use Rattle.machine.specs.State.{Channel as ChannelM, Lock, Reply, State as StateM}
 use Rattle.machine.specs.Commands.{without, leaving}
 use Rattle.machine.proofs.Tests.{by_test, test_true, test_false, nor_left, nor_right, and_left, and_right}

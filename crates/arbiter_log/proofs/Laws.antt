@@ -7,7 +7,7 @@ use native.Mathlib.Nat.{zero-add}
 use native.Mathlib.Omega.{arith}
 use lib.ListN.{length, take, drop, length-drop}
 use lib.Seq.{take_all}
-use Rattle.machine.specs.Lists.{if◌then◌else◌}
+use Rattle.std.specs.Prelude.{if◌then◌else◌}
 use Rattle.taking.specs.declared.Show.{Show}
 use Rattle.taking.specs.Desk.{Taken, desk_of, needed, filled, finished}
 use Rattle.board.specs.declared.Board.{Board}

@@ -5,9 +5,8 @@
 --   waits c s          the call joins the waiting requests and is outstanding
 --   allocating l c s   ALLOCATE, by what the look at it says; do_allocate c s looks
 --   opening l c s      OPEN, by what the look at it says; do_open c s looks
-use Rattle.std.specs.Prelude.{ℕ, suc, Bool, true, false, List, [], ◌∷◌, ◌++◌, ltb}
+use Rattle.std.specs.Prelude.{ℕ, suc, Bool, true, false, List, [], ◌∷◌, ◌++◌, ltb, if◌then◌else◌}
 use Rattle.before_cuts.specs.Numbers.{nowait, ALLOCFAILED, ADCMD_ALLOCATE, NONE}
-use Rattle.machine.specs.Lists.{if◌then◌else◌}
 use Rattle.before_cuts.specs.State.{Request, State, Outcome, Call, with_waiting, with_opens}
 use Rattle.before_cuts.specs.Choosing.{Look, fails, held, grants, look}
 use Rattle.before_cuts.specs.Granting.{key_for, aborted_in, granted}

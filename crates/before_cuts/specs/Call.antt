@@ -7,9 +7,8 @@
 --   accept op c s      an accepted call
 --   call s c           any call
 --   inRange c          the call's precedence and key fit their bytes
-use Rattle.std.specs.Prelude.{ℕ, Bool, true, false, ◌&&◌, List, [], ◌++◌, eqb, leb}
+use Rattle.std.specs.Prelude.{ℕ, Bool, true, false, ◌&&◌, List, [], ◌++◌, eqb, leb, if◌then◌else◌}
 use Rattle.before_cuts.specs.Numbers.{NOCMD, ALLOCFAILED, NONE, CMD_RESET, CMD_UPDATE, CMD_CLEAR, CMD_STOP, CMD_START, CMD_FLUSH, ADCMD_SETPREC, KEYS}
-use Rattle.machine.specs.Lists.{if◌then◌else◌}
 use Rattle.before_cuts.specs.State.{State, Outcome, Call, Op, OPEN, CLOSE, ABORT, EVENT, COMMAND}
 use Rattle.before_cuts.specs.Commands.{done, silent, reset, same, set_stop, flushed, set_prec, each_change, do_free, do_lock, do_read, do_write, do_event, do_close, do_abort}
 use Rattle.before_cuts.specs.Allocating.{do_allocate, do_open}

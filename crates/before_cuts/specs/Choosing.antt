@@ -12,8 +12,7 @@
 --   cheapest prec ms cs    step 3: the eligible combination of least cost, the earliest on a tie
 --   choose prec ms cs      the choice; `none` where nothing is eligible
 --   look prec ms cs        what a request comes to: it fails, is held, or is granted a map
-use Rattle.std.specs.Prelude.{ℕ, suc, max, Bool, true, false, not, ◌&&◌, ◌||◌, List, [], ◌∷◌, eqb, ltb}
-use Rattle.machine.specs.Lists.{if◌then◌else◌}
+use Rattle.std.specs.Prelude.{ℕ, suc, max, Bool, true, false, not, ◌&&◌, ◌||◌, List, [], ◌∷◌, eqb, ltb, if◌then◌else◌}
 use Rattle.before_cuts.specs.State.{Channel, is_free}
 use Rattle.before_cuts.specs.Maps.{odd, half, named}
 

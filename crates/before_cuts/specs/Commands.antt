@@ -16,9 +16,9 @@
 --   do_free .. do_abort      the commands, CLOSE, ABORT and the event
 --   front, back, playing   the first write of a queue or 255, the others, and whether an event would end one
 --   owned key cs           the channels with the key
-use Rattle.std.specs.Prelude.{ℕ, zero, suc, Bool, true, false, not, ◌&&◌, List, [], ◌∷◌, ◌++◌, map, eqb, length}
+use Rattle.std.specs.Prelude.{ℕ, zero, suc, Bool, true, false, not, ◌&&◌, List, [], ◌∷◌, ◌++◌, map, eqb, length, if◌then◌else◌}
 use Rattle.before_cuts.specs.Numbers.{quick, ABORTED, NOALLOCATION, NONE, CMD_READ, CMD_WRITE, ADCMD_FREE, ADCMD_LOCK, ADCMD_ALLOCATE}
-use Rattle.machine.specs.Lists.{if◌then◌else◌, keep}
+use Rattle.machine.specs.Lists.{keep}
 use Rattle.before_cuts.specs.State.{Channel, Lock, Request, State, Reply, Answer, Outcome, Call, free, with_channels, with_locks, with_waiting, with_opens}
 use Rattle.before_cuts.specs.Maps.{odd, half, bit, minus, lowest, named, change, at}
 use Rattle.before_cuts.specs.Granting.{aborted, aborted_in}

@@ -11,9 +11,9 @@
 --   aborted_in m cs           those to the writes of the channels that m names: by channel, then oldest first
 --   taken key prec c         the channel reset, and given to a key at a precedence
 --   granted m k prec s       the state after map m is granted to a request with key k
-use Rattle.std.specs.Prelude.{ℕ, zero, suc, ◌+◌, Bool, true, false, List, [], ◌∷◌, ◌++◌, map, ltb, length}
+use Rattle.std.specs.Prelude.{ℕ, zero, suc, ◌+◌, Bool, true, false, List, [], ◌∷◌, ◌++◌, map, ltb, length, if◌then◌else◌}
 use Rattle.before_cuts.specs.Numbers.{ABORTED, CMD_WRITE, KEYS}
-use Rattle.machine.specs.Lists.{if◌then◌else◌, among}
+use Rattle.machine.specs.Lists.{among}
 use Rattle.before_cuts.specs.State.{Channel, Request, Reply, State}
 use Rattle.before_cuts.specs.Maps.{odd, half, change}
 

@@ -4,9 +4,8 @@
 --   Kind, kind n    the command of a number; UNKNOWN for "any command number not listed above"
 --   unknown k       the command is none of the twelve
 --   allocates k     the command reads combinations and no map
-use Rattle.std.specs.Prelude.{ℕ, Bool, true, false, eqb}
+use Rattle.std.specs.Prelude.{ℕ, Bool, true, false, eqb, if◌then◌else◌}
 use Rattle.before_cuts.specs.Numbers.{CMD_RESET, CMD_READ, CMD_WRITE, CMD_UPDATE, CMD_CLEAR, CMD_STOP, CMD_START, CMD_FLUSH, ADCMD_FREE, ADCMD_SETPREC, ADCMD_LOCK, ADCMD_ALLOCATE}
-use Rattle.machine.specs.Lists.{if◌then◌else◌}
 
 pub data Kind : Type 0 where
   RESET READ WRITE UPDATE CLEAR STOP START FLUSH FREE SETPREC LOCK ALLOCATE UNKNOWN : Kind

@@ -10,10 +10,9 @@
 --   reply_line r, answer_line a, told o   a reply's line, an answer's line, all the lines of one call
 --   Fed, feed s l       what one line comes to: the output and the next state
 --   run s ls            the same for lines in order; log bs: a whole log from the fresh device
-use Rattle.std.specs.Prelude.{ℕ, ◌+◌, ◌-◌, ◌*◌, ◌/◌, ◌%◌, Bool, true, false, ◌&&◌, List, [], ◌∷◌, ◌++◌, eqb, leb, ltb, length, get_or, drop}
+use Rattle.std.specs.Prelude.{ℕ, ◌+◌, ◌-◌, ◌*◌, ◌/◌, ◌%◌, Bool, true, false, ◌&&◌, List, [], ◌∷◌, ◌++◌, eqb, leb, ltb, length, get_or, drop, if◌then◌else◌}
 use Rattle.std.proofs.Math.Option.{Option, none, some}
 use Rattle.before_cuts.specs.Numbers.{MALFORMED, NONE, REQUESTS}
-use Rattle.machine.specs.Lists.{if◌then◌else◌}
 use Rattle.before_cuts.specs.State.{State, Reply, Answer, Outcome, Call, Op, OPEN, CLOSE, ABORT, EVENT, COMMAND, fresh}
 use Rattle.before_cuts.specs.Commands.{done, silent}
 use Rattle.before_cuts.specs.Call.{call}

@@ -10,8 +10,7 @@
 --   named p m cs      each channel that m names passes the test p
 --   change f m cs     the channels, f done to those that m names
 --   at m cs           the channel that a map of one bit names; a free one where it names none
-use Rattle.std.specs.Prelude.{ℕ, zero, suc, ◌+◌, ◌*◌, ◌/◌, ◌%◌, Bool, true, false, not, ◌&&◌, ◌||◌, List, [], ◌∷◌, eqb}
-use Rattle.machine.specs.Lists.{if◌then◌else◌}
+use Rattle.std.specs.Prelude.{ℕ, zero, suc, ◌+◌, ◌*◌, ◌/◌, ◌%◌, Bool, true, false, not, ◌&&◌, ◌||◌, List, [], ◌∷◌, eqb, if◌then◌else◌}
 use Rattle.before_cuts.specs.State.{Channel, free}
 
 unfoldable pub odd : ℕ → Bool

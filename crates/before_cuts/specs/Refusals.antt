@@ -10,9 +10,9 @@
 --   bad_map c s          a map above 15 (on four channels; on eight none is)
 --   refusal op c s      the refusal of a call
 --   refuse op e c s     what a call refused with e comes to: the state stays
-use Rattle.std.specs.Prelude.{ℕ, ◌^◌, Bool, true, false, not, ◌&&◌, List, [], ◌∷◌, eqb, leb, ltb, length}
+use Rattle.std.specs.Prelude.{ℕ, ◌^◌, Bool, true, false, not, ◌&&◌, List, [], ◌∷◌, eqb, leb, ltb, length, if◌then◌else◌}
 use Rattle.before_cuts.specs.Numbers.{OPENFAIL, NOCMD, BADLENGTH, BADADDRESS, UNSOUND, NOTOPEN, INUSE, BADID, NOROOM, REQUESTS, COMBOS, ENTRIES, NONE}
-use Rattle.machine.specs.Lists.{if◌then◌else◌, any, among}
+use Rattle.machine.specs.Lists.{any, among}
 use Rattle.before_cuts.specs.State.{State, Outcome, Call, Op, OPEN, CLOSE, ABORT, EVENT, COMMAND}
 use Rattle.before_cuts.specs.Commands.{done, silent, finished}
 use Rattle.before_cuts.specs.Sound.{sound, ids}

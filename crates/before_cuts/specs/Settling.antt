@@ -9,9 +9,9 @@
 --   walked w s        the state after a walk, before its grant
 --   rounds n s        at most n walks; `go_on` grants and starts again at the head
 --   settle s          as many walks as can be needed: proofs/Settling.antt shows that more change nothing
-use Rattle.std.specs.Prelude.{ℕ, zero, suc, Bool, true, false, not, List, [], ◌∷◌, ◌++◌, map, length}
+use Rattle.std.specs.Prelude.{ℕ, zero, suc, Bool, true, false, not, List, [], ◌∷◌, ◌++◌, map, length, if◌then◌else◌}
 use Rattle.before_cuts.specs.Numbers.{ALLOCFAILED, CHANNELSTOLEN, ADCMD_ALLOCATE}
-use Rattle.machine.specs.Lists.{if◌then◌else◌, keep}
+use Rattle.machine.specs.Lists.{keep}
 use Rattle.before_cuts.specs.State.{Channel, Lock, Request, State, Reply}
 use Rattle.before_cuts.specs.Maps.{meets}
 use Rattle.before_cuts.specs.Choosing.{look, Look, fails, held, grants}

@@ -11,9 +11,9 @@
 --
 -- That a write has the key of its channel, that the table has 64 entries and that an idle id's entry is all 0 are matters of
 -- the table, which the representation (crate `store`) states.
-use Rattle.std.specs.Prelude.{ℕ, ◌^◌, Bool, true, not, ◌&&◌, List, [], ◌∷◌, ◌++◌, map, eqb, leb, ltb, length}
+use Rattle.std.specs.Prelude.{ℕ, ◌^◌, Bool, true, not, ◌&&◌, List, [], ◌∷◌, ◌++◌, map, eqb, leb, ltb, length, if◌then◌else◌}
 use Rattle.before_cuts.specs.Numbers.{REQUESTS, COMBOS, KEYS, ENTRIES}
-use Rattle.machine.specs.Lists.{if◌then◌else◌, all, distinct}
+use Rattle.machine.specs.Lists.{all, distinct}
 use Rattle.before_cuts.specs.State.{Channel, Lock, Request, State, is_free}
 use Rattle.before_cuts.specs.Maps.{named}
 

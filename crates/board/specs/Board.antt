@@ -9,8 +9,7 @@
 --   state_in b tb        the state that a board and a table hold: the board's own channels
 --   Held b tb           they hold a sound state of four or eight channels, and are the ones that stand for it
 --   Did, Told           what a call promises, of a board: the words of crates `store` and `answers`, said of the board's own channels
-use Rattle.std.specs.Prelude.{ℕ, ◌+◌, ◌-◌, ◌≡◌, Bool, ◌||◌, List, map, T, eqb, length, take}
-use Rattle.machine.specs.Lists.{if◌then◌else◌}
+use Rattle.std.specs.Prelude.{ℕ, ◌+◌, ◌-◌, ◌≡◌, Bool, ◌||◌, List, map, T, eqb, length, take, if◌then◌else◌}
 use Rattle.machine.specs.State.{State as StateM, Reply, Outcome as OutcomeM, fresh_on, with_channels}
 use Rattle.machine.specs.Sound.{sound}
 use Rattle.widening.specs.Widening.{widen}

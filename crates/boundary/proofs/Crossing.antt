@@ -8,7 +8,8 @@ use native.Mathlib.Omega.{arith}
 use lib.Dec.{T, T_not, eqb}
 use lib.ListN.{length, get_or, replicate, replicate-append-replicate}
 use borrow.Author.Tests.{eqb-true, eqb-false}
-use Rattle.machine.specs.Lists.{if◌then◌else◌, among}
+use Rattle.std.specs.Prelude.{if◌then◌else◌}
+use Rattle.machine.specs.Lists.{among}
 use Rattle.machine.specs.State.{Op as OpM, OPEN, CLOSE, ABORT, EVENT, CYCLE_ENDED, GAVE_UP, COMMAND, frees, fresh_on}
 use Rattle.machine.specs.Desks.{HALF}
 use Rattle.machine.specs.Log.{op_of}

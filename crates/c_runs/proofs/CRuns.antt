@@ -16,7 +16,8 @@ use lib.ListN.{length, get_or, take, drop}
 use lib.Seq.{length-take-le, take-append-add, drop_at}
 use Rattle.memory.specs.Splice.{splice}
 use Rattle.memory.proofs.Splice.{length-splice}
-use Rattle.machine.specs.Lists.{if◌then◌else◌, keep}
+use Rattle.std.specs.Prelude.{if◌then◌else◌}
+use Rattle.machine.specs.Lists.{keep}
 use Rattle.machine.specs.State.{Answer, Call, Reply, State as StateM}
 use Rattle.machine.specs.Desks.{DESK_A, DESK_B, HALF, replies_to, halves}
 use Rattle.machine.specs.Log.{op_of}

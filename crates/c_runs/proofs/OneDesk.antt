@@ -10,7 +10,8 @@ use borrow.Author.Tests.{ltb-true, ltb-false}
 use lib.Dec.{T, ltb}
 use lib.ListN.{length, get_or}
 use Rattle.machine.specs.State.{Answer, Call, Reply, State as StateM}
-use Rattle.machine.specs.Lists.{if◌then◌else◌, keep}
+use Rattle.std.specs.Prelude.{if◌then◌else◌}
+use Rattle.machine.specs.Lists.{keep}
 use Rattle.machine.specs.Desks.{DESK_A, DESK_B, HALF, desk_of, replies_to}
 use Rattle.machine.specs.Call.{call}
 use Rattle.machine.proofs.Tests.{eqb_false}

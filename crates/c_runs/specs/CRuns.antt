@@ -21,9 +21,8 @@
 --   Sight, sights p st tb ms   the bytes of answers, records, channels and what the table stores of them, in the order of the run
 --   Demand3Bytes        two runs with the same calls of the K party show it the same
 --   bytes_claim           one name that unfolds these definitions
-use Rattle.std.specs.Prelude.{ℕ, ◌≤◌, ◌≡◌, List, [], ◌∷◌, ◌++◌, map, Bool, ◌&&◌, T, eqb, length, get_or, take, drop}
+use Rattle.std.specs.Prelude.{ℕ, ◌≤◌, ◌≡◌, List, [], ◌∷◌, ◌++◌, map, Bool, ◌&&◌, T, eqb, length, get_or, take, drop, if◌then◌else◌}
 use Rattle.std.proofs.Math.Option.{Option, none, some}
-use Rattle.machine.specs.Lists.{if◌then◌else◌}
 use Rattle.machine.specs.State.{Call}
 use Rattle.machine.specs.Log.{op_of}
 use Rattle.board.specs.Board.{state_in, Held}

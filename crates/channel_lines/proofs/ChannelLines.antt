@@ -15,7 +15,7 @@ use Rattle.memory.specs.Splice.{splice}
 use Rattle.memory.proofs.Splice.{splice_then}
 use Rattle.machine.specs.Log.{line, hex_digit}
 use Rattle.channel.specs.declared.Channel.{Channel}
-use Rattle.machine.specs.Lists.{if◌then◌else◌}
+use Rattle.std.specs.Prelude.{if◌then◌else◌}
 use Rattle.machine.proofs.Tests.{by_test, test_true, test_false}
 use Rattle.board.specs.declared.Board.{Board}
 use Rattle.channel_lines.specs.ChannelLines.{channel_line, channel_lines, board_lines, Shows}

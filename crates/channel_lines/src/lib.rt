@@ -2,9 +2,8 @@
 // A line is written at its place and nowhere else. Assumes nothing.
 #![tactic(auto)]
 
-ghost use Rattle.std.specs.Prelude.{◌≡◌, ◌+◌, ◌*◌, ◌≤◌, ◌<◌, ◌%◌, ltb, length, take};
+ghost use Rattle.std.specs.Prelude.{◌≡◌, ◌+◌, ◌*◌, ◌≤◌, ◌<◌, ◌%◌, ltb, length, take, if◌then◌else◌};
 ghost use Rattle.memory.specs.Splice.{splice};
-ghost use Rattle.machine.specs.Lists.{if◌then◌else◌};
 ghost use Rattle.channel_lines.specs.ChannelLines.{marks_of, channel_line, channel_lines, Shows};
 
 use board::Board;

@@ -10,7 +10,8 @@ use lib.Dec.{T, eqb, eqb→eq}
 use lib.ListN.{length, get_or, set, take, drop, replicate, length-append, length-map, get_or-map}
 use lib.Seq.{drop-cons, take-suc, take_all, length-take-le, get_or-append-add}
 use Rattle.machine.specs.Numbers.{ADCMD_ALLOCATE}
-use Rattle.machine.specs.Lists.{if◌then◌else◌, any, keep, among, distinct}
+use Rattle.std.specs.Prelude.{if◌then◌else◌}
+use Rattle.machine.specs.Lists.{any, keep, among, distinct}
 use Rattle.machine.specs.State.{Write, Channel as ChannelM, Lock, Request, State as StateM, free}
 use Rattle.machine.specs.Maps.{odd, half}
 use Rattle.machine_laws.specs.Sound.{Parts}

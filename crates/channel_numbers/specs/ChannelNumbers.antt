@@ -4,8 +4,7 @@
 --   count_at ns w j        what is counted for place j: at an even place, of writes, the number of its channel in ns; at an odd one its lane of w
 --   moved m l j bs        the numbers bs, which stand from place j on: at each place what joined is added, and what left taken away
 --   Moves s t m l         from state s to t each count moves by what joins and what leaves at its place
-use Rattle.std.specs.Prelude.{ℕ, suc, ◌+◌, ◌≤◌, ◌<◌, ◌≡◌, List, [], ◌∷◌, get_or}
-use Rattle.machine.specs.Lists.{if◌then◌else◌}
+use Rattle.std.specs.Prelude.{ℕ, suc, ◌+◌, ◌≤◌, ◌<◌, ◌≡◌, List, [], ◌∷◌, get_or, if◌then◌else◌}
 use Rattle.machine.specs.State.{State}
 use Rattle.machine.specs.Maps.{odd, half}
 use Rattle.display.specs.Display.{NUMBERS, number}

@@ -11,7 +11,8 @@ use native.Mathlib.Omega.{arith}
 use native.Mathlib.Nat.{zero-add}
 use lib.Dec.{T, eqb, leb, le→leb, leb→le}
 use lib.ListN.{length, get_or, drop}
-use Rattle.machine.specs.Lists.{if◌then◌else◌, all, keep}
+use Rattle.std.specs.Prelude.{if◌then◌else◌}
+use Rattle.machine.specs.Lists.{all, keep}
 use Rattle.machine.specs.Numbers.{CMD_WRITE, CYCLES}
 use Rattle.machine.specs.State.{Call, Channel as ChannelM, Op as OpM, OPEN, CLOSE, ABORT, EVENT, COMMAND, Reply, State as StateM, free}
 use Rattle.machine.specs.Commands.{cycles_in}

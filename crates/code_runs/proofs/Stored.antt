@@ -6,7 +6,8 @@ use mathlib.Core.Bool.{Bool, true, false}
 use mathlib.Core.List.{List, [], ◌∷◌, ◌++◌, map}
 use native.Mathlib.Nat.{div-add-mod'}
 use lib.Dec.{eqb}
-use Rattle.machine.specs.Lists.{if◌then◌else◌, keep}
+use Rattle.std.specs.Prelude.{if◌then◌else◌}
+use Rattle.machine.specs.Lists.{keep}
 use Rattle.machine.specs.State.{Write, Channel as ChannelM, Lock, State as StateM, free}
 use Rattle.machine.specs.Sound.{writes_of}
 use Rattle.memory.specs.Splice.{block}

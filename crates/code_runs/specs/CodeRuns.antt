@@ -35,8 +35,8 @@
 --   own_answers ms, all_records p ms       the answers to the K party's calls; all records to its ids, in order
 --   Alike p st tb ms ns  the claim in parts: these two are the same, and its channels and what is stored of them are in the end
 --   code_claim            one name that unfolds these definitions
-use Rattle.std.specs.Prelude.{ℕ, zero, suc, ◌≤◌, ◌≡◌, List, [], ◌∷◌, ◌++◌, map, T, eqb, length, get_or, take, drop}
-use Rattle.machine.specs.Lists.{if◌then◌else◌, keep}
+use Rattle.std.specs.Prelude.{ℕ, zero, suc, ◌≤◌, ◌≡◌, List, [], ◌∷◌, ◌++◌, map, T, eqb, length, get_or, take, drop, if◌then◌else◌}
+use Rattle.machine.specs.Lists.{keep}
 use Rattle.machine.specs.State.{Call, free}
 use Rattle.channel.specs.declared.Channel.{Channel}
 use Rattle.memory.specs.Splice.{block}

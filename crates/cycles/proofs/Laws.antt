@@ -7,7 +7,7 @@ use mathlib.Core.Option.{Option, none, some}
 use native.Mathlib.Omega.{arith}
 use lib.Dec.{T, eqb, eqb→eq, T_not, not_T}
 use lib.ListN.{length, get_or, length-set}
-use Rattle.machine.specs.Lists.{if◌then◌else◌}
+use Rattle.std.specs.Prelude.{if◌then◌else◌}
 use Rattle.machine.specs.State.{Write}
 use Rattle.machine.specs.Granting.{aborted}
 use Rattle.machine.specs.Commands.{toned, counted_down, is_last, last_replies, cycled}

@@ -8,9 +8,8 @@
 --   turn_replies t m k w   what is replied to the write w, by its turn; the channel's bit is m, its key k
 --   turn_queue t w ws      the queue after it, of which w was in front and ws is the rest
 -- proofs/Laws.antt shows that the two agree, and that they are the machine's `cycled` and `last_replies`.
-use Rattle.std.specs.Prelude.{ℕ, ◌-◌, ◌&&◌, List, [], ◌∷◌, eqb, get_or, set}
+use Rattle.std.specs.Prelude.{ℕ, ◌-◌, ◌&&◌, List, [], ◌∷◌, eqb, get_or, set, if◌then◌else◌}
 use Rattle.machine.specs.Numbers.{ABORTED, CMD_WRITE}
-use Rattle.machine.specs.Lists.{if◌then◌else◌}
 use Rattle.machine.specs.State.{Write, Reply}
 use Rattle.machine.specs.Commands.{toned, counted_down}
 use Rattle.cycles.specs.declared.Turn.{Turn}

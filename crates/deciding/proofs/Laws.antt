@@ -9,7 +9,8 @@ use native.Mathlib.Nat.{zero-add}
 use lib.Dec.{T, eqb, leb, ltb, nltb→le, le→leb, leb→le, nleb→lt}
 use lib.ListN.{length, get_or, length-append}
 use borrow.Author.Tests.{le-ltb, lt-ltb}
-use Rattle.machine.specs.Lists.{if◌then◌else◌, all}
+use Rattle.std.specs.Prelude.{if◌then◌else◌}
+use Rattle.machine.specs.Lists.{all}
 use Rattle.machine.specs.State.{State as StateM, Outcome as OutcomeM, Call, Op as OpM, OPEN, CLOSE, ABORT, EVENT, COMMAND}
 use Rattle.machine.specs.Choosing.{look}
 use Rattle.machine.specs.Numbers.{CYCLES}

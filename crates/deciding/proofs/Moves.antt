@@ -10,7 +10,8 @@ use borrow.Author.Tests.{lt-ltb, le-ltb}
 use lib.Dec.{T, T_not, eqb, ltb, eqb→eq}
 use lib.ListN.{length, get_or, length-map}
 use Rattle.machine.specs.Numbers.{ADCMD_ALLOCATE}
-use Rattle.machine.specs.Lists.{if◌then◌else◌, any, keep, among, distinct}
+use Rattle.std.specs.Prelude.{if◌then◌else◌}
+use Rattle.machine.specs.Lists.{any, keep, among, distinct}
 use Rattle.machine.specs.State.{Request as Waiting, State as StateM, Outcome as OutcomeM, Call, Op as OpM, OPEN, CLOSE, ABORT, EVENT, COMMAND}
 use Rattle.machine.specs.Allocating.{enqueue}
 use Rattle.machine.specs.Refusals.{Refusal, accepted, refusal}

@@ -7,7 +7,8 @@ use mathlib.Core.List.{List, [], ◌∷◌, ◌++◌, map}
 use lib.Dec.{T, eqb, eqb→eq}
 use lib.ListN.{length, get_or}
 use Rattle.machine.specs.Numbers.{ADCMD_ALLOCATE}
-use Rattle.machine.specs.Lists.{if◌then◌else◌, any, among, distinct}
+use Rattle.std.specs.Prelude.{if◌then◌else◌}
+use Rattle.machine.specs.Lists.{any, among, distinct}
 use Rattle.machine.specs.State.{Write, Channel as ChannelM, Lock, Request, State as StateM}
 use Rattle.machine.proofs.Tests.{and_left, and_right, by_test, test_true, test_false, nor_right}
 use Rattle.machine_laws.specs.Keeping.{wait_ids}

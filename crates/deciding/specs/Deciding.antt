@@ -9,10 +9,9 @@
 --   Moved f c s l j       the words of who joined are j, and of who left l: with j the balance says what l is
 --   Decided o e r s ms tb l   what `decided` asks: eight channels are held, the numbers fit their bytes, and e is the number of the
 --                             board's refusal
-use Rattle.std.specs.Prelude.{ℕ, zero, suc, ◌≤◌, ◌<◌, ◌≡◌, Bool, false, List, eqb, ltb, length, get_or}
+use Rattle.std.specs.Prelude.{ℕ, zero, suc, ◌≤◌, ◌<◌, ◌≡◌, Bool, false, List, eqb, ltb, length, get_or, if◌then◌else◌}
 use Rattle.machine.specs.Numbers.{ALLOCFAILED, ADCMD_ALLOCATE}
 use Rattle.machine.specs.Refusals.{Refusal, accepted, refused, refusal}
-use Rattle.machine.specs.Lists.{if◌then◌else◌}
 use Rattle.machine.specs.State.{State as StateM, Call}
 use Rattle.machine.specs.Call.{answering}
 use Rattle.display.specs.Looks.{acting}

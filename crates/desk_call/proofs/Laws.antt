@@ -12,7 +12,8 @@ use lib.ListN.{length, take, drop, take-append-drop, drop_of_length-le}
 use lib.Seq.{length-take-le, take_all}
 use Rattle.memory.specs.Splice.{splice}
 use Rattle.memory.proofs.Splice.{splice_none}
-use Rattle.machine.specs.Lists.{if◌then◌else◌, keep}
+use Rattle.std.specs.Prelude.{if◌then◌else◌}
+use Rattle.machine.specs.Lists.{keep}
 use Rattle.machine.specs.State.{State as StateM, Call, Reply, Outcome as OutcomeM}
 use Rattle.machine.specs.Desks.{DESK_A, DESK_B, HALF, replies_to}
 use Rattle.machine.specs.Call.{call}

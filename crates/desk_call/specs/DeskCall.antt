@@ -11,9 +11,8 @@
 --   Same d d₂ tb tb₂ l l₂           the same answer, board, numbers, table and list
 --   Unread r st tb l dp ..          the answer where the state's bytes hold no struct: 1, map 0, the key given; not a byte has moved
 --   Lent o r ms st tb l dp d ..     the promise of `call` on any bytes st: of the board that they hold, or unread
-use Rattle.std.specs.Prelude.{ℕ, ◌≡◌, List, ltb, length}
+use Rattle.std.specs.Prelude.{ℕ, ◌≡◌, List, ltb, length, if◌then◌else◌}
 use Rattle.machine.specs.Numbers.{UNSOUND, NONE}
-use Rattle.machine.specs.Lists.{if◌then◌else◌}
 use Rattle.machine.specs.State.{Outcome as OutcomeM}
 use Rattle.machine.specs.Desks.{DESK_A, DESK_B, replies_to}
 use Rattle.machine.specs.Commands.{done}

@@ -11,7 +11,8 @@ use borrow.Author.Tests.{eqb-true, le-leb, lt-leb, eq-eqb, ne_eqb}
 use lib.Dec.{eqb, leb, leb→le}
 use lib.ListN.{length, get_or, take, drop, drop_of_length-le}
 use lib.Seq.{drop-cons, take_all, length-take-le}
-use Rattle.machine.specs.Lists.{if◌then◌else◌, all}
+use Rattle.std.specs.Prelude.{if◌then◌else◌}
+use Rattle.machine.specs.Lists.{all}
 use Rattle.machine.specs.Log.{digit, joined, unhex, call_of, frame}
 use Rattle.machine.proofs.Tests.{by_test, test_true, test_false, if_elim, and_right}
 use Rattle.digits.specs.Digits.{has_one, value_of, is_digit, spells, pairs}

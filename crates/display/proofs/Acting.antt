@@ -14,7 +14,8 @@ use native.Mathlib.Omega.{arith}
 use lib.Dec.{T, eqb, ltb}
 use lib.ListN.{length, length-map}
 use Rattle.machine.specs.Numbers.{nowait, synced, ALLOCFAILED}
-use Rattle.machine.specs.Lists.{if◌then◌else◌, all, keep, among, distinct}
+use Rattle.std.specs.Prelude.{if◌then◌else◌}
+use Rattle.machine.specs.Lists.{all, keep, among, distinct}
 use Rattle.machine.specs.State.{Channel, Lock, Request, State, Outcome, Call, Op, OPEN, CLOSE, ABORT, Event, CYCLE_ENDED, GAVE_UP, EVENT, COMMAND}
 use Rattle.machine.specs.Maps.{meets, at, lowest}
 use Rattle.machine.specs.Choosing.{Look, fails, held, grants, look}

@@ -9,7 +9,8 @@ use mathlib.Core.List.{List, [], ◌∷◌, ◌++◌, map, append_assoc}
 use native.Mathlib.Omega.{arith}
 use lib.ListN.{length}
 use Rattle.machine.specs.Numbers.{ALLOCFAILED, CHANNELSTOLEN}
-use Rattle.machine.specs.Lists.{if◌then◌else◌, keep}
+use Rattle.std.specs.Prelude.{if◌then◌else◌}
+use Rattle.machine.specs.Lists.{keep}
 use Rattle.machine.specs.State.{Lock, Request, State, Reply, with_waiting, with_locks}
 use Rattle.machine.specs.Maps.{meets}
 use Rattle.machine.specs.Choosing.{Look, fails, held, grants, look}

@@ -5,7 +5,8 @@ use mathlib.Core.Path.{◌≡◌, refl, ap, ap₂, ◌∙◌}
 use mathlib.Core.List.{List, [], ◌∷◌, map}
 use native.Mathlib.Omega.{arith}
 use lib.ListN.{length, get_or, take, replicate, length-append, length-map}
-use Rattle.machine.specs.Lists.{if◌then◌else◌, keep}
+use Rattle.std.specs.Prelude.{if◌then◌else◌}
+use Rattle.machine.specs.Lists.{keep}
 use Rattle.machine.specs.State.{Write, Channel, State, fresh_on}
 use Rattle.machine.specs.Maps.{odd, half}
 use Rattle.machine.specs.Rule.{channel}

@@ -10,7 +10,8 @@ use native.Mathlib.Omega.{arith}
 use lib.Dec.{T, eqb, eqb→eq, eqb-suc-zero, not_T}
 use lib.ListN.{length, get_or, take, drop, length-append, length-drop, length-map}
 use Rattle.machine.specs.Numbers.{CMD_WRITE}
-use Rattle.machine.specs.Lists.{if◌then◌else◌, any, keep, among, distinct}
+use Rattle.std.specs.Prelude.{if◌then◌else◌}
+use Rattle.machine.specs.Lists.{any, keep, among, distinct}
 use Rattle.machine.specs.State.{Channel, Request, State, OPEN, COMMAND}
 use Rattle.machine.specs.Maps.{odd, half}
 use Rattle.machine.specs.Desks.{desk_of}

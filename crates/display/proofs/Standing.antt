@@ -12,7 +12,8 @@ use mathlib.Core.List.{List, [], ◌∷◌}
 use native.Mathlib.Omega.{arith}
 use lib.Dec.{T, T_not, not_T, eqb, ltb, eqb→eq, eqb_refl}
 use lib.ListN.{length}
-use Rattle.machine.specs.Lists.{if◌then◌else◌, any, keep, among, distinct}
+use Rattle.std.specs.Prelude.{if◌then◌else◌}
+use Rattle.machine.specs.Lists.{any, keep, among, distinct}
 use Rattle.machine.specs.State.{Request, State, Call}
 use Rattle.machine.specs.Allocating.{enqueue}
 use Rattle.machine.specs.Refusals.{Refusal, accepted, refused, refusal}

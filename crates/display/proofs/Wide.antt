@@ -9,7 +9,8 @@ use native.Mathlib.Omega.{arith}
 use lib.Dec.{T, eqb, ltb, ltb→lt}
 use lib.ListN.{length, get_or, take}
 use Rattle.machine.specs.Numbers.{ALLOCFAILED, CYCLES}
-use Rattle.machine.specs.Lists.{if◌then◌else◌, all, any, among, keep}
+use Rattle.std.specs.Prelude.{if◌then◌else◌}
+use Rattle.machine.specs.Lists.{all, any, among, keep}
 use Rattle.machine.specs.State.{Channel, Lock, Request, State, Outcome, Call, Op, OPEN, CLOSE, ABORT, EVENT, COMMAND, free, frees}
 use Rattle.machine.specs.Maps.{odd, half, meets, lowest, at}
 use Rattle.machine.specs.Choosing.{Look, fails, held, grants, look}

@@ -20,9 +20,9 @@
 --   request_lines cs rs     E1 and its record for each request
 --   display_lines s d       the lines of a display in a state
 --   Bytes bs               each number is a byte
-use Rattle.std.specs.Prelude.{ℕ, zero, suc, ◌+◌, ◌*◌, ◌/◌, ◌%◌, ◌^◌, ◌<◌, Bool, true, false, List, [], ◌∷◌, ◌++◌, length, get_or, take, drop, replicate}
+use Rattle.std.specs.Prelude.{ℕ, zero, suc, ◌+◌, ◌*◌, ◌/◌, ◌%◌, ◌^◌, ◌<◌, Bool, true, false, List, [], ◌∷◌, ◌++◌, length, get_or, take, drop, replicate, if◌then◌else◌}
 use Rattle.std.proofs.Math.Option.{Option, none, some}
-use Rattle.machine.specs.Lists.{if◌then◌else◌, any, keep}
+use Rattle.machine.specs.Lists.{any, keep}
 use Rattle.machine.specs.State.{Channel, Request, State, Call}
 use Rattle.machine.specs.Maps.{odd, half}
 use Rattle.machine.specs.Desks.{desk_of}

@@ -12,9 +12,8 @@
 --   triangle w         1 + 2 + .. + w: at most so many looks, where w requests wait
 --   ending l, stops cs r   the look is a grant, so that the walk ends there; so it is of the request r
 --   further front rest s   the looks that are left in the middle of a walk
-use Rattle.std.specs.Prelude.{ℕ, zero, suc, ◌+◌, List, [], ◌∷◌, Bool, true, false, eqb, length}
+use Rattle.std.specs.Prelude.{ℕ, zero, suc, ◌+◌, List, [], ◌∷◌, Bool, true, false, eqb, length, if◌then◌else◌}
 use Rattle.machine.specs.Numbers.{ALLOCFAILED}
-use Rattle.machine.specs.Lists.{if◌then◌else◌}
 use Rattle.machine.specs.State.{Channel, Request, State, Outcome, Call, Op, OPEN, CLOSE, ABORT, EVENT, COMMAND}
 use Rattle.machine.specs.Choosing.{Look, fails, held, grants, look}
 use Rattle.machine.specs.Granting.{granted}

@@ -2,8 +2,7 @@
 // A line is written at its place and nowhere else. Assumes nothing.
 #![tactic(auto)]
 
-ghost use Rattle.std.specs.Prelude.{◌≡◌, ◌∷◌, ◌+◌, ◌*◌, ◌≤◌, length, take};
-ghost use Rattle.machine.specs.Lists.{if◌then◌else◌};
+ghost use Rattle.std.specs.Prelude.{◌≡◌, ◌∷◌, ◌+◌, ◌*◌, ◌≤◌, length, take, if◌then◌else◌};
 ghost use Rattle.memory.specs.Splice.{splice};
 ghost use Rattle.machine.specs.Log.{line};
 ghost use Rattle.display_lines.specs.DisplayLines.{load_of, four_of, record_lines, Shows};

@@ -12,7 +12,7 @@
 --   Dropping m cs q ..         what `drop_named` asks: the table without those writes has the entries of the WAITCYCLEs ws, whose ids q
 --                              has, between the items pre and post
 --   Dropt, Drops               queue, table, reply list and count afterwards; that, for all such WAITCYCLEs
-use Rattle.std.specs.Prelude.{ℕ, ◌+◌, ◌*◌, ◌≤◌, ◌<◌, ◌≡◌, not, List, [], ◌∷◌, ◌++◌, map, length}
+use Rattle.std.specs.Prelude.{ℕ, ◌+◌, ◌*◌, ◌≤◌, ◌<◌, ◌≡◌, not, List, [], ◌∷◌, ◌++◌, map, length, if◌then◌else◌}
 use Rattle.queue.specs.declared.Queue.{Queue}
 use Rattle.queue.specs.Queue.{queue_of, list_of}
 use Rattle.channel.specs.declared.Channel.{Channel}
@@ -20,7 +20,7 @@ use Rattle.channel.specs.Channel.{channel_in}
 use Rattle.memory.specs.Splice.{splice}
 use Rattle.table.specs.Entry.{idle}
 use Rattle.machine.specs.Numbers.{ADCMD_WAITCYCLE}
-use Rattle.machine.specs.Lists.{if◌then◌else◌, keep}
+use Rattle.machine.specs.Lists.{keep}
 use Rattle.machine.specs.State.{Channel as ChannelM, Lock, Reply}
 use Rattle.machine.specs.Maps.{odd, half}
 use Rattle.machine.specs.Granting.{aborted, aborted_in, on_channels, given_up}

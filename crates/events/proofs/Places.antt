@@ -8,7 +8,7 @@ use borrow.Author.Tests.{le-leb, lt-leb, leb-true, leb-false}
 use lib.Dec.{leb}
 use lib.ListN.{length, get_or}
 use Rattle.machine.specs.Numbers.{NONE}
-use Rattle.machine.specs.Lists.{if◌then◌else◌}
+use Rattle.std.specs.Prelude.{if◌then◌else◌}
 use Rattle.machine.specs.State.{Write, Event, free}
 use Rattle.machine.specs.Commands.{playing, done, silent, do_event}
 use Rattle.channel.specs.declared.Channel.{Channel}

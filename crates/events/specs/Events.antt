@@ -4,8 +4,8 @@
 --   plays_at m cs      the place of the lowest channel that m names, where a write is in progress there; 8 otherwise
 --   met_replies m s    what is replied to who waits for a cycle of the channels that m names
 --   Meets m s ..      the promise of `meet`: the state without them, those replies
-use Rattle.std.specs.Prelude.{ℕ, List, map, leb, length, get_or}
-use Rattle.machine.specs.Lists.{if◌then◌else◌, keep}
+use Rattle.std.specs.Prelude.{ℕ, List, map, leb, length, get_or, if◌then◌else◌}
+use Rattle.machine.specs.Lists.{keep}
 use Rattle.machine.specs.State.{Reply, State as StateM, free}
 use Rattle.machine.specs.Granting.{on_channels, cut}
 use Rattle.machine.specs.Commands.{met}

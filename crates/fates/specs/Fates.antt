@@ -9,9 +9,8 @@
 --   error_of how       what one that ends is replied
 --   Told m x e r      the fate of a map x that ends with all its bits where m shares one, with the error e
 --   Fated how m x r   the fate of a map
-use Rattle.std.specs.Prelude.{ℕ, ◌≡◌, Bool, eqb}
+use Rattle.std.specs.Prelude.{ℕ, ◌≡◌, Bool, eqb, if◌then◌else◌}
 use Rattle.machine.specs.Numbers.{ABORTED, CHANNELSTOLEN, ADCMD_LOCK, ADCMD_WAITCYCLE}
-use Rattle.machine.specs.Lists.{if◌then◌else◌}
 use Rattle.machine.specs.Maps.{minus, meets}
 use Rattle.fates.specs.declared.Fate.{Fate}
 use Rattle.fates.specs.declared.End.{End}

@@ -8,7 +8,7 @@ use borrow.Author.Tests.{eq-eqb, ne_eqb, lt-ltb}
 use lib.Dec.{T, eqb, ltb}
 use lib.ListN.{length, get_or, take, drop, length-drop, drop_of_length-le, get_or-eq_default}
 use lib.Seq.{drop-drop}
-use Rattle.machine.specs.Lists.{if◌then◌else◌}
+use Rattle.std.specs.Prelude.{if◌then◌else◌}
 use Rattle.machine.specs.Log.{LF}
 use Rattle.machine.proofs.Tests.{by_test, test_true, test_false}
 use Rattle.gathering.specs.Lumps.{front, ended, used}

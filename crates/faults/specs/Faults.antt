@@ -10,8 +10,7 @@
 --   fault_from v k p t  the number of the first line that is none, in a text t whose line behind k lines has begun with the bytes p; 0: there
 --                      is none. A line without LF is none
 --   fault v t          the same of a whole text; a text of no bytes lacks its first line
-use Rattle.std.specs.Prelude.{ℕ, ◌+◌, Bool, ◌&&◌, List, [], ◌∷◌, ◌++◌, eqb, ltb, length, get_or}
-use Rattle.machine.specs.Lists.{if◌then◌else◌}
+use Rattle.std.specs.Prelude.{ℕ, ◌+◌, Bool, ◌&&◌, List, [], ◌∷◌, ◌++◌, eqb, ltb, length, get_or, if◌then◌else◌}
 use Rattle.machine.specs.Log.{LF}
 use Rattle.hex_lines.specs.HexLines.{octets_of}
 

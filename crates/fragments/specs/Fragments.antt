@@ -4,9 +4,8 @@
 --   grown p bs, line_with p bs     the started line with a fragment behind it: how many bytes stand, and the bytes
 --   line_fed p bs, port_fed p bs    the line that ends in the fragment, if one does; the port after it
 --   Feeds                         the promise of `feed`
-use Rattle.std.specs.Prelude.{ℕ, ◌+◌, List, length, take}
+use Rattle.std.specs.Prelude.{ℕ, ◌+◌, List, length, take, if◌then◌else◌}
 use Rattle.std.proofs.Math.Option.{Option, none, some}
-use Rattle.machine.specs.Lists.{if◌then◌else◌}
 use Rattle.memory.specs.Splice.{splice}
 use Rattle.gathering.specs.Lumps.{ended, used, kept}
 use Rattle.port.specs.Port.{started_in, line_in, port_of}

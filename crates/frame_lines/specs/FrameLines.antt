@@ -9,9 +9,8 @@
 --   writes_in tb i cs      the frames of the writes of channels, the first of them numbered i
 --   request_lines s tb     the lines of the waiting requests, the locks and the WAITCYCLEs; key_lines q k: of the open keys and the last key
 --   Listed q tb           the ids of a queue, and their entries, can be read; AllListed cs tb: those of all channels' writes
-use Rattle.std.specs.Prelude.{ℕ, suc, ◌≤◌, ◌<◌, List, [], ◌∷◌, ◌++◌, map, eqb, length, get_or, take, drop, replicate}
+use Rattle.std.specs.Prelude.{ℕ, suc, ◌≤◌, ◌<◌, List, [], ◌∷◌, ◌++◌, map, eqb, length, get_or, take, drop, replicate, if◌then◌else◌}
 use Rattle.memory.specs.Splice.{block}
-use Rattle.machine.specs.Lists.{if◌then◌else◌}
 use Rattle.queue.specs.declared.Queue.{Queue}
 use Rattle.queue.specs.Queue.{list_of}
 use Rattle.channel.specs.declared.Channel.{Channel}

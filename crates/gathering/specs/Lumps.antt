@@ -8,9 +8,8 @@
 --   gathered_of n bs       what `gather` answers
 --   Stands l n p          n bytes stand in l, of a line whose bytes so far are p
 --   Gathers l n bs g l'   the promise of `gather`, for what stands in l
-use Rattle.std.specs.Prelude.{ℕ, suc, ◌+◌, ◌-◌, ◌≡◌, Bool, true, false, List, [], ◌∷◌, eqb, length, take}
+use Rattle.std.specs.Prelude.{ℕ, suc, ◌+◌, ◌-◌, ◌≡◌, Bool, true, false, List, [], ◌∷◌, eqb, length, take, if◌then◌else◌}
 use Rattle.memory.specs.Splice.{splice}
-use Rattle.machine.specs.Lists.{if◌then◌else◌}
 use Rattle.machine.specs.Log.{LF}
 use Rattle.gathering.specs.declared.Gathered.{Gathered}
 

@@ -4,7 +4,7 @@ use mathlib.Core.Bool.{Bool, true, false}
 use mathlib.Core.List.{List, [], ◌∷◌, ◌++◌, map}
 use native.Mathlib.Omega.{arith}
 use lib.ListN.{length, take, length-append, length-map}
-use Rattle.machine.specs.Lists.{if◌then◌else◌}
+use Rattle.std.specs.Prelude.{if◌then◌else◌}
 use Rattle.machine.specs.State.{Write, Channel as ChannelM, State as StateM}
 use Rattle.machine.specs.Maps.{odd, half}
 use Rattle.machine.specs.Granting.{aborted, aborted_in, on_channels, cut_replies, dropped}

@@ -10,7 +10,8 @@ use lib.ListN.{length, get_or, take, drop, length-append, length-drop}
 use lib.Seq.{drop-drop, drop-length, get_or-drop, length-take-le, take-length}
 use Rattle.memory.specs.Splice.{splice, block}
 use Rattle.memory.proofs.Splice.{length-splice, splice_none, splice_then}
-use Rattle.machine.specs.Lists.{if◌then◌else◌, keep}
+use Rattle.std.specs.Prelude.{if◌then◌else◌}
+use Rattle.machine.specs.Lists.{keep}
 use Rattle.machine.specs.State.{Reply}
 use Rattle.machine.specs.Desks.{DESK_A, DESK_B, HALF, desk_of, replies_to, halves}
 use Rattle.machine.proofs.Tests.{eqb_false, test_true}

@@ -1,10 +1,9 @@
 // What a program in C hands in as numbers, and the answer that it gets back as bytes. Assumes nothing.
 #![tactic(auto)]
 
-ghost use Rattle.std.specs.Prelude.{◌≡◌, ◌+◌, ◌%◌, ◌≤◌, length};
+ghost use Rattle.std.specs.Prelude.{◌≡◌, ◌+◌, ◌%◌, ◌≤◌, length, if◌then◌else◌};
 ghost use Rattle.machine.specs.Desks.{HALF};
 ghost use Rattle.machine.specs.Log.{op_of};
-ghost use Rattle.machine.specs.Lists.{if◌then◌else◌};
 ghost use Rattle.refusals.specs.Refusals.{op_for};
 ghost use Rattle.handed.specs.Handed.{answer_bytes};
 

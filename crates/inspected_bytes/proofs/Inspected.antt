@@ -9,7 +9,8 @@ use mathlib.Core.List.{List, [], ◌∷◌, ◌++◌, map, map-append}
 use native.Mathlib.Omega.{arith}
 use lib.Dec.{T, eqb, ltb}
 use lib.ListN.{length, get_or, take, drop}
-use Rattle.machine.specs.Lists.{if◌then◌else◌, all, keep}
+use Rattle.std.specs.Prelude.{if◌then◌else◌}
+use Rattle.machine.specs.Lists.{all, keep}
 use Rattle.machine.specs.State.{Call, Reply, State as StateM, fresh_on}
 use Rattle.machine.specs.Desks.{DESK_A, DESK_B, HALF, desk_of, replies_to, halves}
 use Rattle.machine.specs.Call.{call}

@@ -11,7 +11,7 @@ use mathlib.Core.Bool.{not}
 use mathlib.Core.List.{List, [], ◌∷◌, ◌++◌, map}
 use native.Mathlib.Omega.{arith}
 use lib.Dec.{T}
-use Rattle.machine.specs.Lists.{if◌then◌else◌}
+use Rattle.std.specs.Prelude.{if◌then◌else◌}
 use Rattle.machine.specs.State.{Call, State as StateM}
 use Rattle.machine.specs.Call.{call}
 use Rattle.machine.proofs.Tests.{by_test, test_true, test_false}

@@ -9,7 +9,7 @@ use mathlib.Core.Bool.{Bool, true, false, not}
 use mathlib.Core.List.{List, [], ◌∷◌, ◌++◌, append_assoc}
 use lib.Dec.{T}
 use Rattle.machine.specs.State.{State, fresh_on}
-use Rattle.machine.specs.Lists.{if◌then◌else◌}
+use Rattle.std.specs.Prelude.{if◌then◌else◌}
 use Rattle.machine.specs.Log.{feed, run}
 use Rattle.display.specs.Display.{blank, displayed_by, display_lines}
 use Rattle.board.specs.Board.{sized, struct_of}

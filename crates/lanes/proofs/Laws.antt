@@ -11,7 +11,8 @@ use lib.Bits.{bit_or, or_shr, or_mod}
 use lib.Dec.{T, eqb, ltb}
 use lib.ListN.{length, take, drop, get_or, drop_of_length-le}
 use lib.Seq.{drop-cons}
-use Rattle.machine.specs.Lists.{if◌then◌else◌, any, keep}
+use Rattle.std.specs.Prelude.{if◌then◌else◌}
+use Rattle.machine.specs.Lists.{any, keep}
 use Rattle.machine.specs.State.{Request}
 use Rattle.machine.specs.Maps.{odd}
 use Rattle.machine.specs.Allocating.{enqueue}

@@ -8,8 +8,8 @@
 --   weights rs      the words of requests, added up
 --   Balanced vs ts l j   the waiting requests vs became ts: the words of those who joined, 64 at most, add up to j, and the
 --                        words of those who left to l
-use Rattle.std.specs.Prelude.{ℕ, ◌+◌, ◌/◌, ◌%◌, ◌^◌, ◌≤◌, ◌≡◌, List, [], ◌∷◌, length}
-use Rattle.machine.specs.Lists.{if◌then◌else◌, any, keep}
+use Rattle.std.specs.Prelude.{ℕ, ◌+◌, ◌/◌, ◌%◌, ◌^◌, ◌≤◌, ◌≡◌, List, [], ◌∷◌, length, if◌then◌else◌}
+use Rattle.machine.specs.Lists.{any, keep}
 use Rattle.machine.specs.State.{Request}
 use Rattle.machine.specs.Maps.{odd}
 use Rattle.display.specs.Display.{names}

@@ -3,9 +3,8 @@
 --
 --   line_last p, port_last p        the last line, if one has started; the port after the end: nothing stands
 --   Ends                          the promise of `feed_end`
-use Rattle.std.specs.Prelude.{ℕ, List, eqb, take}
+use Rattle.std.specs.Prelude.{ℕ, List, eqb, take, if◌then◌else◌}
 use Rattle.std.proofs.Math.Option.{Option, none, some}
-use Rattle.machine.specs.Lists.{if◌then◌else◌}
 use Rattle.port.specs.Port.{started_in, line_in, port_of}
 use Rattle.telling.specs.Telling.{Ported}
 

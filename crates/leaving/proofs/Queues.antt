@@ -12,7 +12,8 @@ use Rattle.queue.specs.Queue.{queue_of, list_of, index_of, removed}
 use Rattle.queue.proofs.Laws.{list_of_queue_of, removed_of}
 use Rattle.channel.specs.declared.Channel.{Channel}
 use Rattle.channel.specs.Channel.{channel_of}
-use Rattle.machine.specs.Lists.{if◌then◌else◌, any, among, keep, distinct}
+use Rattle.std.specs.Prelude.{if◌then◌else◌}
+use Rattle.machine.specs.Lists.{any, among, keep, distinct}
 use Rattle.machine.specs.State.{Write, Channel as ChannelM, Lock, Request as RequestM, State as StateM}
 use Rattle.machine.specs.Sound.{writes_of, ids}
 use Rattle.machine.specs.Commands.{without, leaving as leaving_m}

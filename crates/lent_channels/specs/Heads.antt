@@ -5,9 +5,8 @@
 --   kept n q                the queue when its number of writes is stored again: 0 leaves no id, another number leaves the ids
 --   stored h c              the channel when its head is stored again
 --   PutHead l i h l'        the head of channel i became h, and every other byte is as before
-use Rattle.std.specs.Prelude.{ℕ, ◌*◌, ◌≡◌, Bool, true, false, List, [], eqb, length}
+use Rattle.std.specs.Prelude.{ℕ, ◌*◌, ◌≡◌, Bool, true, false, List, [], eqb, length, if◌then◌else◌}
 use Rattle.memory.specs.Splice.{splice}
-use Rattle.machine.specs.Lists.{if◌then◌else◌}
 use Rattle.machine.specs.State.{free}
 use Rattle.queue.specs.declared.Queue.{Queue}
 use Rattle.queue.specs.Queue.{queue_of}

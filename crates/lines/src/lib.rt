@@ -2,10 +2,9 @@
 // A line is written at its place and nowhere else. Assumes nothing.
 #![tactic(auto)]
 
-ghost use Rattle.std.specs.Prelude.{◌≡◌, ◌+◌, ◌*◌, ◌≤◌, length};
+ghost use Rattle.std.specs.Prelude.{◌≡◌, ◌+◌, ◌*◌, ◌≤◌, length, if◌then◌else◌};
 ghost use Rattle.memory.specs.Splice.{splice, block};
 ghost use Rattle.machine.specs.Log.{answer_line};
-ghost use Rattle.machine.specs.Lists.{if◌then◌else◌};
 ghost use Rattle.answers.specs.Answers.{answer_in};
 ghost use Rattle.lines.specs.Lines.{record_line, Tells};
 

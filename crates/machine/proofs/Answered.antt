@@ -8,7 +8,7 @@ use mathlib.Core.List.{List, ◌++◌}
 use lib.Dec.{T, eqb, leb}
 use lib.ListN.{length}
 use Rattle.machine.specs.Numbers.{nowait, synced, NOALLOCATION, NONE, OTHERDESK, CMD_READ}
-use Rattle.machine.specs.Lists.{if◌then◌else◌}
+use Rattle.std.specs.Prelude.{if◌then◌else◌}
 use Rattle.machine.specs.State.{State, Reply, Answer, Outcome, Call, Op, Event, OPEN, CLOSE, ABORT, EVENT, COMMAND}
 use Rattle.machine.specs.Maps.{lowest, at}
 use Rattle.machine.specs.Choosing.{Look, fails, held, grants, look}

@@ -11,7 +11,8 @@ use mathlib.Core.List.{List, [], ◌∷◌, ◌++◌}
 use lib.Dec.{T, eqb, eqb_refl, eqb-zero-suc, leb, leb→le}
 use lib.ListN.{length, replicate}
 use Rattle.machine.specs.Numbers.{ENTRIES, KEYS, OPENFAIL, BADLENGTH, BADADDRESS, NOTOPEN}
-use Rattle.machine.specs.Lists.{if◌then◌else◌, among, any, all}
+use Rattle.std.specs.Prelude.{if◌then◌else◌}
+use Rattle.machine.specs.Lists.{among, any, all}
 use Rattle.machine.specs.State.{Call, Op, OPEN, CLOSE, State, fresh, with_last, with_opens}
 use Rattle.machine.specs.Commands.{closed}
 use Rattle.machine.specs.Granting.{new_key}

@@ -11,7 +11,8 @@ use native.Mathlib.Omega.{arith}
 use lib.Dec.{T, T_not, not_T, eqb, leb, ltb, eqb→eq, eqb_refl, eqb-suc-zero, nltb→le, nleb→lt, ltb→lt, leb→le}
 use lib.ListN.{length}
 use Rattle.machine.specs.Numbers.{OPENFAIL, NOCMD, BADLENGTH, BADADDRESS, UNSOUND, NOTOPEN, INUSE, BADID, NOROOM, REQUESTS, ENTRIES, COMBOS, CMD_WRITE, ADCMD_PERVOL, ADCMD_ALLOCATE}
-use Rattle.machine.specs.Lists.{if◌then◌else◌, any, all, among}
+use Rattle.std.specs.Prelude.{if◌then◌else◌}
+use Rattle.machine.specs.Lists.{any, all, among}
 use Rattle.machine.specs.State.{State, Call, Op, OPEN, CLOSE, ABORT, EVENT, COMMAND}
 use Rattle.machine.specs.Desks.{desk_of, foreign}
 use Rattle.machine.specs.Commands.{period_in, volume_in}

@@ -10,9 +10,9 @@
 --   nowaits       NOWAIT is flag 64: the bytes 64 to 127 and 192 to 255
 --   synceds       SYNCCYCLE is flag 32: of each 64 bytes the upper half
 --   carrying      WRITE and PERVOL alone carry numbers
-use Rattle.std.specs.Prelude.{ℕ, zero, suc, ◌+◌, ◌≡◌, refl, Bool, not, List, [], ◌∷◌, ◌++◌, map}
+use Rattle.std.specs.Prelude.{ℕ, zero, suc, ◌+◌, ◌≡◌, refl, Bool, not, List, [], ◌∷◌, ◌++◌, map, if◌then◌else◌}
 use Rattle.machine.specs.Numbers.{quick, nowait, synced, CMD_RESET, CMD_READ, CMD_WRITE, CMD_UPDATE, CMD_CLEAR, CMD_STOP, CMD_START, CMD_FLUSH, ADCMD_FREE, ADCMD_SETPREC, ADCMD_FINISH, ADCMD_PERVOL, ADCMD_LOCK, ADCMD_WAITCYCLE, ADCMD_ALLOCATE}
-use Rattle.machine.specs.Lists.{if◌then◌else◌, keep}
+use Rattle.machine.specs.Lists.{keep}
 use Rattle.machine.specs.Kinds.{Kind, RESET, READ, WRITE, UPDATE, CLEAR, STOP, START, FLUSH, FREE, SETPREC, FINISH, PERVOL, LOCK, WAITCYCLE, ALLOCATE, UNKNOWN, kind, unknown, carries}
 
 unfoldable pub run : ℕ → ℕ → List ℕ

@@ -10,9 +10,9 @@
 --   halves rs            A's replies, then B's
 --   from d c             the call as desk d makes it
 --   Idless o             an operation that names no id, so that no desk can be wrong
-use Rattle.std.specs.Prelude.{ℕ, Bool, not, List, [], ◌∷◌, ◌++◌, eqb, ltb}
+use Rattle.std.specs.Prelude.{ℕ, Bool, not, List, [], ◌∷◌, ◌++◌, eqb, ltb, if◌then◌else◌}
 use Rattle.machine.specs.Numbers.{NONE}
-use Rattle.machine.specs.Lists.{if◌then◌else◌, keep}
+use Rattle.machine.specs.Lists.{keep}
 use Rattle.machine.specs.State.{Write, Reply, Call, Op, OPEN, CLOSE, Event, EVENT}
 
 -- "Desk A has ids 0 to 31, desk B 32 to 63." "in the log an id byte of 32 or more means B"

@@ -5,8 +5,7 @@
 --   two_bytes k    a number up to 65,535 as two bytes, the high one first
 --   mark_of b      a mark as a byte: 1 or 0
 --   signed p      a stored precedence (itself plus 128) in two's complement, and one in two's complement as it is stored
-use Rattle.std.specs.Prelude.{ℕ, ◌+◌, ◌/◌, ◌%◌, Bool, List, [], ◌∷◌}
-use Rattle.machine.specs.Lists.{if◌then◌else◌}
+use Rattle.std.specs.Prelude.{ℕ, ◌+◌, ◌/◌, ◌%◌, Bool, List, [], ◌∷◌, if◌then◌else◌}
 
 abbrev pub two_bytes : ℕ → List ℕ
 two_bytes k = (k / 256) ∷ (k % 256) ∷ []

@@ -13,7 +13,8 @@ use native.Mathlib.Omega.{arith}
 use lib.Dec.{T, T_not, not_T, eqb, eqb→eq}
 use lib.ListN.{length, length-map}
 use Rattle.machine.specs.Numbers.{quick, nowait, synced, ALLOCFAILED}
-use Rattle.machine.specs.Lists.{if◌then◌else◌, all, keep, among}
+use Rattle.std.specs.Prelude.{if◌then◌else◌}
+use Rattle.machine.specs.Lists.{all, keep, among}
 use Rattle.machine.specs.State.{Write, Channel, Lock, State, with_channels, Reply, Answer, Outcome, Call, Op, OPEN, CLOSE, ABORT, Event, CYCLE_ENDED, GAVE_UP, EVENT, COMMAND}
 use Rattle.machine.specs.Maps.{odd, half, bit, lowest, named, change, at}
 use Rattle.machine.specs.Choosing.{Look, fails, held, grants, look}

@@ -12,7 +12,8 @@ use native.Mathlib.Omega.{arith}
 use lib.Dec.{T, T_not, not_T, eqb, eqb→eq}
 use lib.ListN.{length, length-map}
 use Rattle.machine.specs.Numbers.{nowait, synced, ALLOCFAILED}
-use Rattle.machine.specs.Lists.{if◌then◌else◌, all, keep}
+use Rattle.std.specs.Prelude.{if◌then◌else◌}
+use Rattle.machine.specs.Lists.{all, keep}
 use Rattle.machine.specs.State.{Write, Channel, Lock, State, Outcome, Call, Op, OPEN, CLOSE, ABORT, Event, CYCLE_ENDED, GAVE_UP, EVENT, COMMAND}
 use Rattle.machine.specs.Maps.{odd, half, bit, meets, lowest, named, change, at}
 use Rattle.machine.specs.Choosing.{Look, fails, held, grants, look}

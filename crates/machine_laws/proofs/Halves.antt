@@ -7,7 +7,8 @@ use mathlib.Core.List.{List, [], ◌∷◌, map}
 use native.Mathlib.Omega.{arith}
 use lib.Dec.{T, T_not, eqb, ltb, eqb_refl, ltb→lt, nltb→le}
 use lib.ListN.{length, length-append, length-map}
-use Rattle.machine.specs.Lists.{if◌then◌else◌, any, all, among, distinct, keep}
+use Rattle.std.specs.Prelude.{if◌then◌else◌}
+use Rattle.machine.specs.Lists.{any, all, among, distinct, keep}
 use Rattle.machine.specs.State.{State, Reply, Call}
 use Rattle.machine.specs.Desks.{DESK_A, DESK_B, HALF, desk_of, replies_to, halves}
 use Rattle.machine.specs.Bytes.{run}

@@ -9,7 +9,8 @@ use native.Mathlib.Omega.{arith}
 use lib.Dec.{T, T_not, eqb, eqb→eq, eqb-suc-zero, leb, leb→le, le→leb}
 use lib.ListN.{length, length-append}
 use Rattle.machine.specs.Numbers.{ENTRIES, KEYS}
-use Rattle.machine.specs.Lists.{if◌then◌else◌, all, among, any}
+use Rattle.std.specs.Prelude.{if◌then◌else◌}
+use Rattle.machine.specs.Lists.{all, among, any}
 use Rattle.machine.specs.Commands.{closed}
 use Rattle.machine.specs.Sound.{sound_opens}
 use Rattle.machine.proofs.Tests.{and_left, and_right, and_both, or_left, or_map, by_test, test_true, test_false}

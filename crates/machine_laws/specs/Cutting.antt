@@ -8,9 +8,9 @@
 --   kind_cut k c s           the channels whose front write a command ends otherwise than by the event, as a map
 --   cut_by o c s             the same of any operation
 --   Cuts m s o              those who waited for a cycle of a channel of m are told, and wait no longer
-use Rattle.std.specs.Prelude.{ℕ, ◌<◌, ◌≡◌, not, List, [], ◌∷◌, T, length}
+use Rattle.std.specs.Prelude.{ℕ, ◌<◌, ◌≡◌, not, List, [], ◌∷◌, T, length, if◌then◌else◌}
 use Rattle.machine.specs.Numbers.{synced}
-use Rattle.machine.specs.Lists.{if◌then◌else◌, all}
+use Rattle.machine.specs.Lists.{all}
 use Rattle.machine.specs.State.{Channel, Lock, State, Outcome, Call, Op, OPEN, CLOSE, ABORT, CYCLE_ENDED, GAVE_UP, EVENT, COMMAND}
 use Rattle.machine.specs.Maps.{lowest, at}
 use Rattle.machine.specs.Choosing.{Look, fails, held, grants, look}

@@ -3,8 +3,7 @@
 --
 --   Sub xs ys     xs is ys with some elements left out, the others in their order
 --   count i xs    how often i stands in xs
-use Rattle.std.specs.Prelude.{ℕ, ◌+◌, List, [], ◌∷◌, eqb}
-use Rattle.machine.specs.Lists.{if◌then◌else◌}
+use Rattle.std.specs.Prelude.{ℕ, ◌+◌, List, [], ◌∷◌, eqb, if◌then◌else◌}
 
 pub data Sub {ℓ} {A : Type ℓ} : List A → List A → Type ℓ where
   end : Sub [] []

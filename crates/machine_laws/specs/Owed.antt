@@ -5,9 +5,9 @@
 --   quiet          the refusals after which the reply list is as before
 --   brought c a    the id of a command that is replied at once, or is outstanding
 --   owed o c a     the ids that an operation brings: a command's own, unless it is refused so
-use Rattle.std.specs.Prelude.{ℕ, Bool, true, false, not, ◌||◌, List, [], ◌∷◌}
+use Rattle.std.specs.Prelude.{ℕ, Bool, true, false, not, ◌||◌, List, [], ◌∷◌, if◌then◌else◌}
 use Rattle.machine.specs.Numbers.{quick, UNSOUND, NOTOPEN, INUSE, BADID, NOROOM, OTHERDESK}
-use Rattle.machine.specs.Lists.{if◌then◌else◌, among}
+use Rattle.machine.specs.Lists.{among}
 use Rattle.machine.specs.State.{Answer, Call, Op, OPEN, CLOSE, ABORT, EVENT, COMMAND}
 
 abbrev pub quiet : List ℕ

@@ -8,9 +8,9 @@
 --   Unmoved s o       an OPEN that is answered -11 moved nothing
 --   Lists o           OPEN and ALLOCATE, which read combinations
 --   earlier o c s     the tests before those of the combinations, each with its number
-use Rattle.std.specs.Prelude.{ℕ, ◌≡◌, Bool, not, List, [], ◌∷◌, eqb, ltb, length}
+use Rattle.std.specs.Prelude.{ℕ, ◌≡◌, Bool, not, List, [], ◌∷◌, eqb, ltb, length, if◌then◌else◌}
 use Rattle.machine.specs.Numbers.{quick, neg, NOCMD, ALLOCFAILED, UNSOUND, NOTOPEN, INUSE, BADID, OTHERDESK, NOROOM, REQUESTS, ADCMD_ALLOCATE}
-use Rattle.machine.specs.Lists.{if◌then◌else◌, among}
+use Rattle.machine.specs.Lists.{among}
 use Rattle.machine.specs.State.{State, Reply, Outcome, Call, Op, OPEN, CLOSE, ABORT, EVENT, COMMAND}
 use Rattle.machine.specs.Desks.{foreign}
 use Rattle.machine.specs.Sound.{sound, ids}

@@ -6,8 +6,7 @@
 --   TidyAll b           zeros stand behind the writes of each channel
 --   Once how m i l l'   channel i is changed where the map names it
 --   Changed how m l l'  so is each
-use Rattle.std.specs.Prelude.{ℕ, ◌/◌, ◌^◌, ◌<◌, Bool, true, false, List}
-use Rattle.machine.specs.Lists.{if◌then◌else◌}
+use Rattle.std.specs.Prelude.{ℕ, ◌/◌, ◌^◌, ◌<◌, Bool, true, false, List, if◌then◌else◌}
 use Rattle.machine.specs.Maps.{odd}
 use Rattle.channel.specs.declared.Channel.{Channel}
 use Rattle.channel.specs.declared.Change.{Change}

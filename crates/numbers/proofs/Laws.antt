@@ -9,7 +9,7 @@ use lib.Dec.{T, eqb, leb, eqb→eq, leb→le, le→leb}
 use mathlib.Core.List.{List, [], ◌∷◌}
 use lib.ListN.{length, get_or, drop}
 use mathlib.Core.Option.{Option, none, some}
-use Rattle.machine.specs.Lists.{if◌then◌else◌}
+use Rattle.std.specs.Prelude.{if◌then◌else◌}
 use Rattle.machine.specs.State.{Write}
 use Rattle.machine.specs.Sound.{sound_tone, sound_pervol, sound_write, no_pervol, forgets}
 use Rattle.machine.proofs.Tests.{by_test, test_true, test_false, and_left, and_right, and_both}

@@ -6,9 +6,8 @@
 --   sound_numbers f b    the bytes of a sound write; where it is not in front (f), of one that remembers nothing
 --   Bytes b             the numbers of which others are made are bytes
 --   Told i front b      the test passes exactly where the bytes are those of a sound write
-use Rattle.std.specs.Prelude.{ℕ, ◌<◌, Bool, false, ◌&&◌, ◌||◌, List, ◌≡◌, eqb, leb, T, get_or}
+use Rattle.std.specs.Prelude.{ℕ, ◌<◌, Bool, false, ◌&&◌, ◌||◌, List, ◌≡◌, eqb, leb, T, get_or, if◌then◌else◌}
 use Rattle.std.proofs.Math.Option.{none}
-use Rattle.machine.specs.Lists.{if◌then◌else◌}
 use Rattle.machine.specs.State.{Write}
 use Rattle.machine.specs.Commands.{cycles_in, period_in, volume_in}
 use Rattle.machine.specs.Sound.{sound_tone, sound_write, forgets}

@@ -10,7 +10,8 @@ use native.Mathlib.Omega.{arith}
 use lib.Dec.{T, T_not, eqb, leb, ltb}
 use lib.ListN.{length}
 use Rattle.machine.specs.Numbers.{NONE, NOALLOCATION, CMD_READ, OTHERDESK}
-use Rattle.machine.specs.Lists.{if◌then◌else◌, all, keep}
+use Rattle.std.specs.Prelude.{if◌then◌else◌}
+use Rattle.machine.specs.Lists.{all, keep}
 use Rattle.machine.specs.State.{State, Reply, Answer, Outcome, Call, fresh_on}
 use Rattle.machine.specs.Desks.{DESK_A, DESK_B, HALF, desk_of, front_for, replies_to, halves}
 use Rattle.machine.specs.Kinds.{READ, carries}

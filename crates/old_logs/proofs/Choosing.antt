@@ -3,7 +3,7 @@ use Prim.Native.Nat.{ℕ, suc, max}
 use mathlib.Core.Path.{◌≡◌, refl, ap}
 use mathlib.Core.Bool.{not, ◌&&◌}
 use mathlib.Core.List.{List, [], ◌∷◌, map}
-use Rattle.machine.specs.Lists.{if◌then◌else◌}
+use Rattle.std.specs.Prelude.{if◌then◌else◌}
 use Rattle.machine.specs.State.{is_free}
 use Rattle.machine.specs.Maps.{odd, half}
 use Rattle.machine.specs.Choosing.{Choice, none, chosen, Look, fails, held, grants, takeable, eligible, all_free, first_free, highest, stolen, costs_less, cheaper, cheapest, or_else, choose, standing, look}

@@ -6,7 +6,8 @@ use mathlib.Core.List.{List, [], ◌∷◌, ◌++◌, map, map-map, map-append, 
 use lib.Dec.{T, eqb}
 use lib.ListN.{length, length-map}
 use Rattle.machine.specs.Numbers.{quick, NONE, NOALLOCATION, CMD_READ, CMD_WRITE, ADCMD_LOCK, ADCMD_FREE}
-use Rattle.machine.specs.Lists.{if◌then◌else◌, keep}
+use Rattle.std.specs.Prelude.{if◌then◌else◌}
+use Rattle.machine.specs.Lists.{keep}
 use Rattle.machine.specs.State.{Write, Channel, Reply, CYCLE_ENDED, with_channels}
 use Rattle.machine.specs.Sound.{ids}
 use Rattle.machine.specs.Maps.{odd, half, bit, minus, lowest, change, at}

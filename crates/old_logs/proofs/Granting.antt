@@ -3,7 +3,8 @@ use Prim.Native.Nat.{ℕ, zero, suc}
 use mathlib.Core.Path.{◌≡◌, refl, ap, ap₂, sym, ◌∙◌}
 use mathlib.Core.List.{List, [], ◌∷◌, ◌++◌, map, map-map, map-append, append-nil}
 use lib.ListN.{length}
-use Rattle.machine.specs.Lists.{if◌then◌else◌, keep}
+use Rattle.std.specs.Prelude.{if◌then◌else◌}
+use Rattle.machine.specs.Lists.{keep}
 use Rattle.machine.specs.State.{Channel, Request, Reply}
 use Rattle.machine.specs.Maps.{odd, half}
 use Rattle.machine.specs.Granting.{after, in_use, first_unused, new_key, key_for, last_for, aborted, aborted_in, cut, cut_replies, dropped, taken, granted}

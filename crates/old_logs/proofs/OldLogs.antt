@@ -8,7 +8,8 @@ use mathlib.Core.List.{List, [], ◌∷◌, map}
 use mathlib.Core.Option.{Option, none, some}
 use lib.Dec.{T, eqb, leb}
 use lib.ListN.{length, get_or, drop}
-use Rattle.machine.specs.Lists.{if◌then◌else◌, all}
+use Rattle.std.specs.Prelude.{if◌then◌else◌}
+use Rattle.machine.specs.Lists.{all}
 use Rattle.machine.specs.State.{Channel, Call, Op, OPEN, CLOSE, ABORT, EVENT, CYCLE_ENDED, GAVE_UP, COMMAND, free, frees, fresh_on}
 use Rattle.machine.specs.Commands.{done, silent}
 use Rattle.machine.specs.Log.{Fed, opened, lines, digit, joined, unhex, op_of, call_of, frame, hex_digit, line, reply_line, answer_line, reply_lines, told, outcome_of, feed, run, log}

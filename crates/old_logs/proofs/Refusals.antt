@@ -7,7 +7,7 @@ use mathlib.Core.List.{List, [], ◌∷◌}
 use lib.Dec.{T, eqb, eqb→eq, eqb_refl, leb}
 use lib.ListN.{length}
 use Rattle.machine.specs.Numbers.{NOROOM, OTHERDESK, NONE, CMD_WRITE, ADCMD_FINISH, ADCMD_PERVOL, ADCMD_WAITCYCLE}
-use Rattle.machine.specs.Lists.{if◌then◌else◌}
+use Rattle.std.specs.Prelude.{if◌then◌else◌}
 use Rattle.machine.specs.State.{ABORT, COMMAND}
 use Rattle.machine.specs.Desks.{desk_of, foreign}
 use Rattle.machine.specs.Commands.{done, silent, period_in, volume_in}
@@ -99,7 +99,7 @@ none_left : (ms : List ℕ) → T (eqb (length ms) 0) → ms ≡ []
 none_left [] t = refl
 none_left (m ∷ ms) t = let e : suc (length ms) ≡ 0 = eqb→eq (suc (length ms)) 0 t in absurd (omega arith)
 
-if_same {ℓ} : {A : Type ℓ} (b : Bool) (x : A) → (if b then x else x) ≡ x
+if_same : {A : Type 0} (b : Bool) (x : A) → (if b then x else x) ≡ x
 if_same true x = refl
 if_same false x = refl
 

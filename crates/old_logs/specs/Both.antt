@@ -7,10 +7,10 @@
 --   hides o i a       the same by operation: the last byte of ABORT is no id
 --   both_told f o      the lines of a call, given the frame
 --   both_run s ls      the output of lines in order, and the state after them
-use Rattle.std.specs.Prelude.{ℕ, not, List, [], ◌∷◌, ◌++◌, eqb, ltb}
+use Rattle.std.specs.Prelude.{ℕ, not, List, [], ◌∷◌, ◌++◌, eqb, ltb, if◌then◌else◌}
 use Rattle.std.proofs.Math.Option.{Option, none, some}
 use Rattle.machine.specs.Numbers.{NONE}
-use Rattle.machine.specs.Lists.{if◌then◌else◌, keep}
+use Rattle.machine.specs.Lists.{keep}
 use Rattle.machine.specs.Desks.{HALF, desk_of}
 use Rattle.old_logs.specs.Old
 

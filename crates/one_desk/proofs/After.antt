@@ -13,7 +13,8 @@ use mathlib.Core.List.{List, [], ◌∷◌, ◌++◌, map}
 use lib.Dec.{T, T_not, not_T, eqb, eqb→eq, eqb_refl}
 use lib.ListN.{length}
 use Rattle.machine.specs.Numbers.{nowait, synced, ALLOCFAILED, CMD_RESET, CMD_UPDATE, CMD_CLEAR, CMD_STOP, CMD_START, CMD_FLUSH, ADCMD_FINISH, ADCMD_PERVOL, ADCMD_SETPREC}
-use Rattle.machine.specs.Lists.{if◌then◌else◌, any, all, keep}
+use Rattle.std.specs.Prelude.{if◌then◌else◌}
+use Rattle.machine.specs.Lists.{any, all, keep}
 use Rattle.machine.specs.State.{Write, Channel, State, Outcome, Call, Op, OPEN, CLOSE, ABORT, EVENT, COMMAND}
 use Rattle.machine.specs.Desks.{DESK_A, DESK_B, desk_of}
 use Rattle.machine.specs.Maps.{odd, half, bit, lowest, change, at}

@@ -7,7 +7,8 @@ use mathlib.Core.List.{List, [], ◌∷◌, ◌++◌, map, map-map, map-append}
 use lib.Dec.{T, eqb}
 use lib.ListN.{length, length-map, take}
 use Rattle.machine.specs.Numbers.{synced, nowait, NONE, CMD_READ, CMD_WRITE, ADCMD_FREE, ADCMD_FINISH, ADCMD_PERVOL, ADCMD_LOCK, ADCMD_WAITCYCLE, ADCMD_ALLOCATE}
-use Rattle.machine.specs.Lists.{if◌then◌else◌, any, all, keep}
+use Rattle.std.specs.Prelude.{if◌then◌else◌}
+use Rattle.machine.specs.Lists.{any, all, keep}
 use Rattle.machine.specs.State.{Write, Channel, Lock, State, Reply, Outcome, Call, with_channels, with_opens}
 use Rattle.machine.specs.Desks.{front_for, replies_to}
 use Rattle.machine.specs.Maps.{odd, half, bit, lowest, change, at}

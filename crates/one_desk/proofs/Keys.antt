@@ -3,7 +3,8 @@ use Prim.Native.Nat.{ℕ}
 use mathlib.Core.Bool.{Bool, true, false, not, ◌&&◌, ◌||◌}
 use mathlib.Core.List.{List, [], ◌∷◌}
 use lib.Dec.{T, eqb, eqb→eq, eqb_refl, ltb}
-use Rattle.machine.specs.Lists.{if◌then◌else◌, any, all}
+use Rattle.std.specs.Prelude.{if◌then◌else◌}
+use Rattle.machine.specs.Lists.{any, all}
 use Rattle.machine.specs.State.{Write, Channel, State}
 use Rattle.machine.specs.Desks.{DESK_A, DESK_B, HALF, desk_of}
 use Rattle.machine.proofs.Tests.{and_left, and_right, and_both, or_left, or_right, by_test}

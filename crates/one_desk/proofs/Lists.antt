@@ -4,7 +4,8 @@ use mathlib.Core.Path.{◌≡◌, refl, ap, sym, ◌∙◌}
 use mathlib.Core.Bool.{Bool, true, false}
 use mathlib.Core.List.{List, [], ◌∷◌, map}
 use lib.Dec.{T}
-use Rattle.machine.specs.Lists.{if◌then◌else◌, keep}
+use Rattle.std.specs.Prelude.{if◌then◌else◌}
+use Rattle.machine.specs.Lists.{keep}
 use Rattle.machine_laws.proofs.Lists.{keep_twice, keep_swap}
 
 pub keep_map {ℓ κ} : {A : Type ℓ} {B : Type κ} (q : A → Bool) (p : B → Bool) (f : A → B) → ((x : A) → p (f x) ≡ q x) → (xs : List A)

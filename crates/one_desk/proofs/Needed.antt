@@ -12,7 +12,8 @@ use Prim.Native.Nat.{ℕ}
 use mathlib.Core.Path.{◌≡◌, refl}
 use mathlib.Core.Bool.{Bool, true, false, not, ◌&&◌}
 use mathlib.Core.List.{List, [], ◌∷◌, ◌++◌, map}
-use Rattle.machine.specs.Lists.{if◌then◌else◌, keep}
+use Rattle.std.specs.Prelude.{if◌then◌else◌}
+use Rattle.machine.specs.Lists.{keep}
 use Rattle.machine.specs.State.{Write, Channel, Lock, Request, State, Call, ABORT, COMMAND, free, with_channels, with_locks, with_waiters, with_waiting, with_opens, with_last}
 use Rattle.machine.specs.Desks.{DESK_A, replies_to}
 use Rattle.machine.specs.Maps.{odd}

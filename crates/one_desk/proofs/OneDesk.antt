@@ -8,7 +8,8 @@ use mathlib.Core.List.{List, [], ◌∷◌, ◌++◌, map, map-map}
 use lib.Dec.{T, eqb, eqb→eq, leb}
 use lib.ListN.{length}
 use Rattle.machine.specs.Numbers.{OTHERDESK, NONE, CMD_RESET, CMD_UPDATE, CMD_CLEAR, CMD_STOP, CMD_START, CMD_FLUSH, ADCMD_SETPREC}
-use Rattle.machine.specs.Lists.{if◌then◌else◌, any, all, among, keep}
+use Rattle.std.specs.Prelude.{if◌then◌else◌}
+use Rattle.machine.specs.Lists.{any, all, among, keep}
 use Rattle.machine.specs.State.{Write, Channel, Lock, State, Outcome, Call, Op, OPEN, CLOSE, ABORT, EVENT, COMMAND}
 use Rattle.machine.specs.Desks.{desk_of, foreign}
 use Rattle.machine.specs.Commands.{done, finished, silent, reset, same, set_stop, flushed, set_prec}

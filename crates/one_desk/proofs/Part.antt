@@ -10,7 +10,8 @@ use mathlib.Core.List.{List, [], ◌∷◌, ◌++◌, map, map-map}
 use lib.Dec.{T}
 use lib.ListN.{length, length-map}
 use Rattle.machine.specs.Numbers.{quick}
-use Rattle.machine.specs.Lists.{if◌then◌else◌, all, keep}
+use Rattle.std.specs.Prelude.{if◌then◌else◌}
+use Rattle.machine.specs.Lists.{all, keep}
 use Rattle.machine.specs.State.{Write, Channel, Lock, Request, State, Reply, Answer, Outcome, Call, is_free}
 use Rattle.machine.specs.Desks.{replies_to}
 use Rattle.machine.specs.Maps.{odd, half, named, change, at}

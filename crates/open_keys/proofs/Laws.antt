@@ -10,7 +10,8 @@ use lib.ListN.{length, take, drop, get_or, set, replicate, length-append, length
 use lib.Seq.{drop-cons, set-append_seam, take-append-le, drop-append-le, take-append_seam, length-take-le}
 use borrow.Author.Tests.{eq-eqb, ne_eqb}
 use Rattle.machine.specs.Numbers.{ENTRIES}
-use Rattle.machine.specs.Lists.{if◌then◌else◌, among, any}
+use Rattle.std.specs.Prelude.{if◌then◌else◌}
+use Rattle.machine.specs.Lists.{among, any}
 use Rattle.machine.specs.Commands.{closed}
 use Rattle.queue.specs.Queue.{remove_at}
 use Rattle.machine.proofs.Tests.{by_test, test_true, test_false}

@@ -8,7 +8,7 @@ use mathlib.Core.List.{List, [], ◌∷◌}
 use native.Mathlib.Omega.{arith}
 use lib.Dec.{T, not_T}
 use lib.ListN.{length}
-use Rattle.machine.specs.Lists.{if◌then◌else◌}
+use Rattle.std.specs.Prelude.{if◌then◌else◌}
 use Rattle.machine.specs.State.{Channel, is_free}
 use Rattle.machine.specs.Maps.{named}
 use Rattle.machine.specs.Choosing.{Choice as ChoiceM, none, chosen, takeable, eligible, all_free, costs_less, first_free, cheaper, cheapest, or_else, choose}

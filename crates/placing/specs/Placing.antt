@@ -6,10 +6,9 @@
 --   next m f           the walk f behind a walk that found all in order
 --   kind_test k         what the place of an id asks of its entry; a write is in front where it is the channel's first
 --   placed_writes, placed_all   the walks over the writes, and over all places
-use Rattle.std.specs.Prelude.{ℕ, ◌+◌, Bool, true, false, ◌&&◌, List, [], ◌∷◌, eqb, ltb, get_or, set, replicate}
+use Rattle.std.specs.Prelude.{ℕ, ◌+◌, Bool, true, false, ◌&&◌, List, [], ◌∷◌, eqb, ltb, get_or, set, replicate, if◌then◌else◌}
 use Rattle.queue.specs.Queue.{list_of}
 use Rattle.channel.specs.declared.Channel.{Channel}
-use Rattle.machine.specs.Lists.{if◌then◌else◌}
 use Rattle.store.specs.declared.State.{State}
 use Rattle.entries.specs.Entries.{write_test, lock_test, waiter_test, wait_test}
 use Rattle.placing.specs.declared.Marks.{Marks}

@@ -7,7 +7,7 @@ use native.Mathlib.Omega.{arith}
 use borrow.Author.Tests.{le-leb, lt-leb, leb-true, leb-false}
 use lib.Dec.{T, eqb, leb, eqb→eq}
 use lib.ListN.{length, get_or}
-use Rattle.machine.specs.Lists.{if◌then◌else◌}
+use Rattle.std.specs.Prelude.{if◌then◌else◌}
 use Rattle.machine.specs.State.{Channel as ChannelM, free}
 use Rattle.machine.specs.Commands.{matches}
 use Rattle.machine.proofs.Tests.{and_right}

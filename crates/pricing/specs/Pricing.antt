@@ -5,8 +5,7 @@
 --   price m cs            the highest precedence and the number of channels stolen as one number: proofs/Laws.antt shows that
 --                         the lower price is what costs less
 --   Priced m cs r         r is the price of m
-use Rattle.std.specs.Prelude.{ℕ, suc, ◌+◌, ◌*◌, ◌<◌, max, ◌≡◌, List, [], ◌∷◌}
-use Rattle.machine.specs.Lists.{if◌then◌else◌}
+use Rattle.std.specs.Prelude.{ℕ, suc, ◌+◌, ◌*◌, ◌<◌, max, ◌≡◌, List, [], ◌∷◌, if◌then◌else◌}
 use Rattle.machine.specs.State.{Channel}
 use Rattle.machine.specs.Maps.{odd, half}
 use Rattle.machine.specs.Choosing.{highest, stolen}

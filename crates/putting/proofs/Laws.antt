@@ -9,7 +9,7 @@ use borrow.Author.Tests.{eq-eqb, ne_eqb}
 use lib.Dec.{T, leb→le}
 use lib.ListN.{length, take, drop, length-append, length-map}
 use lib.Seq.{take_at, length-take-le}
-use Rattle.machine.specs.Lists.{if◌then◌else◌}
+use Rattle.std.specs.Prelude.{if◌then◌else◌}
 use Rattle.machine.specs.State.{State as StateM}
 use Rattle.machine.specs.Sound.{sound}
 use Rattle.machine.specs.Log.{Fed as FedM, feed, outcome_of, unhex, frame}

@@ -6,8 +6,7 @@
 --   text_of show t tb dp out   a line's output as a call of `take` left it in `out`, then what is shown of the board, the table tb and the
 --                          display dp; nothing where no line was answered
 --   Puts show t tb dp out page at r page'   that text is added to the page, and r counts it
-use Rattle.std.specs.Prelude.{ℕ, ◌+◌, ◌≡◌, List, [], ◌++◌, eqb, length, take}
-use Rattle.machine.specs.Lists.{if◌then◌else◌}
+use Rattle.std.specs.Prelude.{ℕ, ◌+◌, ◌≡◌, List, [], ◌++◌, eqb, length, take, if◌then◌else◌}
 use Rattle.memory.specs.Splice.{splice}
 use Rattle.board.specs.Board.{state_in}
 use Rattle.taking.specs.declared.Show.{Show}

@@ -1,8 +1,7 @@
 // A line's output put on a lent page, behind what stands there, then what is shown of the board. Assumes nothing.
 #![tactic(auto)]
 
-ghost use Rattle.std.specs.Prelude.{◌+◌, ◌≤◌, ◌≡◌, [], length};
-ghost use Rattle.machine.specs.Lists.{if◌then◌else◌};
+ghost use Rattle.std.specs.Prelude.{◌+◌, ◌≤◌, ◌≡◌, [], length, if◌then◌else◌};
 ghost use Rattle.board.specs.Board.{state_in, Held};
 ghost use Rattle.channel_lines.specs.ChannelLines.{board_lines};
 ghost use Rattle.display.specs.Display.{display_lines};

@@ -2,7 +2,7 @@
 // None asks anything of its caller but memory that is its own. Assumes nothing.
 #![tactic(auto)]
 
-ghost use Rattle.std.specs.Prelude.{◌≡◌};
+ghost use Rattle.std.specs.Prelude.{◌≡◌, if◌then◌else◌};
 ghost use Rattle.qamhudeer.specs.Version.{VERSION};
 ghost use Rattle.image.specs.Image.{STATE, CHANNEL, LOCKS, WAITERS, WAITING, OPENS, LAST, CHANNELS};
 ghost use Rattle.display.specs.Display.{DISPLAY};
@@ -18,7 +18,6 @@ ghost use Rattle.loading2.specs.Loading2.{Loads2};
 ghost use Rattle.moving.specs.Moving.{MovesNew, MovesOld};
 ghost use Rattle.fragments.specs.Fragments.{Feeds};
 ghost use Rattle.last_line.specs.LastLine.{Ends};
-ghost use Rattle.machine.specs.Lists.{if◌then◌else◌};
 ghost use Rattle.stereo.specs.Stereo.{Listed, accepts};
 
 // ---- the version, sizes and places, for the header to be held against

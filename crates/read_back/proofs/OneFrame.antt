@@ -11,7 +11,7 @@ use borrow.Author.Tests.{le-leb, lt-ltb, eq-eqb}
 use lib.Dec.{eqb, leb}
 use lib.ListN.{length, get_or, take, drop, set, replicate}
 use Rattle.memory.specs.Splice.{splice}
-use Rattle.machine.specs.Lists.{if◌then◌else◌}
+use Rattle.std.specs.Prelude.{if◌then◌else◌}
 use Rattle.machine.specs.State.{Write, Channel as ChannelM, Lock, Request, free}
 use Rattle.machine.specs.InBytes.{mark_of, signed}
 use Rattle.queue.specs.declared.Queue.{Queue}

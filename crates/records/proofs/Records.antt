@@ -8,7 +8,8 @@ use native.Mathlib.Numerals.{add-one}
 use lib.Dec.{T, leb, ltb}
 use lib.ListN.{length, take, get_or, length-append, length-map}
 use lib.Seq.{take-suc, length-take-le}
-use Rattle.machine.specs.Lists.{if◌then◌else◌, all}
+use Rattle.std.specs.Prelude.{if◌then◌else◌}
+use Rattle.machine.specs.Lists.{all}
 use Rattle.machine.specs.State.{Channel, Request, State as StateM}
 use Rattle.machine.specs.Sound.{sound_request}
 use Rattle.machine.specs.Choosing.{Look as LookM, look}

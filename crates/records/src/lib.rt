@@ -2,8 +2,7 @@
 // desk. The requests stand in their order, and no byte behind the last record is written. Assumes nothing.
 #![tactic(auto)]
 
-ghost use Rattle.std.specs.Prelude.{◌≡◌, List, ◌+◌, ◌*◌, ◌≤◌, ◌%◌, length};
-ghost use Rattle.machine.specs.Lists.{if◌then◌else◌};
+ghost use Rattle.std.specs.Prelude.{◌≡◌, List, ◌+◌, ◌*◌, ◌≤◌, ◌%◌, length, if◌then◌else◌};
 ghost use Rattle.machine.specs.State.{Channel as ChannelM};
 ghost use Rattle.display.specs.Display.{holds};
 ghost use Rattle.memory.specs.Splice.{splice};

@@ -8,7 +8,8 @@ use borrow.Author.Tests.{eq-eqb, ne_eqb, ltb-false, lt-ltb, le-ltb}
 use lib.Dec.{T, eqb, ltb}
 use lib.ListN.{length}
 use Rattle.machine.specs.Numbers.{NOROOM}
-use Rattle.machine.specs.Lists.{if◌then◌else◌, any, among}
+use Rattle.std.specs.Prelude.{if◌then◌else◌}
+use Rattle.machine.specs.Lists.{any, among}
 use Rattle.machine.specs.State.{State as StateM, Call, Op as OpM, Event, OPEN, CLOSE, ABORT, EVENT, CYCLE_ENDED, GAVE_UP, COMMAND}
 use Rattle.machine.specs.Desks.{desk_of, foreign}
 use Rattle.machine.specs.Sound.{sound, sound_tone, ids}

@@ -7,9 +7,9 @@
 --   open_tests .. command_tests    the tests after 1 and 5, which every operation has, each with its number; the board's maps are
 --                          those below the bound, and so many keys are open
 --   Refuses .. e           what `refusal` promises of a sound state: the number of the machine's refusal
-use Rattle.std.specs.Prelude.{ℕ, ◌/◌, ◌≡◌, Bool, not, ◌&&◌, List, [], ◌∷◌, eqb, leb, ltb, length}
+use Rattle.std.specs.Prelude.{ℕ, ◌/◌, ◌≡◌, Bool, not, ◌&&◌, List, [], ◌∷◌, eqb, leb, ltb, length, if◌then◌else◌}
 use Rattle.machine.specs.Numbers.{OPENFAIL, NOCMD, BADLENGTH, BADADDRESS, NOTOPEN, INUSE, BADID, OTHERDESK, COMBOS, ENTRIES}
-use Rattle.machine.specs.Lists.{if◌then◌else◌, any, among}
+use Rattle.machine.specs.Lists.{any, among}
 use Rattle.machine.specs.State.{Call, Op as OpM, OPEN, CLOSE, ABORT, EVENT, CYCLE_ENDED, GAVE_UP, COMMAND}
 use Rattle.machine.specs.Desks.{desk_of}
 use Rattle.machine.specs.Kinds.{kind, unknown, allocates, carries}

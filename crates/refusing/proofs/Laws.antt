@@ -7,7 +7,7 @@ use native.Mathlib.Omega.{arith}
 use native.Mathlib.Nat.{zero-add}
 use lib.Dec.{ltb, ltb→lt}
 use lib.ListN.{length}
-use Rattle.machine.specs.Lists.{if◌then◌else◌}
+use Rattle.std.specs.Prelude.{if◌then◌else◌}
 use Rattle.machine.specs.Commands.{done}
 use Rattle.memory.specs.Splice.{splice}
 use Rattle.reply.specs.Replies.{sent}

@@ -3,9 +3,8 @@
 --
 --   is_due o e, due_replies o e r    after a refusal with e: a command's own reply is due; what is sent
 --   Refused o e r s l d l'    what a refusal comes to: the number, the state as it was, those replies
-use Rattle.std.specs.Prelude.{ℕ, ◌≡◌, Bool, false, List, [], ltb, length}
+use Rattle.std.specs.Prelude.{ℕ, ◌≡◌, Bool, false, List, [], ltb, length, if◌then◌else◌}
 use Rattle.machine.specs.Numbers.{OTHERDESK, NONE}
-use Rattle.machine.specs.Lists.{if◌then◌else◌}
 use Rattle.machine.specs.State.{Reply}
 use Rattle.machine.specs.Commands.{done}
 use Rattle.reply.specs.Replies.{sent}

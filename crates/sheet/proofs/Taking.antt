@@ -11,7 +11,7 @@ use lib.ListN.{length, get_or, take, drop, set, replicate, length-append, length
 use lib.Seq.{take_all}
 use Rattle.memory.specs.Splice.{splice}
 use Rattle.memory.proofs.Splice.{splice_then}
-use Rattle.machine.specs.Lists.{if◌then◌else◌}
+use Rattle.std.specs.Prelude.{if◌then◌else◌}
 use Rattle.machine.specs.State.{free}
 use Rattle.machine.proofs.Tests.{if_elim, by_test, test_true, test_false, and_left, and_right}
 use Rattle.queue.specs.declared.Queue.{Queue}

@@ -13,9 +13,8 @@
 --   taken f d           the same for any frame; taken_all fs d: for frames in order
 --   blank tb            the sheet before the first frame
 --   Took, Takes         the promises of the functions: the parts of the sheet that they make
-use Rattle.std.specs.Prelude.{ℕ, suc, ◌+◌, ◌*◌, ◌≡◌, Bool, true, false, ◌&&◌, List, [], ◌∷◌, ◌++◌, eqb, leb, ltb, length, get_or, take, drop, set, replicate}
+use Rattle.std.specs.Prelude.{ℕ, suc, ◌+◌, ◌*◌, ◌≡◌, Bool, true, false, ◌&&◌, List, [], ◌∷◌, ◌++◌, eqb, leb, ltb, length, get_or, take, drop, set, replicate, if◌then◌else◌}
 use Rattle.memory.specs.Splice.{splice}
-use Rattle.machine.specs.Lists.{if◌then◌else◌}
 use Rattle.machine.specs.State.{fresh_on, free}
 use Rattle.machine.specs.InBytes.{signed}
 use Rattle.queue.specs.declared.Queue.{Queue}

@@ -7,7 +7,8 @@ use mathlib.Core.Option.{Option, none, some}
 use native.Mathlib.Omega.{arith}
 use lib.Dec.{T, eqb}
 use lib.ListN.{length, take, drop, replicate, length-drop, length-replicate}
-use Rattle.machine.specs.Lists.{if◌then◌else◌, all}
+use Rattle.std.specs.Prelude.{if◌then◌else◌}
+use Rattle.machine.specs.Lists.{all}
 use Rattle.machine.specs.Log.{unhex, frame, feed}
 use Rattle.machine.proofs.Tests.{if_elim, and_left, and_right, and_both}
 use Rattle.machine_laws.proofs.Lists.{all_append}

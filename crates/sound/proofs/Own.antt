@@ -7,7 +7,8 @@ use mathlib.Core.List.{List, [], ◌∷◌, map}
 use native.Mathlib.Omega.{arith}
 use lib.Dec.{T, eqb, eqb→eq}
 use lib.ListN.{length, drop, take, length-drop}
-use Rattle.machine.specs.Lists.{if◌then◌else◌, all}
+use Rattle.std.specs.Prelude.{if◌then◌else◌}
+use Rattle.machine.specs.Lists.{all}
 use Rattle.machine.specs.State.{Write, Channel as ChannelM, Request, free, is_free, frees}
 use Rattle.machine.specs.Sound.{sound_channel, sound_request}
 use Rattle.machine.proofs.Tests.{and_left, and_right, and_both, test_true, test_false}

@@ -12,7 +12,8 @@ use Rattle.queue.specs.Queue.{list_of}
 use Rattle.channel.specs.declared.Channel.{Channel}
 use Rattle.channel.specs.Channel.{channel_in}
 use Rattle.table.specs.Entry.{write_entry}
-use Rattle.machine.specs.Lists.{if◌then◌else◌, any, all, among, distinct}
+use Rattle.std.specs.Prelude.{if◌then◌else◌}
+use Rattle.machine.specs.Lists.{any, all, among, distinct}
 use Rattle.machine.specs.State.{Write}
 use Rattle.machine.specs.Sound.{sound_write, forgets, sound_writes, sound_channel}
 use Rattle.machine.proofs.Tests.{test_true, test_false, and_left, and_right, and_both, nor_left, nor_right, eqb_flip}

@@ -8,7 +8,7 @@ use borrow.Author.Tests.{eq-eqb, ne_eqb}
 use lib.Dec.{T, eqb}
 use lib.ListN.{length, get_or, take, length-map, length-take}
 use lib.Pow.{shl_exact, pow_pos}
-use Rattle.machine.specs.Lists.{if◌then◌else◌}
+use Rattle.std.specs.Prelude.{if◌then◌else◌}
 use Rattle.machine.specs.State.{Write, Channel as ChannelM, Lock, free}
 use Rattle.machine.specs.Maps.{odd, half, bit, lowest, named}
 use Rattle.machine.specs.Sound.{sound_waiter}

@@ -11,7 +11,7 @@ use lib.Bits.{bit_and, and_step, and_zero_r}
 use lib.Dec.{eqb}
 use lib.ListN.{length}
 use lib.Pow.{pow_pos}
-use Rattle.machine.specs.Lists.{if◌then◌else◌}
+use Rattle.std.specs.Prelude.{if◌then◌else◌}
 use Rattle.machine.specs.State.{Channel}
 use Rattle.machine.specs.Maps.{odd, half, bit, named}
 use Rattle.machine_laws.proofs.Maps.{odd-bit, half-bit, bit_of}

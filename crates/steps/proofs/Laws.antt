@@ -12,7 +12,8 @@ use lib.ListN.{length, get_or, drop, drop_of_length-le}
 use lib.Seq.{drop-cons}
 use Rattle.memory.specs.Splice.{block}
 use Rattle.table.specs.Entry.{write_entry, span_entry, wait_entry}
-use Rattle.machine.specs.Lists.{if◌then◌else◌, any, all, among}
+use Rattle.std.specs.Prelude.{if◌then◌else◌}
+use Rattle.machine.specs.Lists.{any, all, among}
 use Rattle.machine.specs.State.{Channel as ChannelM, State as StateM}
 use Rattle.machine.specs.Commands.{period_in, volume_in}
 use Rattle.machine.specs.Sound.{sound_tone, ids}

@@ -10,7 +10,8 @@ use borrow.Author.Tests.{lt-ltb, le-ltb, lt-leb, le-leb, eq-eqb, ne_eqb}
 use lib.Dec.{T, not_T, eqb, eqb→eq}
 use lib.ListN.{length, length-append, drop, drop_of_length-le, get_or, set}
 use lib.Seq.{drop-cons}
-use Rattle.machine.specs.Lists.{if◌then◌else◌, all, keep}
+use Rattle.std.specs.Prelude.{if◌then◌else◌}
+use Rattle.machine.specs.Lists.{all, keep}
 use Rattle.machine.proofs.Tests.{test_true, test_false}
 use Rattle.machine_laws.proofs.Lists.{all_append, among_all}
 use Rattle.memory.specs.Splice.{splice}

@@ -13,8 +13,8 @@
 --   times b ms           at how many places of the list the number b stands
 --   accepts l r ms       the checker's test
 --   Accepted l r ms      the same as the request words it
-use Rattle.std.specs.Prelude.{ℕ, zero, suc, ◌≤◌, ◌≡◌, Bool, ◌&&◌, ◌||◌, true, List, [], ◌∷◌, ◌++◌, eqb, leb, ltb, length}
-use Rattle.machine.specs.Lists.{if◌then◌else◌, all, keep}
+use Rattle.std.specs.Prelude.{ℕ, zero, suc, ◌≤◌, ◌≡◌, Bool, ◌&&◌, ◌||◌, true, List, [], ◌∷◌, ◌++◌, eqb, leb, ltb, length, if◌then◌else◌}
+use Rattle.machine.specs.Lists.{all, keep}
 use Rattle.machine.specs.Numbers.{TOOSMALL}
 use Rattle.memory.specs.Splice.{splice}
 use Rattle.wishes.specs.Wishes.{meets}

@@ -9,7 +9,8 @@ use native.Mathlib.Nat.{mod-lt}
 use native.Mathlib.Omega.{arith}
 use lib.Dec.{T, eqb, leb, le→leb, ltb, ltb→lt, lt→ltb}
 use lib.ListN.{length, get_or, take, drop}
-use Rattle.machine.specs.Lists.{if◌then◌else◌, all}
+use Rattle.std.specs.Prelude.{if◌then◌else◌}
+use Rattle.machine.specs.Lists.{all}
 use Rattle.machine.specs.State.{State as StateM, Call}
 use Rattle.machine.specs.Sound.{sound}
 use Rattle.machine.specs.Commands.{silent}

@@ -27,8 +27,7 @@
 --   Leaves t l tb dp p d   what a call leaves, beside the lent bytes, is the desk d: every field and every byte
 --   Same t t₂ l l₂ ..      the same is left, and the same bytes
 --   Takes, Ends            what `take` and `take_end` promise: on an empty page, and nothing shown
-use Rattle.std.specs.Prelude.{ℕ, zero, suc, ◌+◌, ◌≡◌, Bool, false, List, [], ◌∷◌, ◌++◌, eqb, leb, length, take, drop}
-use Rattle.machine.specs.Lists.{if◌then◌else◌}
+use Rattle.std.specs.Prelude.{ℕ, zero, suc, ◌+◌, ◌≡◌, Bool, false, List, [], ◌∷◌, ◌++◌, eqb, leb, length, take, drop, if◌then◌else◌}
 use Rattle.machine.specs.State.{State as StateM, fresh_on}
 use Rattle.machine.specs.Log.{Fed as FedM, lines, unhex, frame, feed}
 use Rattle.display.specs.Display.{blank, displayed_by, display_lines}

@@ -12,7 +12,7 @@ use Rattle.memory.specs.Splice.{splice, block}
 use Rattle.memory.proofs.Splice.{splice_none}
 use Rattle.queue.specs.Queue.{pad}
 use Rattle.table.specs.Entry.{head_bytes, padded, number_bytes, write_entry}
-use Rattle.machine.specs.Lists.{if◌then◌else◌}
+use Rattle.std.specs.Prelude.{if◌then◌else◌}
 use Rattle.machine.specs.State.{Write, Channel as ChannelM, State as StateM, with_channels}
 use Rattle.machine.specs.Maps.{odd, half, change}
 use Rattle.machine.specs.Commands.{matching, playing, in_progress, set_writes, on_first, on_front, period_in, volume_in, done, each_change}

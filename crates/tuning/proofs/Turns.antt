@@ -11,7 +11,7 @@ use lib.ListN.{length, drop, get_or, replicate, length-append, length-take, leng
 use lib.Seq.{drop-cons}
 use Rattle.memory.specs.Splice.{splice, block}
 use Rattle.memory.proofs.Splice.{length-splice, block_same, block_other}
-use Rattle.machine.specs.Lists.{if◌then◌else◌}
+use Rattle.std.specs.Prelude.{if◌then◌else◌}
 use Rattle.machine.specs.Maps.{odd, half}
 use Rattle.machine.proofs.Tests.{by_test}
 use Rattle.channel.specs.declared.Channel.{Channel}

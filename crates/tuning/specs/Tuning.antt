@@ -10,11 +10,10 @@
 --                          retuned; and where a is a write's numbers, struct and table stand for the state in which they are so
 --   tuned_of r how ms       the machine's rule: the write in progress at each channel that matches retuned, with the numbers that ms
 --                          carries
-use Rattle.std.specs.Prelude.{ℕ, ◌*◌, ◌<◌, ◌≡◌, true, false, List, [], ◌∷◌, ◌++◌, get_or}
+use Rattle.std.specs.Prelude.{ℕ, ◌*◌, ◌<◌, ◌≡◌, true, false, List, [], ◌∷◌, ◌++◌, get_or, if◌then◌else◌}
 use Rattle.memory.specs.Splice.{splice, block}
 use Rattle.table.specs.Entry.{head_bytes, padded, key_in, list_in, number_bytes}
 use Rattle.machine.specs.Numbers.{CMD_WRITE}
-use Rattle.machine.specs.Lists.{if◌then◌else◌}
 use Rattle.machine.specs.State.{Write, State as StateM, Outcome as OutcomeM, with_channels}
 use Rattle.machine.specs.Maps.{odd, half, change}
 use Rattle.machine.specs.Commands.{period_in, volume_in, on_front, each_change}

@@ -9,7 +9,8 @@ use native.Mathlib.Omega.{arith}
 use lib.Dec.{T, T_not, eqb, eqb→eq, ltb, ltb→lt, not_T}
 use lib.ListN.{length}
 use Rattle.machine.specs.Numbers.{synced}
-use Rattle.machine.specs.Lists.{all, if◌then◌else◌, keep}
+use Rattle.std.specs.Prelude.{if◌then◌else◌}
+use Rattle.machine.specs.Lists.{all, keep}
 use Rattle.machine.specs.State.{ABORT, CLOSE, COMMAND, Call, Channel, EVENT, Lock, OPEN, Op, Outcome, Reply, State, free}
 use Rattle.machine.specs.Maps.{at, bit, change, half, lowest, minus, named, odd}
 use Rattle.machine.specs.Granting.{cut, on_channels}

@@ -9,7 +9,8 @@ use mathlib.Core.List.{[]}
 use native.Mathlib.Omega.{arith}
 use lib.Dec.{T, eqb, eqb→eq, leb, leb→le, ltb}
 use lib.ListN.{length, length-map}
-use Rattle.machine.specs.Lists.{all, if◌then◌else◌, among}
+use Rattle.std.specs.Prelude.{if◌then◌else◌}
+use Rattle.machine.specs.Lists.{all, among}
 use Rattle.machine.specs.State.{ABORT, CLOSE, COMMAND, Call, EVENT, Event, OPEN, Op, State}
 use Rattle.machine.specs.Maps.{at, lowest}
 use Rattle.machine.specs.Commands.{do_abort, do_event, done, finished, flushed, reset, same, set_stop, silent}

@@ -7,7 +7,8 @@ use mathlib.Core.Bool.{Bool, ◌&&◌, ◌||◌, false, not, true}
 use mathlib.Core.List.{List, [], ◌++◌, ◌∷◌, map}
 use lib.Dec.{T, T_not, eqb, lt→ltb, ltb}
 use lib.ListN.{length, length-map}
-use Rattle.machine.specs.Lists.{all, any, if◌then◌else◌, keep}
+use Rattle.std.specs.Prelude.{if◌then◌else◌}
+use Rattle.machine.specs.Lists.{all, any, keep}
 use Rattle.machine.specs.State.{Call, Channel, Lock, Reply, State, free}
 use Rattle.machine.specs.Maps.{bit, change, half, meets, minus, named, odd}
 use Rattle.machine.specs.Granting.{cut, dropped, on_channels}

@@ -14,7 +14,8 @@ use mathlib.Core.Bool.{Bool, ◌&&◌, ◌||◌, false, not, true}
 use mathlib.Core.List.{List, [], ◌∷◌, map}
 use lib.Dec.{T, T_not, eqb, eqb→eq, leb}
 use Rattle.machine.specs.Numbers.{ADCMD_ALLOCATE, ADCMD_FREE, ADCMD_SETPREC}
-use Rattle.machine.specs.Lists.{all, among, if◌then◌else◌}
+use Rattle.std.specs.Prelude.{if◌then◌else◌}
+use Rattle.machine.specs.Lists.{all, among}
 use Rattle.machine.specs.State.{COMMAND, Call, Channel, Lock, Op, Outcome, Reply, State, free}
 use Rattle.machine.specs.Commands.{matching}
 use Rattle.machine.specs.Kinds.{ALLOCATE, CLEAR, FLUSH, FREE, Kind, LOCK, READ, RESET, SETPREC, START, STOP, FINISH, PERVOL, WAITCYCLE, UNKNOWN, UPDATE, WRITE, kind}

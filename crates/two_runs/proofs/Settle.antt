@@ -10,7 +10,8 @@ use native.Mathlib.Omega.{arith}
 use lib.Dec.{T, eqb, eqb→eq, leb, leb→le, ltb}
 use lib.ListN.{length, length-map}
 use Rattle.machine.specs.Numbers.{ALLOCFAILED, CHANNELSTOLEN}
-use Rattle.machine.specs.Lists.{all, any, if◌then◌else◌, keep, among}
+use Rattle.std.specs.Prelude.{if◌then◌else◌}
+use Rattle.machine.specs.Lists.{all, any, keep, among}
 use Rattle.machine.specs.State.{Channel, Lock, Reply, Request, State}
 use Rattle.machine.specs.Maps.{at, change, lowest, meets, named}
 use Rattle.machine.specs.Choosing.{Look, fails, grants, held, look}

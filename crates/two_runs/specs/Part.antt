@@ -7,8 +7,8 @@
 --   our_write, their_write p w   a write has an id of the party's; has none
 --   fitting p c        a channel with K is at P or more and has writes of the party's alone; another has none of them
 --   lower p r          a waiting allocation is at most P, without K and without an id of the party's
-use Rattle.std.specs.Prelude.{List, [], ◌∷◌, map, Bool, ◌&&◌, not, eqb, leb}
-use Rattle.machine.specs.Lists.{keep, all, if◌then◌else◌}
+use Rattle.std.specs.Prelude.{List, [], ◌∷◌, map, Bool, ◌&&◌, not, eqb, leb, if◌then◌else◌}
+use Rattle.machine.specs.Lists.{keep, all}
 use Rattle.machine.specs.State.{Lock, State, Channel, Request, Write}
 use Rattle.two_runs.specs.TwoRuns.{Party, mask, holds}
 

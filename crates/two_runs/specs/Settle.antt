@@ -5,8 +5,8 @@
 --   own_lock p cs l         one with K is such and has an id of the party's; another has none of them
 --   FoundCalm p cs f       whom a walk grants takes no channel with K, and is none of the party
 --   WalkCalm p cs n ls w   what a walk from the locks ls does: such a grant or none, no reply to the party, and its locks as they were
-use Rattle.std.specs.Prelude.{◌^◌, ◌≤◌, ℕ, ◌≡◌, Bool, ◌&&◌, not, List, [], T, eqb, ltb, length}
-use Rattle.machine.specs.Lists.{all, if◌then◌else◌}
+use Rattle.std.specs.Prelude.{◌^◌, ◌≤◌, ℕ, ◌≡◌, Bool, ◌&&◌, not, List, [], T, eqb, ltb, length, if◌then◌else◌}
+use Rattle.machine.specs.Lists.{all}
 use Rattle.machine.specs.State.{Channel, Lock}
 use Rattle.machine.specs.Maps.{named}
 use Rattle.machine.specs.Settling.{Found, Walk, nobody, somebody}

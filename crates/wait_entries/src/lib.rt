@@ -1,10 +1,10 @@
 // The entry of a waiting request. Assumes nothing.
 #![tactic(auto)]
 
-ghost use Rattle.std.specs.Prelude.{◌≡◌, ◌+◌, ◌≤◌, ◌<◌, ltb, length, get_or};
+ghost use Rattle.std.specs.Prelude.{◌≡◌, ◌+◌, ◌≤◌, ◌<◌, ltb, length, get_or, if◌then◌else◌};
 ghost use Rattle.memory.specs.Splice.{block};
 ghost use Rattle.table.specs.Entry.{wait_entry};
-ghost use Rattle.machine.specs.Lists.{if◌then◌else◌, all};
+ghost use Rattle.machine.specs.Lists.{all};
 ghost use Rattle.store.specs.Store.{request_in};
 ghost use Rattle.entries.specs.Entries.{same as same_m, wait_test};
 

@@ -11,7 +11,7 @@ use native.Mathlib.Nat.{zero-add, add-zero}
 use borrow.Author.Tests.{leb-true, le-leb, leb-false}
 use lib.Dec.{T, leb, leb→le, eqb}
 use lib.ListN.{length, take, drop, length-append, length-drop, length-map}
-use Rattle.machine.specs.Lists.{if◌then◌else◌}
+use Rattle.std.specs.Prelude.{if◌then◌else◌}
 use Rattle.machine.specs.State.{State as StateM, Call}
 use Rattle.machine.specs.Log.{unhex, frame, feed}
 use Rattle.display.specs.Display.{displayed_by, display_lines}

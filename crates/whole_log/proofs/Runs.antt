@@ -7,7 +7,7 @@ use native.Mathlib.Omega.{arith}
 use borrow.Author.Tests.{eqb-true, le-leb}
 use lib.Dec.{T, eqb}
 use lib.ListN.{length, take, drop, length-drop}
-use Rattle.machine.specs.Lists.{if◌then◌else◌}
+use Rattle.std.specs.Prelude.{if◌then◌else◌}
 use Rattle.machine.specs.State.{fresh_on}
 use Rattle.display.specs.Display.{blank}
 use Rattle.machine.proofs.Tests.{if_elim, test_true}

@@ -10,7 +10,7 @@ use borrow.Author.Tests.{eqb-true, eqb-false}
 use lib.Dec.{T, eqb}
 use lib.ListN.{length, take, drop, drop_of_length-le, length-append}
 use lib.Seq.{take_at, drop-drop, length-take-le}
-use Rattle.machine.specs.Lists.{if◌then◌else◌}
+use Rattle.std.specs.Prelude.{if◌then◌else◌}
 use Rattle.machine.specs.State.{State as StateM, frees, fresh_on}
 use Rattle.machine.specs.Log.{Fed as FedM, lines, feed, run, log}
 use Rattle.display.specs.Display.{blank, displayed_by}

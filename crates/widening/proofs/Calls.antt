@@ -10,7 +10,8 @@ use native.Mathlib.Nat.{pow-le-pow_right}
 use lib.Dec.{T, eqb, leb, ltb, leb→le, le→leb, ltb→lt, lt→ltb}
 use lib.ListN.{length}
 use Rattle.machine.specs.Numbers.{ALLOCFAILED, NONE, CYCLES, CMD_WRITE}
-use Rattle.machine.specs.Lists.{if◌then◌else◌, all, any, among}
+use Rattle.std.specs.Prelude.{if◌then◌else◌}
+use Rattle.machine.specs.Lists.{all, any, among}
 use Rattle.machine.specs.State.{Channel, Lock, Request, State, Reply, Outcome, Call, Op, OPEN, CLOSE, ABORT, EVENT, COMMAND, free}
 use Rattle.machine.specs.Maps.{lowest, named, at}
 use Rattle.machine.specs.Sound.{sound_lock, sound_request, ids, sound}

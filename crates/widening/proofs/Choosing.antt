@@ -6,7 +6,8 @@ use mathlib.Core.List.{List, [], ◌∷◌}
 use lib.Dec.{T, ltb, ltb→lt}
 use lib.ListN.{length}
 use lib.Pow.{pow_pos}
-use Rattle.machine.specs.Lists.{if◌then◌else◌, all}
+use Rattle.std.specs.Prelude.{if◌then◌else◌}
+use Rattle.machine.specs.Lists.{all}
 use Rattle.machine.specs.State.{Channel, is_free}
 use Rattle.machine.specs.Maps.{named}
 use Rattle.machine.specs.Choosing.{Choice, none, chosen, Look, fails, held, grants, takeable, eligible, all_free, costs_less, first_free, cheaper, cheapest, or_else, choose, standing, look}

@@ -6,7 +6,8 @@ use mathlib.Core.List.{List, [], ◌∷◌, ◌++◌, map}
 use lib.Dec.{T, eqb, ltb, ltb→lt}
 use lib.ListN.{length, length-map}
 use Rattle.machine.specs.Numbers.{nowait, synced, NOALLOCATION, NONE, ALLOCFAILED}
-use Rattle.machine.specs.Lists.{if◌then◌else◌, all, keep}
+use Rattle.std.specs.Prelude.{if◌then◌else◌}
+use Rattle.machine.specs.Lists.{all, keep}
 use Rattle.machine.specs.State.{Channel, Lock, Request, State, Reply, Answer, Outcome, Event, CYCLE_ENDED, GAVE_UP, Call, free, with_channels, with_locks, with_waiters, frees}
 use Rattle.machine.specs.Maps.{minus, lowest, named, change, at}
 use Rattle.machine.specs.Choosing.{Look, fails, held, grants, look}

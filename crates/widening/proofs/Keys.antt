@@ -8,7 +8,8 @@ use native.Mathlib.Omega.{arith}
 use native.Mathlib.Nat.{zero-add, suc-add}
 use lib.Dec.{T, T_not, eqb, ltb, ltb→lt}
 use lib.ListN.{length}
-use Rattle.machine.specs.Lists.{if◌then◌else◌, among, any, keep}
+use Rattle.std.specs.Prelude.{if◌then◌else◌}
+use Rattle.machine.specs.Lists.{among, any, keep}
 use Rattle.machine.specs.State.{Channel, Lock, Request, State, Reply, frees, with_waiters}
 use Rattle.machine.specs.Maps.{change}
 use Rattle.machine.specs.Granting.{after, in_use, first_unused, new_key, key_for, last_for, on_channels, given_up, cut, cut_replies, dropped, taken, granted}

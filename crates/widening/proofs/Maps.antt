@@ -7,7 +7,7 @@ use native.Mathlib.Omega.{arith}
 use native.Mathlib.Nat.{pow-suc, zero-add, suc-add}
 use lib.Dec.{T, T_not, eqb, eqb→eq}
 use lib.ListN.{length, length-append}
-use Rattle.machine.specs.Lists.{if◌then◌else◌}
+use Rattle.std.specs.Prelude.{if◌then◌else◌}
 use Rattle.machine.specs.State.{Channel, Reply, free, is_free, frees}
 use Rattle.machine.specs.Maps.{odd, half, bit, minus, meets, lowest, named, change, at}
 use Rattle.machine.specs.Choosing.{highest, stolen}

@@ -7,7 +7,8 @@ use native.Mathlib.Omega.{arith}
 use native.Mathlib.Nat.{pow-suc, add-zero, zero-add, suc-add}
 use lib.Dec.{T, T_not, eqb, leb, ltb, leb→le, le→leb, ltb→lt, lt→ltb}
 use lib.ListN.{length}
-use Rattle.machine.specs.Lists.{if◌then◌else◌, all, distinct}
+use Rattle.std.specs.Prelude.{if◌then◌else◌}
+use Rattle.machine.specs.Lists.{all, distinct}
 use Rattle.machine.specs.State.{Channel, Lock, Request, State, free, frees}
 use Rattle.machine.specs.Maps.{odd, half, lowest, named}
 use Rattle.machine.specs.Sound.{sound_channel, sound_lock, sound_waiter, sound_request, writes_of, ids, sound}

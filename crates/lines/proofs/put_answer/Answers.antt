@@ -6,7 +6,7 @@ use native.Mathlib.Omega.{arith}
 use lib.ListN.{length-set}
 use Rattle.memory.specs.Splice.{splice}
 use Rattle.memory.proofs.Splice.{splice_snoc}
-use Rattle.machine.specs.Lists.{if◌then◌else◌}
+use Rattle.std.specs.Prelude.{if◌then◌else◌}
 use Rattle.machine.specs.Log.{line, answer_line}
 use Rattle.spelling.specs.Spelling.{digits}
 use Rattle.spelling.proofs.Laws.{runs_splice}
