@@ -187,7 +187,7 @@ kept_ids f i [] = refl
 kept_ids {A = A} f i (x ∷ xs) = go (not (eqb i (f x))) (kept_ids f i xs)
   where
     go : (b : Bool) → others i (map f xs) ≡ map f (keep (λ y. not (eqb i (f y))) xs)
-        → (if b then f x ∷ others i (map f xs) else others i (map f xs)) ≡ map f (if b then x ∷ keep (λ y. not (eqb i (f y))) xs else keep (λ y. not (eqb i (f y))) xs)
+        → (if b then f x ∷ others i (map f xs) else others i (map f xs)) ≡ map f (cond b (x ∷ keep (λ y. not (eqb i (f y))) xs) (keep (λ y. not (eqb i (f y))) xs))
     go true e = ap (λ (l : List ℕ). f x ∷ l) e
     go false e = e
 

@@ -3,10 +3,10 @@ use mathlib.Core.Path.{◌≡◌, refl, ap}
 use mathlib.Core.Bool.{Bool, true, false, not, ◌&&◌}
 use mathlib.Core.List.{List, [], ◌∷◌, map}
 use lib.Dec.{T}
-use Rattle.std.specs.Prelude.{if◌then◌else◌}
+use Rattle.std.specs.Prelude.{cond}
 use Rattle.machine.specs.Lists.{all, keep}
 
-pub if_out : {A : Type 0} {B : Type 0} (f : A → B) (b : Bool) (x y : A) → (if b then f x else f y) ≡ f (if b then x else y)
+pub if_out {ℓ κ} : {A : Type ℓ} {B : Type κ} (f : A → B) (b : Bool) (x y : A) → cond b (f x) (f y) ≡ f (cond b x y)
 if_out f true x y = refl
 if_out f false x y = refl
 
@@ -34,6 +34,6 @@ pub map_as {ℓ κ} : {A : Type ℓ} {B : Type κ} (f g : A → B) (xs : List A)
 map_as {A} {B} f g xs e = ap (λ (h : A → B). map h xs) (λ i x. e x i)
 
 -- two choices by one test agree where their cases do
-pub if_as : {A : Type 0} {B : Type 0} (f : A → B) (d : Bool) {x y : B} {u v : A} → (T d → x ≡ f u) → (T (not d) → y ≡ f v) → (if d then x else y) ≡ f (if d then u else v)
+pub if_as {ℓ κ} : {A : Type ℓ} {B : Type κ} (f : A → B) (d : Bool) {x y : B} {u v : A} → (T d → x ≡ f u) → (T (not d) → y ≡ f v) → cond d x y ≡ f (cond d u v)
 if_as f true p q = p tt
 if_as f false p q = q tt

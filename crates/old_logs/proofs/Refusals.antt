@@ -2,7 +2,7 @@
 use Prim.Native.Nat.{ℕ, suc}
 use native.Mathlib.Omega.{arith}
 use mathlib.Core.Path.{◌≡◌, refl, ap}
-use mathlib.Core.Bool.{Bool, true, false, not, ◌&&◌}
+use mathlib.Core.Bool.{Bool, true, false, not, ◌&&◌, cond}
 use mathlib.Core.List.{List, [], ◌∷◌}
 use lib.Dec.{T, eqb, eqb→eq, eqb_refl, leb}
 use lib.ListN.{length}
@@ -99,7 +99,7 @@ none_left : (ms : List ℕ) → T (eqb (length ms) 0) → ms ≡ []
 none_left [] t = refl
 none_left (m ∷ ms) t = let e : suc (length ms) ≡ 0 = eqb→eq (suc (length ms)) 0 t in absurd (omega arith)
 
-if_same : {A : Type 0} (b : Bool) (x : A) → (if b then x else x) ≡ x
+if_same {ℓ} : {A : Type ℓ} (b : Bool) (x : A) → cond b x x ≡ x
 if_same true x = refl
 if_same false x = refl
 

@@ -1,7 +1,7 @@
 -- Lists of which one desk keeps its own. Assumes nothing.
 
 use mathlib.Core.Path.{◌≡◌, refl, ap, sym, ◌∙◌}
-use mathlib.Core.Bool.{Bool, true, false}
+use mathlib.Core.Bool.{Bool, true, false, cond}
 use mathlib.Core.List.{List, [], ◌∷◌, map}
 use lib.Dec.{T}
 use Rattle.std.specs.Prelude.{if◌then◌else◌}
@@ -14,7 +14,7 @@ unfolding keep
 keep_map q p f e [] = refl
 keep_map {A} {B} q p f e (x ∷ xs) = go (q x) (e x) (keep_map q p f e xs)
   where
-    go : (b : Bool) → p (f x) ≡ b → keep p (map f xs) ≡ map f (keep q xs) → keep p (map f (x ∷ xs)) ≡ map f (if b then x ∷ keep q xs else keep q xs)
+    go : (b : Bool) → p (f x) ≡ b → keep p (map f xs) ≡ map f (keep q xs) → keep p (map f (x ∷ xs)) ≡ map f (cond b (x ∷ keep q xs) (keep q xs))
     go true h ih = rw (h, ih)
     go false h ih = rw (h, ih)
 
@@ -33,7 +33,7 @@ keep_in p q h [] = refl
 keep_in {A} p q h (x ∷ xs) = go (q x) (p x) refl (h x) (keep_in p q h xs)
   where
     go : (b a : Bool) → p x ≡ a → (T a → T b) → keep p (keep q xs) ≡ keep p xs
-        → keep p (if b then x ∷ keep q xs else keep q xs) ≡ (if a then x ∷ keep p xs else keep p xs)
+        → keep p (cond b (x ∷ keep q xs) (keep q xs)) ≡ cond a (x ∷ keep p xs) (keep p xs)
     go true a e f ih = rw (e, ih)
     go false true e f ih = absurd (f tt)
     go false false e f ih = ih

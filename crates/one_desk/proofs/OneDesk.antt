@@ -3,7 +3,7 @@
 -- Assumes nothing else.
 use Prim.Native.Nat.{ℕ}
 use mathlib.Core.Path.{◌≡◌, refl, ap, sym, subst, ◌∙◌}
-use mathlib.Core.Bool.{Bool, true, false, not, ◌||◌}
+use mathlib.Core.Bool.{Bool, true, false, not, ◌||◌, cond}
 use mathlib.Core.List.{List, [], ◌∷◌, ◌++◌, map, map-map}
 use lib.Dec.{T, eqb, eqb→eq, leb}
 use lib.ListN.{length}
@@ -36,7 +36,7 @@ module _ (d i : ℕ) (its : T (of_desk d i)) where
   among_kept {A} g (x ∷ xs) = go (of_desk d (g x)) refl (among_kept g xs)
     where
       go : (b : Bool) → of_desk d (g x) ≡ b → among i (map g (keep (λ x. of_desk d (g x)) xs)) ≡ among i (map g xs)
-          → among i (map g (if b then x ∷ keep (λ x. of_desk d (g x)) xs else keep (λ x. of_desk d (g x)) xs)) ≡ among i (map g (x ∷ xs))
+          → among i (map g (cond b (x ∷ keep (λ x. of_desk d (g x)) xs) (keep (λ x. of_desk d (g x)) xs))) ≡ among i (map g (x ∷ xs))
       go true e ih = ap (λ (b : Bool). eqb i (g x) || b) ih
       go false e ih = rw (eqb_false i (g x) (λ q. other (subst (λ (j : ℕ). T (of_desk d j)) q its))) ih
         where

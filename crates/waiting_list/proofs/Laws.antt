@@ -1,12 +1,11 @@
 -- How the list of who waits meets its promise, case by case; no second list fits; there are at most 64 records. Assumes nothing.
 use Prim.Native.Nat.{ℕ, ◌≤◌, ◌<◌}
-use mathlib.Core.Path.{◌≡◌, refl, ap, sym, subst, ◌∙◌}
+use mathlib.Core.Path.{◌≡◌, refl, sym, subst, ◌∙◌}
 use mathlib.Core.Bool.{Bool, true, false}
 use mathlib.Core.List.{List}
 use native.Mathlib.Omega.{arith}
-use lib.Dec.{T, T_not, leb, leb→le, nleb→lt}
+use lib.Dec.{T_not, leb, leb→le, nleb→lt}
 use lib.ListN.{length}
-use Rattle.machine.specs.Numbers.{UNSOUND, NOROOM}
 use Rattle.machine.proofs.Tests.{by_test, test_true}
 use Rattle.refusing.proofs.Laws.{false_true}
 use Rattle.board.specs.declared.Board.{Board}
