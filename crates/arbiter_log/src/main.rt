@@ -11,7 +11,11 @@ ghost use Rattle.board.specs.Board.{sized, Held};
 ghost use Rattle.arbiter_log.specs.Desk.{Ready};
 
 use board::Board;
+use std::env::Env;
+use std::io::{Read, Write};
 use taking::Show;
+
+const STDERR: i32 = 2;
 
 // The descriptor that ./arbiter-log opens, where it has the file.
 const SAVED: i32 = 4;
@@ -41,18 +45,21 @@ struct Turned {
 }
 
 // The first n bytes of the page. Whether they were written.
-fn write(page: &[u8], n: usize) -> bool
+fn write(rt: &HostRuntime, page: &[u8], n: usize) -> bool
     requires { n ≤ length page.now }
 {
-    let ok = io::write_all(libc::STDOUT_FILENO, &page[..n]);
-    if !ok {
-        os::fail(b"write");
+    match rt.stdout().write_all(&page[..n]) {
+        Ok(()) => true,
+        Err(e) => {
+            let _ = eprintln!(rt; "write: {e}");
+            false
+        }
     }
-    ok
 }
 
 // All of a lump, page by page.
 fn lump(
+    rt: &HostRuntime,
     show: Show,
     desk: Desk,
     state: &mut [u8],
@@ -80,7 +87,7 @@ fn lump(
             page,
             0,
         );
-        let ok = write(page, t.at);
+        let ok = write(rt, page, t.at);
         d = Desk { line: t.line, ok };
         if !ok {
             return d;
@@ -92,6 +99,7 @@ fn lump(
 
 // Reads once, and writes all that comes of it.
 fn turn(
+    rt: &HostRuntime,
     show: Show,
     d: Desk,
     state: &mut [u8],
@@ -104,27 +112,28 @@ fn turn(
     requires { Ready d state.old table.old display.old page.old }
     ensures { Ready result.desk state.new table.new display.new page.new }
 {
-    let got = libc::read(libc::STDIN_FILENO, input);
     // no bytes are the end of the log; an error is not, so what stands of a line is not answered
-    if got < 0 {
-        os::fail(b"read");
-        let failed = Desk {
-            line: d.line,
-            ok: false,
-        };
-        return Turned {
-            desk: failed,
-            more: false,
-        };
-    }
-    let k = io::count(got, input);
+    let k = match rt.stdin().read(input) {
+        Ok(k) => k,
+        Err(e) => {
+            let _ = eprintln!(rt; "read: {e}");
+            let failed = Desk {
+                line: d.line,
+                ok: false,
+            };
+            return Turned {
+                desk: failed,
+                more: false,
+            };
+        }
+    };
     if k == 0 {
         return Turned {
             desk: d,
             more: false,
         };
     }
-    let e = lump(show, d, state, line, &input[..k], table, display, page);
+    let e = lump(rt, show, d, state, line, &input[..k], table, display, page);
     Turned {
         desk: e,
         more: e.ok,
@@ -133,6 +142,7 @@ fn turn(
 
 // A proved loop has to end, and nothing says that an input does. So the turns are counted down, from a number that no run uses up.
 fn turns(
+    rt: &HostRuntime,
     show: Show,
     desk: Desk,
     state: &mut [u8],
@@ -148,7 +158,7 @@ fn turns(
     let mut d = desk;
     let mut left = u64::MAX;
     while left > 0 {
-        let t = turn(show, d, state, line, input, table, display, page);
+        let t = turn(rt, show, d, state, line, input, table, display, page);
         let e = t.desk;
         d = e;
         if !t.more {
@@ -161,6 +171,7 @@ fn turns(
 
 // The log has ended: what stands of a last line is answered.
 fn last(
+    rt: &HostRuntime,
     show: Show,
     d: Desk,
     state: &mut [u8],
@@ -177,7 +188,7 @@ fn last(
     }
     let n = d.line;
     let t = finishing::finish(show, state, line, n, table, display, page, 0);
-    let ok = write(page, t.at);
+    let ok = write(rt, page, t.at);
     Desk { line: t.line, ok }
 }
 
@@ -185,7 +196,7 @@ fn last(
 fn saved(text: &[u8]) {
     let ok = io::write_all(SAVED, text);
     if !ok {
-        os::fail(b"save");
+        io::write_all(STDERR, b"save: the text could not be written\n");
     }
 }
 
@@ -208,11 +219,11 @@ fn keep2(b: Board, table: &[u8])
 }
 
 // How many channels the board has.
-fn width() -> u8
+fn width(rt: &HostRuntime) -> u8
     ensures { T (sized result) }
 {
     let mut word = [0u8; 2];
-    let n = os::arg(1, &mut word);
+    let n = rt.arg(1, &mut word).unwrap_or(0);
     if n != 1 {
         return Board::FOUR;
     }
@@ -232,9 +243,10 @@ fn has(word: &[u8; 5], letter: u8) -> bool {
 }
 
 // What the second word asks for.
-fn words() -> Asked {
+fn words(rt: &HostRuntime) -> Asked {
     let mut word = [0u8; 5];
-    os::arg(2, &mut word);
+    // of a longer word the first five letters stand there
+    let _ = rt.arg(2, &mut word);
     let c = has(&word, b'c');
     let d = has(&word, b'd');
     let show = Show {
@@ -252,14 +264,14 @@ fn words() -> Asked {
     }
 }
 
-fn main() {
-    let a = words();
-    let w = width();
+fn main(rt: HostRuntime) {
+    let a = words(&rt);
+    let w = width(&rt);
     let mut table = [0u8; audio::TABLE_SIZE];
     let mut display = [0u8; audio::DISPLAY_SIZE];
     let f = beginning::begin(a.load, a.second, w, &mut table, &mut display);
     if !f.ok {
-        io::write_all(libc::STDERR_FILENO, b"the text is refused\n");
+        io::write_all(STDERR, b"the text is refused\n");
         return;
     }
     let s = f.board;
@@ -271,6 +283,7 @@ fn main() {
     let mut input = io::large_buffer();
     let mut page = io::large_buffer();
     let e = turns(
+        &rt,
         show,
         d,
         &mut state,
@@ -281,6 +294,7 @@ fn main() {
         &mut page,
     );
     let z = last(
+        &rt,
         show,
         e,
         &mut state,
