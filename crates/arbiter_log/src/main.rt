@@ -31,7 +31,7 @@ struct Asked {
 
 // What is kept from lump to lump of input, beside the state in its bytes. `line` is how much of a line stands that has not ended; `ok` is
 // whether all was read and written so far.
-#[derive(Drop)]
+#[derive(Clone, Copy)]
 struct Desk {
     line: usize,
     ok: bool,
