@@ -12,10 +12,14 @@ ghost use Rattle.arbiter_log.specs.Desk.{Ready};
 
 use board::Board;
 use std::env::Env;
-use std::io::{Read, Write};
+use std::io::{ErrorKind, Read, Write};
+use std::process::ExitCode;
 use taking::Show;
 
 const STDERR: i32 = 2;
+
+// The status where whoever reads the output has gone: that of a program which the signal SIGPIPE ends. Today's programs ignore the signal.
+const GONE: u8 = 141;
 
 // The descriptor that ./arbiter-log opens, where it has the file.
 const SAVED: i32 = 4;
@@ -44,14 +48,18 @@ struct Turned {
     more: bool,
 }
 
-// The first n bytes of the page. Whether they were written.
-fn write(rt: &HostRuntime, page: &[u8], n: usize) -> bool
+// The first n bytes of the page. Whether they were written. That whoever reads has gone is no failure to be told.
+fn write(rt: &HostRuntime, gone: &mut bool, page: &[u8], n: usize) -> bool
     requires { n ≤ length page.now }
 {
     match rt.stdout().write_all(&page[..n]) {
         Ok(()) => true,
         Err(e) => {
-            let _ = eprintln!(rt; "write: {e}");
+            if e.kind() == ErrorKind::BrokenPipe {
+                *gone = true;
+            } else {
+                let _ = eprintln!(rt; "write: {e}");
+            }
             false
         }
     }
@@ -60,6 +68,7 @@ fn write(rt: &HostRuntime, page: &[u8], n: usize) -> bool
 // All of a lump, page by page.
 fn lump(
     rt: &HostRuntime,
+    gone: &mut bool,
     show: Show,
     desk: Desk,
     state: &mut [u8],
@@ -87,7 +96,7 @@ fn lump(
             page,
             0,
         );
-        let ok = write(rt, page, t.at);
+        let ok = write(rt, gone, page, t.at);
         d = Desk { line: t.line, ok };
         if !ok {
             return d;
@@ -100,6 +109,7 @@ fn lump(
 // Reads once, and writes all that comes of it.
 fn turn(
     rt: &HostRuntime,
+    gone: &mut bool,
     show: Show,
     d: Desk,
     state: &mut [u8],
@@ -133,7 +143,18 @@ fn turn(
             more: false,
         };
     }
-    let e = lump(rt, show, d, state, line, &input[..k], table, display, page);
+    let e = lump(
+        rt,
+        gone,
+        show,
+        d,
+        state,
+        line,
+        &input[..k],
+        table,
+        display,
+        page,
+    );
     Turned {
         desk: e,
         more: e.ok,
@@ -143,6 +164,7 @@ fn turn(
 // A proved loop has to end, and nothing says that an input does. So the turns are counted down, from a number that no run uses up.
 fn turns(
     rt: &HostRuntime,
+    gone: &mut bool,
     show: Show,
     desk: Desk,
     state: &mut [u8],
@@ -158,7 +180,7 @@ fn turns(
     let mut d = desk;
     let mut left = u64::MAX;
     while left > 0 {
-        let t = turn(rt, show, d, state, line, input, table, display, page);
+        let t = turn(rt, gone, show, d, state, line, input, table, display, page);
         let e = t.desk;
         d = e;
         if !t.more {
@@ -172,6 +194,7 @@ fn turns(
 // The log has ended: what stands of a last line is answered.
 fn last(
     rt: &HostRuntime,
+    gone: &mut bool,
     show: Show,
     d: Desk,
     state: &mut [u8],
@@ -188,7 +211,7 @@ fn last(
     }
     let n = d.line;
     let t = finishing::finish(show, state, line, n, table, display, page, 0);
-    let ok = write(rt, page, t.at);
+    let ok = write(rt, gone, page, t.at);
     Desk { line: t.line, ok }
 }
 
@@ -264,7 +287,7 @@ fn words(rt: &HostRuntime) -> Asked {
     }
 }
 
-fn main(rt: HostRuntime) {
+fn main(rt: HostRuntime) -> ExitCode {
     let a = words(&rt);
     let w = width(&rt);
     let mut table = [0u8; audio::TABLE_SIZE];
@@ -272,7 +295,7 @@ fn main(rt: HostRuntime) {
     let f = beginning::begin(a.load, a.second, w, &mut table, &mut display);
     if !f.ok {
         io::write_all(STDERR, b"the text is refused\n");
-        return;
+        return ExitCode::SUCCESS;
     }
     let s = f.board;
     let mut state = [0u8; audio::STATE_SIZE];
@@ -282,8 +305,10 @@ fn main(rt: HostRuntime) {
     let mut line = [0u8; audio::LINE_SIZE];
     let mut input = io::large_buffer();
     let mut page = io::large_buffer();
+    let mut gone = false;
     let e = turns(
         &rt,
+        &mut gone,
         show,
         d,
         &mut state,
@@ -295,6 +320,7 @@ fn main(rt: HostRuntime) {
     );
     let z = last(
         &rt,
+        &mut gone,
         show,
         e,
         &mut state,
@@ -313,4 +339,8 @@ fn main(rt: HostRuntime) {
             }
         }
     }
+    if gone {
+        return ExitCode::from(GONE);
+    }
+    ExitCode::SUCCESS
 }

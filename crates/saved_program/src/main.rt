@@ -3,13 +3,16 @@
 // to say; what is read and written is the C library's.
 #![tactic(auto)]
 
-use std::io::Write;
+use std::io::{ErrorKind, Write};
 
 const STDIN: i32 = 0;
 
+// That whoever reads has gone is no failure to be told.
 fn say(rt: &HostRuntime, line: &[u8]) {
     if let Err(e) = rt.stdout().write_all(line) {
-        let _ = eprintln!(rt; "write: {e}");
+        if e.kind() != ErrorKind::BrokenPipe {
+            let _ = eprintln!(rt; "write: {e}");
+        }
     }
 }
 

@@ -5,7 +5,7 @@
 
 ghost use Rattle.std.specs.Prelude.{◌≤◌, length};
 
-use std::io::Write;
+use std::io::{ErrorKind, Write};
 
 const STDIN: i32 = 0;
 
@@ -33,9 +33,12 @@ fn pair(high: u8, low: u8) -> u8 {
     (digit(high) % 16) * 16 + digit(low) % 16
 }
 
+// That whoever reads has gone is no failure to be told.
 fn say(rt: &HostRuntime, line: &[u8]) {
     if let Err(e) = rt.stdout().write_all(line) {
-        let _ = eprintln!(rt; "write: {e}");
+        if e.kind() != ErrorKind::BrokenPipe {
+            let _ = eprintln!(rt; "write: {e}");
+        }
     }
 }
 

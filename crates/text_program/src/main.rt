@@ -10,15 +10,18 @@ ghost use Rattle.board.specs.Board.{sized};
 
 use board::Board;
 use std::env::Env;
-use std::io::Write;
+use std::io::{ErrorKind, Write};
 
 const STDIN: i32 = 0;
 
 const STDOUT: i32 = 1;
 
+// That whoever reads has gone is no failure to be told.
 fn say(rt: &HostRuntime, line: &[u8]) {
     if let Err(e) = rt.stdout().write_all(line) {
-        let _ = eprintln!(rt; "write: {e}");
+        if e.kind() != ErrorKind::BrokenPipe {
+            let _ = eprintln!(rt; "write: {e}");
+        }
     }
 }
 
