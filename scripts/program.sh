@@ -104,10 +104,19 @@ stale() {
     newer "$program"
 }
 
-# How many crates of this repository rt proves for one: itself and those that it stands on.
+# How many crates of this repository rt proves for one: itself and those that it stands on. A line names what its crate uses itself.
 crates_of() {
-    awk -v name="$1" -F '[ :]+' '{ listed[$1] = 1 } $1 == name { for (i = 2; i <= NF; i++) below[$i] = 1 }
-        END { n = 1; for (crate in below) n += (crate in listed); print n }' "$root/crates.txt"
+    awk -v name="$1" '
+        function take(crate,    part, n, i) {
+            if (!(crate in line) || crate in taken)
+                return
+            taken[crate] = ++count
+            n = split(line[crate], part, /[ :]+/)
+            for (i = 2; i <= n; i++)
+                take(part[i])
+        }
+        NF { crate = $1; sub(/:$/, "", crate); line[crate] = $0 }
+        END { take(name); print count + 0 }' "$root/crates.txt"
 }
 
 # rt_says WORD: what rt says under it. Under 'run' its lines go to standard error, and what the program writes to standard output.

@@ -1,7 +1,7 @@
 // The static library: every function of the crate `qamhudeer` under its own name, as C calls it, with the same promise. Assumes nothing.
 #![tactic(auto)]
 
-ghost use Rattle.std.specs.Prelude.{◌≡◌};
+ghost use Rattle.std.specs.Prelude.{◌≡◌, if◌then◌else◌};
 ghost use Rattle.qamhudeer.specs.Version.{VERSION};
 ghost use Rattle.image.specs.Image.{STATE, CHANNEL, LOCKS, WAITERS, WAITING, OPENS, LAST, CHANNELS};
 ghost use Rattle.display.specs.Display.{DISPLAY};
@@ -17,7 +17,6 @@ ghost use Rattle.loading2.specs.Loading2.{Loads2};
 ghost use Rattle.moving.specs.Moving.{MovesNew, MovesOld};
 ghost use Rattle.fragments.specs.Fragments.{Feeds};
 ghost use Rattle.last_line.specs.LastLine.{Ends};
-ghost use Rattle.machine.specs.Lists.{if◌then◌else◌};
 ghost use Rattle.stereo.specs.Stereo.{Listed, accepts};
 
 // ---- the version, sizes and places, for the header to be held against
