@@ -1,5 +1,5 @@
 /* A board's state carried to the bench: saved as a text, loaded elsewhere, and gone on with. Expected output: carry.out. Build:
- *   rt staticlib qamhudeer
+ *   scripts/library
  *   cc -std=c99 -Iinclude examples/carry.c target/staticlib/libqamhudeer.a -o carry */
 #include <stdio.h>
 #include <string.h>

@@ -1,6 +1,6 @@
 /* A desk and its driver: a message of three cycles, changed and waited for on the way, and messages that the driver gives up.
  * Expected output: cycles.out. Build:
- *   rt staticlib qamhudeer
+ *   scripts/library
  *   cc -std=c99 -Iinclude examples/cycles.c target/staticlib/libqamhudeer.a -o cycles */
 #include <stdio.h>
 

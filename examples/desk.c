@@ -1,6 +1,6 @@
 /* A desk on one board: it opens the device, gets two channels, locks one, writes, is stolen from, and frees what is left.
  * Expected output: desk.out. Build:
- *   rt staticlib qamhudeer
+ *   scripts/library
  *   cc -std=c99 -Iinclude examples/desk.c target/staticlib/libqamhudeer.a -o desk */
 #include <stdio.h>
 

@@ -1,5 +1,5 @@
 /* A desk on the eight-channel board, beside the same calls on a board of four. Expected output: eight.out. Build:
- *   rt staticlib qamhudeer
+ *   scripts/library
  *   cc -std=c99 -Iinclude examples/eight.c target/staticlib/libqamhudeer.a -o eight */
 #include <stdio.h>
 

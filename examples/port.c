@@ -1,6 +1,6 @@
 /* The service port: a log from standard input, answered on standard output, in fragments of a single byte. It keeps one line
  * and no more, whatever the log's length. Of second/sample.log it writes second/sample.out. Build:
- *   rt staticlib qamhudeer
+ *   scripts/library
  *   cc -std=c99 -Iinclude examples/port.c target/staticlib/libqamhudeer.a -o port */
 #include <stdio.h>
 

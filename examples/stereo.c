@@ -1,6 +1,6 @@
 /* A desk that wants stereo: one channel on the left and one on the right, whichever are to be had.
  * Expected output: stereo.out. Build:
- *   rt staticlib qamhudeer
+ *   scripts/library
  *   cc -std=c99 -Iinclude examples/stereo.c target/staticlib/libqamhudeer.a -o stereo */
 #include <stdio.h>
 

@@ -1,6 +1,6 @@
 /* Two desks on one board: A passes its key to B by hand, both play under it, and a steal replies to both.
  * Expected output: two_desks.out. Build:
- *   rt staticlib qamhudeer
+ *   scripts/library
  *   cc -std=c99 -Iinclude examples/two_desks.c target/staticlib/libqamhudeer.a -o two_desks */
 #include <stdio.h>
 

@@ -1,5 +1,5 @@
 /* The wall display: for the duty managers, the load of each channel and who waits. Expected output: wall.out. Build:
- *   rt staticlib qamhudeer
+ *   scripts/library
  *   cc -std=c99 -Iinclude examples/wall.c target/staticlib/libqamhudeer.a -o wall */
 #include <stdio.h>
 

@@ -27,10 +27,14 @@ install_packages() {
     { $as apt-get update && $as env DEBIAN_FRONTEND=noninteractive apt-get install -y "$@"; } >/dev/null 2>&1 </dev/null
 }
 
-# A folder counts too: its time is that of the last file added to it or taken away.
 old_library() {
     [ -f "$library" ] || return 0
-    [ -n "$(cd "$root" && find crates.txt crates -name must-fail -prune -o -newer "$library" -print | head -n 1)" ]
+    newer "$library"
+}
+
+# The crate qamhudeer_c exports what the crate qamhudeer has. The archive that rt makes of it has the crate's name; here it has the library's.
+take_library() {
+    mkdir -p "$root/target/staticlib" && cp "$root/crates/qamhudeer_c/out/libqamhudeer_c.a" "$library.new" && mv -f "$library.new" "$library"
 }
 
 # The archive's time becomes that of the build's start, so that what is edited while rt runs counts as newer. Whoever has waited may
@@ -39,7 +43,7 @@ build_library() {
     [ "$1" = again ] || old_library || return 0
     complain "the library is proved and built, which may take minutes:"
     began=$(mktemp "$root/target/began.XXXXXX") || return
-    watched "$root/target/said-qamhudeer.log" staticlib qamhudeer && [ -f "$library" ]
+    watched "$root/target/said-qamhudeer.log" lib qamhudeer_c && take_library
     built=$?
     if [ $built -eq 0 ]; then
         touch -r "$began" "$library"

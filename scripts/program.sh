@@ -2,7 +2,10 @@
 #
 #   proved_program NAME  the program of this crate, proved and built where it is missing or older than what it is made from
 #   ready       the same of the log program. Where nothing has changed both are quick
-#   watched FILE WORDS  runs rt with these words; all that it says goes to FILE, and how far it is to standard error
+#   watched FILE WORD CRATE  runs rt with this word in the crate's folder; all that it says goes to FILE, and how far it is to standard
+#               error
+#   newer FILE  something of what is proved is newer than the file
+#   take_program NAME  puts the program that rt has built in its place, target/bin/NAME
 #   alone WHAT COMMAND  runs a command that runs rt; another script that does so in this tree waits, and says so
 #   log_options WORDS  the log program's options, checked; in log_words as the program takes them, with log_load, log_save, log_form
 #   carry       plays the log with what log_options has read, from a saved text or to one where it says so, and ends with the status: 1
@@ -85,20 +88,40 @@ has_kit() {
     return 1
 }
 
+# In crates.txt a crate's name ends at its colon, or at a space before the word staticlib.
 listed() {
-    grep -q "^$1:" "$root/crates.txt"
+    grep -q "^$1[ :]" "$root/crates.txt"
 }
 
-# A folder counts too: its time is that of the last file added to it or taken away.
+# A folder counts too: its time is that of the last file added to it or taken away. Not a crate's own, in which rt puts its out/.
+newer() {
+    [ -n "$(cd "$root" && find crates.txt crates \( -name must-fail -o -name out \) -prune -o \
+        \( ! -path 'crates/*' -o -path 'crates/*/*' -o -type f \) -newer "$1" -print | head -n 1)" ]
+}
+
 stale() {
     [ -x "$program" ] || return 0
-    [ -n "$(cd "$root" && find crates.txt crates -name must-fail -prune -o -newer "$program" -print | head -n 1)" ]
+    newer "$program"
 }
 
-# How many crates of this repository rt proves for one: itself and those that it stands on.
+# How many crates of this repository rt proves for one: itself and those that it stands on. A line names what its crate uses itself.
 crates_of() {
-    awk -v name="$1:" '{ listed[$1] = 1 } $1 == name { for (i = 2; i <= NF; i++) below[$i ":"] = 1 }
-        END { n = 1; for (crate in below) n += (crate in listed); print n }' "$root/crates.txt"
+    awk -v name="$1" '
+        function take(crate,    part, n, i) {
+            if (!(crate in line) || crate in taken)
+                return
+            taken[crate] = ++count
+            n = split(line[crate], part, /[ :]+/)
+            for (i = 2; i <= n; i++)
+                take(part[i])
+        }
+        NF { crate = $1; sub(/:$/, "", crate); line[crate] = $0 }
+        END { take(name); print count + 0 }' "$root/crates.txt"
+}
+
+# rt_says WORD: what rt says under it. Under 'run' its lines go to standard error, and what the program writes to standard output.
+rt_says() {
+    if [ "$1" = run ]; then rt run 2>&1 >/dev/null; else rt "$1" 2>&1; fi
 }
 
 # rt's status is handed on through a file: a pipe has only its last command's.
@@ -107,11 +130,10 @@ watched() {
     shift
     on_terminal=0
     [ ! -t 2 ] || on_terminal=1
-    for last_word; do :; done
     {
-        (! in_memory || { TMPDIR=/dev/shm && export TMPDIR; }; cd "$root" && rt "$@") </dev/null 2>&1
+        (! in_memory || { TMPDIR=/dev/shm && export TMPDIR; }; cd "$root/crates/$2" && rt_says "$1") </dev/null
         echo $? >"$said_to.status"
-    } | tee "$said_to" | awk -v terminal=$on_terminal -v crates="$(crates_of "$last_word")" -f "$root/scripts/progress.awk" >&2
+    } | tee "$said_to" | awk -v terminal=$on_terminal -v crates="$(crates_of "$2")" -f "$root/scripts/progress.awk" >&2
     read -r rt_status <"$said_to.status"
     rm -f "$said_to.status"
     return "$rt_status"
@@ -131,6 +153,11 @@ alone() {
     ) 9>"$root/target/alone"
 }
 
+# take_program NAME: the program that rt has left in the crate's out/, in its place here.
+take_program() {
+    mkdir -p "$root/target/bin" && cp "$root/crates/$1/out/$1" "$root/target/bin/$1.new" && mv -f "$root/target/bin/$1.new" "$root/target/bin/$1"
+}
+
 # The program's time becomes that of the build's start. rt leaves an unchanged program as it is, whose own time may be
 # older than its sources'; and what is edited while rt runs must count as newer. Whoever has waited may find it built.
 build() {
@@ -141,7 +168,7 @@ build() {
         complain "the first use proves and builds the program, which takes minutes:"
     fi
     began=$(mktemp "$root/target/began.XXXXXX") && said=$root/target/said-$1.log || return
-    watched "$said" check "$1" && [ -x "$program" ]
+    watched "$said" run "$1" && take_program "$1"
     built=$?
     if [ $built -eq 0 ]; then
         touch -r "$began" "$program"
@@ -158,7 +185,7 @@ find_emulator() {
     [ "$(uname -m)" != x86_64 ] || return 0
     has_kit || return
     kit=$(rt doc) || return
-    kit=${kit%/docs/*}/on/$(uname -m)/toolchain
+    kit=${kit%/*}/on/$(uname -m)/toolchain
     emulator=$kit/bin/qemu-x86_64
     loader=$kit/lib/ld-linux-x86-64.so.2
     if [ ! -x "$emulator" ] || [ ! -x "$loader" ]; then

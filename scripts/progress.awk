@@ -9,17 +9,33 @@ BEGIN {
     began = seconds()
 }
 
-# Behind the names of what was proved, the prover's own counts and its notes on how a proof could be quicker tell a reader nothing here.
-/^(library|logic|linked|axioms) / || /^crate [^ ]*: modules/ || /^(fn|struct|enum) .*: proved$/ || /^logic=proved/ { next }
-/^[^ ]+:[0-9]+:[0-9]+: note: / { next }
+# Behind the names of what was proved, the prover's own counts and its notes on how a proof could be quicker tell a reader nothing here;
+# nor does what rt says of its own ways.
+/^(library|logic|linked|axioms|statements) / || /^(fn|struct|enum|impl) .*: proved$/ || /^checked .*, [0-9]+ of [0-9]+$/ { next }
+/^empty contracts: 0 found; / || /^only=[0-9]+ proved=/ || /^== [a-z0-9_]+(: its tests)?$/ || /^[^ ]+:[0-9]+:[0-9]+: note: / { next }
+/^rt: chose --jobs / || /^rt: [a-z0-9_]+: (begins with what|trying its must-fail edits)/ || /^rt: (nothing has changed|running out\/)/ { next }
 
+# rt ci says of each crate that it is proved, or kept from an earlier run. Where it proves for one crate, a crate ends with its counts.
+/^crate [a-z0-9_]+: modules/ { checked = substr($2, 1, length($2) - 1); next }
+/^logic=proved/ {
+    if (checked)
+        tell(sprintf("crate %d of %s: %s", ++proved, crates ? crates : "?", checked), "")
+    checked = ""
+    next
+}
 /^rt: [a-z0-9_]+ proved/ {
     tell(sprintf("crate %d of %s: %s", ++proved, crates ? crates : "?", $2), $0)
     next
 }
+/^rt: [a-z0-9_]+ is kept: / {
+    tell(sprintf("crate %d of %s: %s", ++proved, crates ? crates : "?", $2), "(unchanged")
+    next
+}
 
 /^rt: must-fail [^ ]+ refused/ {
-    tell(sprintf("edit %d of %s: %s is refused", ++tried, edits ? edits : "?", substr($3, 1, length($3) - 1)), $0)
+    place = $0
+    sub(/^.*refused, as it must be(: )?/, "", place)
+    tell(sprintf("edit %d of %s: %s is refused", ++tried, edits ? edits : "?", substr($3, 1, length($3) - 1)), place ? "(" place ")" : "")
     next
 }
 
@@ -33,18 +49,21 @@ END {
     clear()
 }
 
-# tell(WHAT, LINE): with what is left; then the seconds, and the place of a refusal's first error, that rt's line has in brackets.
+# tell(WHAT, LINE): with what is left; then what the line has in brackets: the place of a refusal's first error.
 function tell(what, line) {
     sub(/^[^(]*/, "", line)
     if (line ~ /^\(unchanged/)
         line = "(as before)"
     else
         line = rest(++worked) line
+    sub(/ +$/, "", line)
+    if (line != "")
+        what = what " " line
     if (terminal) {
-        printf "\r%-78.78s", what " " line
+        printf "\r%-78.78s", what
         shown = 1
     } else
-        print what, line
+        print what
     fflush()
 }
 

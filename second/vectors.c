@@ -632,107 +632,107 @@ struct Wish {
 };
 
 static const struct Wish wishes[] = {
-    {"reads-settle", 6, {CMD_READ}, read_settles, "READ is done, and the walk follows"},
-    {"reads-find", 4, {CMD_READ}, read_found,
+    {"reads_settle", 6, {CMD_READ}, read_settles, "READ is done, and the walk follows"},
+    {"reads_find", 4, {CMD_READ}, read_found,
      "READ answers the front write, which the walk may end"},
-    {"mismatches-settle", 8,
+    {"mismatches_settle", 8,
      {CMD_READ, CMD_WRITE, CMD_RESET, CMD_CLEAR, CMD_STOP, ADCMD_FREE, ADCMD_SETPREC,
       ADCMD_LOCK}, mismatch_settles, "-10, and the walk follows"},
-    {"clears-settle", 6, {CMD_CLEAR, CMD_UPDATE}, done_settles,
+    {"clears_settle", 6, {CMD_CLEAR, CMD_UPDATE}, done_settles,
      "CLEAR or UPDATE does nothing, and the walk follows"},
-    {"not-aborted-settles", 6, {CALL_ABORT}, not_aborted,
+    {"not_aborted_settles", 6, {CALL_ABORT}, not_aborted,
      "\"not aborted\", and the walk follows"},
-    {"aborted-settles", 4, {CALL_ABORT}, aborted, "ABORT ends one, and the walk follows"},
-    {"failed-settles", 6, {ADCMD_ALLOCATE}, failed_settles,
+    {"aborted_settles", 4, {CALL_ABORT}, aborted, "ABORT ends one, and the walk follows"},
+    {"failed_settles", 6, {ADCMD_ALLOCATE}, failed_settles,
      "ALLOCATE is answered -11, and the walk follows"},
-    {"failed-open-does-not", 6, {CALL_OPEN}, open_failed,
+    {"failed_open_does_not", 6, {CALL_OPEN}, open_failed,
      "OPEN is answered -11, and nothing is settled"},
-    {"walk-grants-its-own", 6, {ADCMD_ALLOCATE}, own_walk_grants,
+    {"walk_grants_its_own", 6, {ADCMD_ALLOCATE}, own_walk_grants,
      "ALLOCATE is answered as outstanding, and granted by the walk of its own call"},
-    {"walk-drops-its-own", 4, {ADCMD_ALLOCATE}, own_walk_drops,
+    {"walk_drops_its_own", 4, {ADCMD_ALLOCATE}, own_walk_drops,
      "ALLOCATE is answered as outstanding, and dropped by the walk of its own call"},
-    {"walk-aborts-its-own", 4, {CMD_WRITE}, own_walk_aborts,
+    {"walk_aborts_its_own", 4, {CMD_WRITE}, own_walk_aborts,
      "WRITE is answered as outstanding, and aborted by a steal of its own call"},
-    {"walk-steals-its-own", 4, {ADCMD_LOCK}, own_walk_steals,
+    {"walk_steals_its_own", 4, {ADCMD_LOCK}, own_walk_steals,
      "LOCK is answered as outstanding, and replied -12 by the walk of its own call"},
-    {"outstanding-settles", 4, {ADCMD_LOCK, CMD_WRITE, ADCMD_ALLOCATE}, outstanding_settles,
+    {"outstanding_settles", 4, {ADCMD_LOCK, CMD_WRITE, ADCMD_ALLOCATE}, outstanding_settles,
      "outstanding, and the walk follows"},
-    {"many-granted", 9,
+    {"many_granted", 9,
      {ADCMD_FREE, CALL_CLOSE, ADCMD_SETPREC, CMD_FLUSH, CMD_RESET, CMD_STOP, CMD_START,
       CALL_OPEN, ADCMD_ALLOCATE}, two_grants, "one walk grants two or more"},
-    {"events-settle", 4, {CALL_CYCLE_ENDED, CALL_GAVE_UP}, event_ends,
+    {"events_settle", 4, {CALL_CYCLE_ENDED, CALL_GAVE_UP}, event_ends,
      "an event meets a write, and the walk follows"},
-    {"empty-events-settle", 4, {CALL_CYCLE_ENDED, CALL_GAVE_UP}, event_idle,
+    {"empty_events_settle", 4, {CALL_CYCLE_ENDED, CALL_GAVE_UP}, event_idle,
      "an event finds nothing, and the walk follows"},
-    {"opens-settle", 4, {CALL_OPEN, CALL_CLOSE}, done_settles,
+    {"opens_settle", 4, {CALL_OPEN, CALL_CLOSE}, done_settles,
      "OPEN or CLOSE is done, and the walk follows"},
-    {"new-keys", 4, {CALL_OPEN, ADCMD_ALLOCATE}, two_new_keys,
+    {"new_keys", 4, {CALL_OPEN, ADCMD_ALLOCATE}, two_new_keys,
      "a new key for the call and one for the walk"},
-    {"closed-device", 2, {CMD_WRITE, CALL_CLOSE}, closed, "refused with 2: nothing is settled"},
-    {"foreign-closes", 2, {CALL_CLOSE}, foreign_close,
+    {"closed_device", 2, {CMD_WRITE, CALL_CLOSE}, closed, "refused with 2: nothing is settled"},
+    {"foreign_closes", 2, {CALL_CLOSE}, foreign_close,
      "CLOSE without an entry of its key: 2, and nothing is settled"},
-    {"oldest-closes", 3, {CALL_CLOSE}, oldest_close, "CLOSE removes the oldest of two entries"},
-    {"passed-openers", 4, {CALL_OPEN, ADCMD_ALLOCATE}, passes_opener,
+    {"oldest_closes", 3, {CALL_CLOSE}, oldest_close, "CLOSE removes the oldest of two entries"},
+    {"passed_openers", 4, {CALL_OPEN, ADCMD_ALLOCATE}, passes_opener,
      "a new key passes over one that only an opener has"},
-    {"outstanding-ids", 2, {CMD_WRITE, ADCMD_ALLOCATE}, id_outstanding,
+    {"outstanding_ids", 2, {CMD_WRITE, ADCMD_ALLOCATE}, id_outstanding,
      "refused with 3: nothing is settled"},
-    {"high-ids", 2, {CALL_ABORT, ADCMD_LOCK}, id_high, "refused with 4: nothing is settled"},
-    {"other-desks", 4, {CALL_ABORT, ADCMD_LOCK, CMD_READ, ADCMD_ALLOCATE}, of_other_desk,
+    {"high_ids", 2, {CALL_ABORT, ADCMD_LOCK}, id_high, "refused with 4: nothing is settled"},
+    {"other_desks", 4, {CALL_ABORT, ADCMD_LOCK, CMD_READ, ADCMD_ALLOCATE}, of_other_desk,
      "an id of the other desk's half: 8, and nothing is settled"},
-    {"no-desks", 2, {CALL_ABORT, CMD_WRITE}, of_no_desk, "neither desk A nor B: 8"},
-    {"other-desks-outstanding", 2, {CMD_CLEAR, CALL_ABORT}, other_outstanding, "8 before 3; and ABORT of the other's request"},
-    {"other-desks-closed", 1, {CMD_FLUSH}, other_closed, "8 before 2"},
-    {"other-desks-high", 2, {CALL_ABORT, CMD_STOP}, other_high, "4 before 8"},
-    {"any-desk", 4, {CALL_OPEN, CALL_CLOSE, CALL_CYCLE_ENDED, CALL_GAVE_UP}, any_desk, "OPEN, CLOSE and the events from any desk"},
-    {"reads-hidden", 4, {CMD_READ}, hidden_read, "READ answers 255 for the other desk's write"},
-    {"reads-own", 2, {CMD_READ}, own_read, "READ answers its own write, with the other desk's behind it"},
-    {"both-desks-told", 8, {CMD_FLUSH, ADCMD_FREE, CALL_CLOSE, CALL_OPEN, ADCMD_ALLOCATE, ADCMD_FINISH, CALL_CYCLE_ENDED, CALL_GAVE_UP},
+    {"no_desks", 2, {CALL_ABORT, CMD_WRITE}, of_no_desk, "neither desk A nor B: 8"},
+    {"other_desks_outstanding", 2, {CMD_CLEAR, CALL_ABORT}, other_outstanding, "8 before 3; and ABORT of the other's request"},
+    {"other_desks_closed", 1, {CMD_FLUSH}, other_closed, "8 before 2"},
+    {"other_desks_high", 2, {CALL_ABORT, CMD_STOP}, other_high, "4 before 8"},
+    {"any_desk", 4, {CALL_OPEN, CALL_CLOSE, CALL_CYCLE_ENDED, CALL_GAVE_UP}, any_desk, "OPEN, CLOSE and the events from any desk"},
+    {"reads_hidden", 4, {CMD_READ}, hidden_read, "READ answers 255 for the other desk's write"},
+    {"reads_own", 2, {CMD_READ}, own_read, "READ answers its own write, with the other desk's behind it"},
+    {"both_desks_told", 8, {CMD_FLUSH, ADCMD_FREE, CALL_CLOSE, CALL_OPEN, ADCMD_ALLOCATE, ADCMD_FINISH, CALL_CYCLE_ENDED, CALL_GAVE_UP},
      b_first, "replies to both desks, one of them to B before one to A"},
-    {"cuts-tell", 8, {CMD_RESET, CMD_FLUSH, ADCMD_FREE, ADCMD_FINISH, CALL_CLOSE, CALL_OPEN, ADCMD_ALLOCATE, CALL_ABORT}, cuts_waiters,
+    {"cuts_tell", 8, {CMD_RESET, CMD_FLUSH, ADCMD_FREE, ADCMD_FINISH, CALL_CLOSE, CALL_OPEN, ADCMD_ALLOCATE, CALL_ABORT}, cuts_waiters,
      "a front write ends otherwise than at its cycle's end: who waits for its cycle is replied -2"},
-    {"cuts-by-age", 3, {CMD_FLUSH, ADCMD_FREE, ADCMD_FINISH}, cuts_two, "who waits is told by age, and not by channel"},
-    {"cycles-tell", 3, {CALL_CYCLE_ENDED}, meets_waiters, "a cycle's end answers who waits, then goes to the write"},
-    {"cycles-counted", 2, {CALL_CYCLE_ENDED}, counted, "a cycle's end counts down"},
-    {"cycles-uncounted", 1, {CALL_CYCLE_ENDED}, endless, "an endless write is not counted down"},
-    {"cycles-tuned", 2, {CALL_CYCLE_ENDED}, tuned, "a remembered PERVOL is applied, and the write goes on"},
-    {"last-cycles", 1, {CALL_CYCLE_ENDED}, last_cycle, "the last cycle ends the write with 0"},
-    {"last-cycles-tuned", 1, {CALL_CYCLE_ENDED}, last_tuned, "the same with a PERVOL remembered"},
-    {"cycles-finished", 2, {CALL_CYCLE_ENDED}, finished, "a remembered FINISH ends the write with -2"},
-    {"last-cycles-finished", 1, {CALL_CYCLE_ENDED}, last_finished, "the same in the last cycle"},
-    {"given-up", 2, {CALL_GAVE_UP}, given_up, "the driver gave up: the write -2, then who waits for its cycle"},
-    {"given-up-before-others", 1, {CALL_GAVE_UP}, given_up_before, "the next write moves up"},
-    {"events-stopped", 2, {CALL_CYCLE_ENDED, CALL_GAVE_UP}, event_stopped, "an event on a stopped channel with a write"},
-    {"events-forget", 2, {CALL_CYCLE_ENDED, CALL_GAVE_UP}, drops_memory, "what is remembered goes with the write"},
-    {"fronts-aborted", 2, {CALL_ABORT}, front_aborted, "ABORT of the front write: then who waits for it"},
-    {"waiters-aborted", 2, {CALL_ABORT}, waiter_aborted, "ABORT of a WAITCYCLE"},
+    {"cuts_by_age", 3, {CMD_FLUSH, ADCMD_FREE, ADCMD_FINISH}, cuts_two, "who waits is told by age, and not by channel"},
+    {"cycles_tell", 3, {CALL_CYCLE_ENDED}, meets_waiters, "a cycle's end answers who waits, then goes to the write"},
+    {"cycles_counted", 2, {CALL_CYCLE_ENDED}, counted, "a cycle's end counts down"},
+    {"cycles_uncounted", 1, {CALL_CYCLE_ENDED}, endless, "an endless write is not counted down"},
+    {"cycles_tuned", 2, {CALL_CYCLE_ENDED}, tuned, "a remembered PERVOL is applied, and the write goes on"},
+    {"last_cycles", 1, {CALL_CYCLE_ENDED}, last_cycle, "the last cycle ends the write with 0"},
+    {"last_cycles_tuned", 1, {CALL_CYCLE_ENDED}, last_tuned, "the same with a PERVOL remembered"},
+    {"cycles_finished", 2, {CALL_CYCLE_ENDED}, finished, "a remembered FINISH ends the write with -2"},
+    {"last_cycles_finished", 1, {CALL_CYCLE_ENDED}, last_finished, "the same in the last cycle"},
+    {"given_up", 2, {CALL_GAVE_UP}, given_up, "the driver gave up: the write -2, then who waits for its cycle"},
+    {"given_up_before_others", 1, {CALL_GAVE_UP}, given_up_before, "the next write moves up"},
+    {"events_stopped", 2, {CALL_CYCLE_ENDED, CALL_GAVE_UP}, event_stopped, "an event on a stopped channel with a write"},
+    {"events_forget", 2, {CALL_CYCLE_ENDED, CALL_GAVE_UP}, drops_memory, "what is remembered goes with the write"},
+    {"fronts_aborted", 2, {CALL_ABORT}, front_aborted, "ABORT of the front write: then who waits for it"},
+    {"waiters_aborted", 2, {CALL_ABORT}, waiter_aborted, "ABORT of a WAITCYCLE"},
     {"later", 4, {ADCMD_FINISH, ADCMD_PERVOL}, remembers, "a synced FINISH or PERVOL is remembered"},
     {"tuned", 3, {ADCMD_PERVOL}, tunes_front, "PERVOL replaces the numbers of the front write"},
-    {"cycles-awaited", 2, {ADCMD_WAITCYCLE}, waits, "WAITCYCLE is outstanding"},
-    {"cycles-done", 2, {ADCMD_WAITCYCLE}, waits_not, "WAITCYCLE is done at once"},
-    {"walk-cuts-its-own", 2, {ADCMD_WAITCYCLE}, own_cut,
+    {"cycles_awaited", 2, {ADCMD_WAITCYCLE}, waits, "WAITCYCLE is outstanding"},
+    {"cycles_done", 2, {ADCMD_WAITCYCLE}, waits_not, "WAITCYCLE is done at once"},
+    {"walk_cuts_its_own", 2, {ADCMD_WAITCYCLE}, own_cut,
      "WAITCYCLE is answered as outstanding, and ended by a steal of its own call"},
-    {"bad-numbers", 4, {CMD_WRITE, ADCMD_PERVOL}, bad_length, "refused with -4 for its numbers: nothing is settled"},
-    {"no-commands", 2, {15, 0xF5}, no_command, "refused with -3: nothing is settled"},
-    {"bad-lengths", 2, {ADCMD_ALLOCATE, CALL_OPEN}, bad_length,
+    {"bad_numbers", 4, {CMD_WRITE, ADCMD_PERVOL}, bad_length, "refused with -4 for its numbers: nothing is settled"},
+    {"no_commands", 2, {15, 0xF5}, no_command, "refused with -3: nothing is settled"},
+    {"bad_lengths", 2, {ADCMD_ALLOCATE, CALL_OPEN}, bad_length,
      "refused with -4: nothing is settled"},
-    {"bad-addresses", 5, {ADCMD_ALLOCATE, CALL_OPEN, CMD_STOP, CALL_CYCLE_ENDED, CALL_GAVE_UP}, bad_address,
+    {"bad_addresses", 5, {ADCMD_ALLOCATE, CALL_OPEN, CMD_STOP, CALL_CYCLE_ENDED, CALL_GAVE_UP}, bad_address,
      "refused with -5: nothing is settled"},
-    {"no-more-opens", 2, {CALL_OPEN}, open_end, "OPEN at 32 entries: -1"},
-    {"short-lists", 2, {CMD_READ, CALL_OPEN}, short_list, "a reply list of 63 records: 5"},
-    {"unsound-states", SPOILS,
+    {"no_more_opens", 2, {CALL_OPEN}, open_end, "OPEN at 32 entries: -1"},
+    {"short_lists", 2, {CMD_READ, CALL_OPEN}, short_list, "a reply list of 63 records: 5"},
+    {"unsound_states", SPOILS,
      {CMD_READ, CALL_OPEN, CALL_ABORT, ADCMD_ALLOCATE, CALL_CLOSE, CALL_CYCLE_ENDED, CALL_GAVE_UP}, unsound,
      "a state that is not sound: 1"},
-    {"unsound-short-lists", 6, {CMD_READ, CALL_OPEN, CALL_CLOSE, CALL_ABORT, CALL_CYCLE_ENDED, CALL_GAVE_UP}, unsound_short, "1 before 5"},
-    {"short-lists-high-ids", 2, {CALL_ABORT, CMD_STOP}, short_high, "5 before 4"},
-    {"short-lists-closed", 2, {CALL_CLOSE, CMD_CLEAR}, short_closed, "5 before 2"},
-    {"short-lists-addresses", 4, {CALL_CYCLE_ENDED, CALL_GAVE_UP, CALL_OPEN, CMD_FLUSH}, short_address, "5 before -5"},
-    {"outstanding-closed", 2, {CMD_WRITE, ADCMD_ALLOCATE}, outstanding_closed, "3 before 2"},
-    {"closed-no-commands", 2, {15, 0xF5}, closed_unknown, "2 before -3"},
-    {"no-commands-addresses", 2, {15, 0xF5}, unknown_address, "-3 before -5"},
-    {"lengths-addresses", 2, {ADCMD_ALLOCATE, CALL_OPEN}, length_address, "-4 before -5"},
-    {"addresses-numbers", 2, {CMD_WRITE, ADCMD_PERVOL}, address_numbers, "-5 before the -4 for numbers"},
-    {"lengths-no-more-opens", 1, {CALL_OPEN}, length_full, "-4 before -1"},
-    {"addresses-no-more-opens", 1, {CALL_OPEN}, address_full, "-5 before -1"}
+    {"unsound_short_lists", 6, {CMD_READ, CALL_OPEN, CALL_CLOSE, CALL_ABORT, CALL_CYCLE_ENDED, CALL_GAVE_UP}, unsound_short, "1 before 5"},
+    {"short_lists_high_ids", 2, {CALL_ABORT, CMD_STOP}, short_high, "5 before 4"},
+    {"short_lists_closed", 2, {CALL_CLOSE, CMD_CLEAR}, short_closed, "5 before 2"},
+    {"short_lists_addresses", 4, {CALL_CYCLE_ENDED, CALL_GAVE_UP, CALL_OPEN, CMD_FLUSH}, short_address, "5 before -5"},
+    {"outstanding_closed", 2, {CMD_WRITE, ADCMD_ALLOCATE}, outstanding_closed, "3 before 2"},
+    {"closed_no_commands", 2, {15, 0xF5}, closed_unknown, "2 before -3"},
+    {"no_commands_addresses", 2, {15, 0xF5}, unknown_address, "-3 before -5"},
+    {"lengths_addresses", 2, {ADCMD_ALLOCATE, CALL_OPEN}, length_address, "-4 before -5"},
+    {"addresses_numbers", 2, {CMD_WRITE, ADCMD_PERVOL}, address_numbers, "-5 before the -4 for numbers"},
+    {"lengths_no_more_opens", 1, {CALL_OPEN}, length_full, "-4 before -1"},
+    {"addresses_no_more_opens", 1, {CALL_OPEN}, address_full, "-5 before -1"}
 };
 
 /* Draws states and calls until one meets the wish; its operations take turns. */
@@ -866,13 +866,13 @@ static void put_state(const struct Arbiter *a)
 
 static void put_call(void)
 {
-    static const char *const named[5] = {"OPEN", "CLOSE", "ABORT", "(EVENT CYCLE·ENDED)", "(EVENT GAVE·UP)"};
+    static const char *const named[5] = {"OPEN", "CLOSE", "ABORT", "(EVENT CYCLE_ENDED)", "(EVENT GAVE_UP)"};
 
     /* `asks` is of the desk that has the id. */
     if (call.desk == arbiter_desk(call.id))
         printf("(asks ");
     else
-        printf("(asksFrom %u ", call.desk);
+        printf("(asks_from %u ", call.desk);
     if (call.operation >= CALL_OPEN && call.operation <= CALL_GAVE_UP)
         printf("%s", named[call.operation - CALL_OPEN]);
     else
@@ -926,12 +926,12 @@ static void put_remark(void)
 /* One statement: a table of calls that belong together. */
 static void put_wish(const struct Wish *w)
 {
-    const char *board = CHANNELS == 4 ? "" : "-of-8";
+    const char *board = CHANNELS == 4 ? "" : "_of_8";
     unsigned count = CHANNELS == 4 ? w->count : 1;
 
     if (CHANNELS == 8 && wants_address(w->met))
         return;                             /* no byte is above 255 */
-    printf("\n-- %s\nabbrev pub %s%s-vectors : List Vector\n%s%s-vectors =\n", w->why,
+    printf("\n-- %s\nabbrev pub %s%s_vectors : List Vector\n%s%s_vectors =\n", w->why,
            w->name, board, w->name, board);
     for (unsigned i = 0; i < count; i++) {
         find(w, i);
@@ -944,7 +944,7 @@ static void put_wish(const struct Wish *w)
         put_outcome();
         printf("\n");
     }
-    printf("    ∷ []\n\npub %s%s : Computes %s%s-vectors\nunfolding machine\n%s%s = refl\n",
+    printf("    ∷ []\n\npub %s%s : Computes %s%s_vectors\nunfolding machine\n%s%s = refl\n",
            w->name, board, w->name, board, w->name, board);
 }
 
@@ -1023,7 +1023,7 @@ static void put_lines(const char *name, int shown)
 
     arbiter_fresh(&after, CHANNELS);
     memset(&display, 0, sizeof display);
-    printf("\nabbrev pub %s-lines : Talk\n%s-lines =\n    ", name, name);
+    printf("\nabbrev pub %s_lines : Talk\n%s_lines =\n    ", name, name);
     do {
         c = getchar();
         if (c != EOF && c != '\n') {
@@ -1053,15 +1053,15 @@ static void put_lines(const char *name, int shown)
 static void put_log(const char *name)
 {
     put_lines(name, 0);
-    printf("\npub %s : Answers %u %s-lines\nunfolding machine bytes page frees\n%s = refl\n", name, CHANNELS, name, name);
+    printf("\npub %s : Answers %u %s_lines\nunfolding machine bytes page frees\n%s = refl\n", name, CHANNELS, name, name);
 }
 
 static void put_shown(const char *name)
 {
     put_lines(name, 1);
-    printf("\npub %s : Shows %u %s-lines\n"
-           "unfolding machine bytes page frees shown beyond reached lookOn looksIn looks acting looksAfter lookedBy looked"
-           " names writesOn naming number numbersFrom corrected displayed displayedBy holds recordOf loadLine requestLines displayLines\n"
+    printf("\npub %s : Shows %u %s_lines\n"
+           "unfolding machine bytes page frees shown beyond reached look_on looks_in looks acting looks_after looked_by looked"
+           " names writes_on naming number numbers_from corrected displayed displayed_by holds record_of load_line request_lines display_lines\n"
            "%s = refl\n", name, CHANNELS, name, name);
 }
 
@@ -1078,16 +1078,16 @@ static void put_saved(const char *name, int form)
         fputs("vectors: the state has no saved text\n", stderr);
         exit(1);
     }
-    printf("\nabbrev pub %s-text : List String\n%s-text =\n    ", name, name);
+    printf("\nabbrev pub %s_text : List String\n%s_text =\n    ", name, name);
     for (const char *line = text; line < text + length; line = strchr(line, '\n') + 1)
         printf("\"%.*s\"\n    ∷ ", (int)strcspn(line, "\n"), line);
     if (form == 1)
-        printf("[]\n\npub %s : Keeps %s-lines %s-text\nunfolding machine bytes page text", name, name, name);
+        printf("[]\n\npub %s : Keeps %s_lines %s_text\nunfolding machine bytes page text", name, name, name);
     else
-        printf("[]\n\npub %s : Keeps2 %u %s-lines %s-text\n"
-               "unfolding machine bytes page frees names writesOn naming numberFrame numberFrames frames2 text2",
+        printf("[]\n\npub %s : Keeps2 %u %s_lines %s_text\n"
+               "unfolding machine bytes page frees names writes_on naming number_frame number_frames frames2 text2",
                name, CHANNELS, name, name);
-    printf(" kept channelFrame requestFrame spanFrame writeFrame writeFrames keyFrame frames spelt\n%s = refl\n", name);
+    printf(" kept channel_frame request_frame span_frame write_frame write_frames key_frame frames spelt\n%s = refl\n", name);
 }
 
 int main(int count, char **argument)

@@ -35,52 +35,50 @@ saved_vectors() {
 -- The texts have every kind of line: waiting requests with and without NOWAIT, locks and WAITCYCLEs of any age, writes of several
 -- channels, FINISH and PERVOL remembered, open keys. The first of a form and a board is a fresh board's.
 use Prim.Native.String.{String}
-use mathlib.Core.Path.{_≡_, refl}
-use mathlib.Core.List.{List, [], _∷_}
-use Prim.Native.Nat.{ℕ}
-use Rattle·machine.specs.Text.{bytes, page}
-use Rattle·machine.specs.State.{fresh, frees, freshOn}
-use Rattle·machine.specs.Log.{lines, run}
-use Rattle·machine.specs.Drawn.{Talk, given}
-use Rattle·machine.specs.Machine.{machine}
-use Rattle·display.specs.Display.{names, writesOn, naming}
-use Rattle·saved.specs.Saved.{text, kept, channelFrame, requestFrame, spanFrame, writeFrame, writeFrames, keyFrame, frames, spelt}
-use Rattle·saved2.specs.Saved2.{numberFrame, numberFrames, frames2, text2}
+use Rattle.std.specs.Prelude.{◌≡◌, refl, List, [], ◌∷◌, ℕ}
+use Rattle.machine.specs.Text.{bytes, page}
+use Rattle.machine.specs.State.{fresh, frees, fresh_on}
+use Rattle.machine.specs.Log.{lines, run}
+use Rattle.machine.specs.Drawn.{Talk, given}
+use Rattle.machine.specs.Machine.{machine}
+use Rattle.display.specs.Display.{names, writes_on, naming}
+use Rattle.saved.specs.Saved.{text, kept, channel_frame, request_frame, span_frame, write_frame, write_frames, key_frame, frames, spelt}
+use Rattle.saved2.specs.Saved2.{number_frame, number_frames, frames2, text2}
 
 abbrev pub Keeps : Talk → List String → Type 0
-Keeps t s = text (run fresh (lines (page (given t))) .next) ≡ page s
+Keeps t s = text (run fresh (lines (page (given t)))).next ≡ page s
 
 abbrev pub Keeps2 : ℕ → Talk → List String → Type 0
-Keeps2 w t s = text2 (run (freshOn w) (lines (page (given t))) .next) ≡ page s
+Keeps2 w t s = text2 (run (fresh_on w) (lines (page (given t)))).next ≡ page s
 
 -- ---- The first form
 HEAD
-    ./vectors saved fresh-board </dev/null || exit 1
-    saved of-everything 39 saved
-    saved of-everything-again 130 saved
-    saved of-cuts 77 cuts
-    saved of-cycles 95 cycles
-    saved of-desks 41 desks
-    saved of-locks 46 locks
-    saved of-nowait 39 nowait
-    saved of-many-waiting 13 display
-    saved of-opens 120 opens
-    saved of-many-writes 64 full
-    saved of-queues 77 queues
+    ./vectors saved fresh_board </dev/null || exit 1
+    saved of_everything 39 saved
+    saved of_everything_again 130 saved
+    saved of_cuts 77 cuts
+    saved of_cycles 95 cycles
+    saved of_desks 41 desks
+    saved of_locks 46 locks
+    saved of_nowait 39 nowait
+    saved of_many_waiting 13 display
+    saved of_opens 120 opens
+    saved of_many_writes 64 full
+    saved of_queues 77 queues
 
     printf '\n%s\n' '-- ---- The second form, of four channels'
-    ./vectors saved2 fresh-board-2 </dev/null || exit 1
-    saved2 of-everything-2 39 saved 4
-    saved2 of-cuts-2 77 cuts 4
-    saved2 of-many-waiting-2 13 display 4
+    ./vectors saved2 fresh_board_2 </dev/null || exit 1
+    saved2 of_everything_2 39 saved 4
+    saved2 of_cuts_2 77 cuts 4
+    saved2 of_many_waiting_2 13 display 4
 
     printf '\n%s\n' '-- ---- The second form, of eight channels'
-    ./vectors8 saved2 fresh-board-of-8 </dev/null || exit 1
-    saved2 of-everything-of-8 39 saved 8
-    saved2 of-cuts-of-8 77 cuts 8
-    saved2 of-desks-of-8 41 desks 8
-    saved2 of-locks-of-8 46 locks 8
-    saved2 of-many-waiting-of-8 13 display 8
+    ./vectors8 saved2 fresh_board_of_8 </dev/null || exit 1
+    saved2 of_everything_of_8 39 saved 8
+    saved2 of_cuts_of_8 77 cuts 8
+    saved2 of_desks_of_8 41 desks 8
+    saved2 of_locks_of_8 46 locks 8
+    saved2 of_many_waiting_of_8 13 display 8
 }
 if [ "${1:-}" = saved ]; then
     saved_vectors
@@ -102,32 +100,29 @@ cat <<'HEAD'
 -- Of the generated logs, lines that cannot be quoted here are left out: bytes that are not printable, and more than 600
 -- characters. The calls start from sound states that are not at rest, which no log reaches: a waiting request could be
 -- granted, or fails with NOWAIT, or has chosen a channel under an outstanding lock.
-use mathlib.Core.Path.{_≡_, refl}
-use mathlib.Core.Bool.{true, false}
-use mathlib.Core.List.{List, [], _∷_, _++_}
-use Prim.Native.Nat.{ℕ}
-use Rattle·machine.specs.State.{State, OPEN, CLOSE, ABORT, EVENT, CYCLE·ENDED, GAVE·UP, COMMAND, free, frees, freshOn}
-use Rattle·machine.specs.Text.{bytes, page}
-use Rattle·machine.specs.Log.{lines, unhex, frame, outcomeOf, told, run}
-use Rattle·machine.specs.Drawn.{Talk, given, written}
-use Rattle·machine.specs.Walks.{Vector, vector, Computes, plays, cuts, tunes, both, chan, lock, wait, stands, asks, asksFrom, reply, says, gets}
-use Rattle·machine.specs.Machine.{machine}
-use Rattle·display.specs.Looks.{beyond, reached, lookOn, looksIn, looks, acting, looksAfter, lookedBy, looked}
-use Rattle·display.specs.Display.{blank, names, writesOn, naming, number, numbersFrom, corrected, displayed, displayedBy, holds, recordOf, loadLine, requestLines, displayLines}
+use Rattle.std.specs.Prelude.{◌≡◌, refl, true, false, List, [], ◌∷◌, ◌++◌, ℕ}
+use Rattle.machine.specs.State.{State, OPEN, CLOSE, ABORT, EVENT, CYCLE_ENDED, GAVE_UP, COMMAND, free, frees, fresh_on}
+use Rattle.machine.specs.Text.{bytes, page}
+use Rattle.machine.specs.Log.{lines, unhex, frame, outcome_of, told, run}
+use Rattle.machine.specs.Drawn.{Talk, given, written}
+use Rattle.machine.specs.Walks.{Vector, vector, Computes, plays, cuts, tunes, both, chan, lock, wait, stands, asks, asks_from, reply, says, gets}
+use Rattle.machine.specs.Machine.{machine}
+use Rattle.display.specs.Looks.{beyond, reached, look_on, looks_in, looks, acting, looks_after, looked_by, looked}
+use Rattle.display.specs.Display.{blank, names, writes_on, naming, number, numbers_from, corrected, displayed, displayed_by, holds, record_of, load_line, request_lines, display_lines}
 
 abbrev pub Answers : ℕ → Talk → Type 0
-Answers w t = run (freshOn w) (lines (page (given t))) .output ≡ page (written t)
+Answers w t = (run (fresh_on w) (lines (page (given t)))).output ≡ page (written t)
 
 unfoldable pub shown : State → List ℕ → List (List ℕ) → List ℕ
 shown s d [] = []
 shown s d (l ∷ ls) =
     let c = frame (unhex l) in
-    let o = outcomeOf s c in
-    let e = displayedBy s c d in
-    told o ++ displayLines (o .next) e ++ shown (o .next) e ls
+    let o = outcome_of s c in
+    let e = displayed_by s c d in
+    told o ++ display_lines o.next e ++ shown o.next e ls
 
 abbrev pub Shows : ℕ → Talk → Type 0
-Shows w t = shown (freshOn w) blank (lines (page (given t))) ≡ page (written t)
+Shows w t = shown (fresh_on w) blank (lines (page (given t))) ≡ page (written t)
 
 -- ---- Logs: second/generate, one of each short style, and two of the mix, of the cycles and of the desks
 HEAD
@@ -140,41 +135,41 @@ shown() {
     ./generate "$2" 24 "$3" "$4" | "$(on "$4")" shown "$1" || exit 1
 }
 log mixed 1 mix
-log mixed-again 2 mix
-log of-locks 3 locks
-log of-nowait 4 nowait
-log of-queues 5 queues
-log of-many-writes 6 full
-log of-aborts 7 aborts
-log of-precedences 8 precedences
-log of-refusals 9 refusals
-log of-malformed-lines 10 malformed
-log of-lists 11 lists
-log of-bytes 12 bytes
-log of-ties 14 ties
-log of-opens 15 opens
-log of-cuts 39 cuts
-log of-cycles 48 cycles
-log of-cycles-again 1 cycles
-log of-desks 142 desks
-log of-desks-again 90 desks
+log mixed_again 2 mix
+log of_locks 3 locks
+log of_nowait 4 nowait
+log of_queues 5 queues
+log of_many_writes 6 full
+log of_aborts 7 aborts
+log of_precedences 8 precedences
+log of_refusals 9 refusals
+log of_malformed_lines 10 malformed
+log of_lists 11 lists
+log of_bytes 12 bytes
+log of_ties 14 ties
+log of_opens 15 opens
+log of_cuts 39 cuts
+log of_cycles 48 cycles
+log of_cycles_again 1 cycles
+log of_desks 142 desks
+log of_desks_again 90 desks
 
 printf '\n%s\n' '-- ---- Logs on a board of eight channels'
-log mixed-of-8 1 mix 8
-log of-locks-of-8 3 locks 8
-log of-nowait-of-8 4 nowait 8
-log of-lists-of-8 11 lists 8
-log of-ties-of-8 14 ties 8
-log of-cuts-of-8 39 cuts 8
-log of-cycles-of-8 48 cycles 8
-log of-desks-of-8 142 desks 8
+log mixed_of_8 1 mix 8
+log of_locks_of_8 3 locks 8
+log of_nowait_of_8 4 nowait 8
+log of_lists_of_8 11 lists 8
+log of_ties_of_8 14 ties 8
+log of_cuts_of_8 39 cuts 8
+log of_cycles_of_8 48 cycles 8
+log of_desks_of_8 142 desks 8
 
 printf '\n%s\n' '-- ---- Logs with the wall display, on both boards'
-shown mixed-shown 1 mix 4
-shown of-display-shown 13 display 4
-shown of-nowait-shown 4 nowait 4
-shown mixed-shown-of-8 1 mix 8
-shown of-display-shown-of-8 13 display 8
+shown mixed_shown 1 mix 4
+shown of_display_shown 13 display 4
+shown of_nowait_shown 4 nowait 4
+shown mixed_shown_of_8 1 mix 8
+shown of_display_shown_of_8 13 display 8
 
 printf '\n%s\n' '-- ---- Calls on a board of four channels'
 ./vectors calls 1 || exit 1

@@ -112,11 +112,11 @@ fi
 
 # ---- The prototypes: the header's are those of the functions that the library exports.
 
-# agrees HEADER: so many functions as there are names behind #[no_mangle], and each with the same words.
+# agrees HEADER: so many functions as there are names behind #[unsafe(no_mangle)], and each with the same words.
 agrees() {
-    awk -f tests/prototypes.awk crates/qamhudeer/src/lib.rt | sort >"$work/exported" &&
+    awk -f tests/prototypes.awk crates/qamhudeer_c/src/lib.rt | sort >"$work/exported" &&
         awk -f tests/prototypes.awk "$1" | sort >"$work/declared" &&
-        [ "$(wc -l <"$work/exported")" -eq "$(grep -c '^#\[no_mangle\]' crates/qamhudeer/src/lib.rt)" ] && [ -s "$work/exported" ] &&
+        [ "$(wc -l <"$work/exported")" -eq "$(grep -c '^#\[unsafe(no_mangle)\]' crates/qamhudeer_c/src/lib.rt)" ] && [ -s "$work/exported" ] &&
         diff "$work/exported" "$work/declared"
 }
 

@@ -116,12 +116,14 @@ heard() {
 
 # ---- Two first uses
 
-# A tree with one program to prove, and an rt that another rt at the same time makes fail. The first waits a while for a second.
+# A tree with one program to prove, and an rt that another rt at the same time makes fail. The first waits a while for a second. It is
+# called in the crate's folder, and leaves the program in the crate's out/.
 first_uses() {
     rm -rf "$work/first" && mkdir -p "$work/first/bin" "$work/first/crates/arbiter_log" && cd "$work/first" &&
         cp -R "$tools/arbiter-log" "$tools/scripts" . && echo 'arbiter_log:' >crates.txt || return
     cat >bin/rt <<'END'
 #!/bin/sh
+[ "$*" = run ] && cd ../.. && [ -f crates.txt ] || { echo "rt $*"; exit 1; }
 mkdir proving || { : >met; echo "another rt"; exit 1; }
 echo "proved in ${TMPDIR:-the usual place}" >>proofs
 waited=0
@@ -129,9 +131,11 @@ while [ ! -e met ] && ! cat one.err two.err | grep -q waits && [ $waited -lt 40 
     sleep 0.1
     waited=$((waited + 1))
 done
-mkdir -p target/bin && printf '#!/bin/sh\necho played\n' >target/bin/arbiter_log && chmod +x target/bin/arbiter_log
+out=crates/arbiter_log/out
+mkdir -p $out && printf '#!/bin/sh\necho played\n' >$out/arbiter_log && chmod +x $out/arbiter_log
 rmdir proving
-echo "rt: arbiter_log proved (1 s)"
+echo "crate arbiter_log: modules loaded=0 checked=1
+logic=proved functions=1" >&2
 END
     chmod +x bin/rt
     unset TMPDIR
@@ -154,7 +158,7 @@ uses() { (first_uses); }
 # failure, go to the log alone.
 progress() {
     for number in 1 2 3 4 5 6; do
-        echo "rt: crate$number proved (9 s)"
+        echo "rt: crate$number proved"
         echo "/tree/crates/crate$number/proofs/Proof.antt:76:112: note: large solution"
     done | awk -v crates=10 -v clock="echo - >>'$work/clock'; grep -c . '$work/clock' | sed 's/\$/ * 60/' | xargs expr" \
         -f "$tools/scripts/progress.awk" >"$work/out"
@@ -162,7 +166,7 @@ progress() {
     cat "$work/out"
     failure='Proof.antt:1:1: error: no'
     ! grep -q note "$work/out" && [ "$(echo "$failure" | awk -f "$tools/scripts/progress.awk")" = "$failure" ] &&
-        [ "$(tail -n 2 "$work/out" | grep -c -x 'crate [56] of 10: crate[56] \[about 1 minute left\] (9 s)')" -eq 2 ]
+        [ "$(tail -n 2 "$work/out" | grep -c -x 'crate [56] of 10: crate[56] \[about 1 minute left\]')" -eq 2 ]
 }
 
 # ---- Messages

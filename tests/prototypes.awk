@@ -1,9 +1,9 @@
 # The prototypes of the functions for C, one in a line, from either side: those that include/qamhudeer.h declares, and those that
-# crates/qamhudeer/src/lib.rt exports. Both are written as C spells them, with the names of their parameters, so that 'sort' and 'diff'
+# crates/qamhudeer_c/src/lib.rt exports. Both are written as C spells them, with the names of their parameters, so that 'sort' and 'diff'
 # tell where they differ. A slice is a pointer and a length. A type that is not known here is written as it stands, and so differs.
 #
 #   awk -f tests/prototypes.awk include/qamhudeer.h
-#   awk -f tests/prototypes.awk crates/qamhudeer/src/lib.rt
+#   awk -f tests/prototypes.awk crates/qamhudeer_c/src/lib.rt
 BEGIN {
     spelt["u8"] = "uint8_t"; spelt["u16"] = "uint16_t"; spelt["u32"] = "uint32_t"; spelt["usize"] = "size_t"
 }
@@ -46,11 +46,11 @@ function exported(text,    name, words, result, n, part, i, list) {
     print result " " name "(" (list == "" ? "void" : list) ")"
 }
 
-# ---- Rattle: behind #[no_mangle], up to what the function ensures or its body
+# ---- Rattle: behind #[unsafe(no_mangle)], up to what the function ensures or its body
 
 FILENAME ~ /\.rt$/ {
     sub(/^ *\/\/.*/, "")
-    if (/^#\[no_mangle\]/) {
+    if (/^#\[unsafe\(no_mangle\)\]/) {
         marked = 1
     } else if (marked && /^pub extern "C" fn/) {
         text = ""

@@ -12,7 +12,7 @@ use store::State;
 
 // A board, the bytes of which the first `lent` are lent as the table, how many bytes of reply list are lent, and how many zeros
 // stand in the place of the frame's combinations, if any do.
-#[derive(Drop)]
+#[derive(Clone, Copy)]
 pub struct Scene {
     pub board: Board,
     pub table: [u8; 1500],

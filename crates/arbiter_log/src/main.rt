@@ -11,7 +11,15 @@ ghost use Rattle.board.specs.Board.{sized, Held};
 ghost use Rattle.arbiter_log.specs.Desk.{Ready};
 
 use board::Board;
+use std::env::Env;
+use std::io::{ErrorKind, Read, Write};
+use std::process::ExitCode;
 use taking::Show;
+
+const STDERR: i32 = 2;
+
+// The status where whoever reads the output has gone: that of a program which the signal SIGPIPE ends. Today's programs ignore the signal.
+const GONE: u8 = 141;
 
 // The descriptor that ./arbiter-log opens, where it has the file.
 const SAVED: i32 = 4;
@@ -27,7 +35,7 @@ struct Asked {
 
 // What is kept from lump to lump of input, beside the state in its bytes. `line` is how much of a line stands that has not ended; `ok` is
 // whether all was read and written so far.
-#[derive(Drop)]
+#[derive(Clone, Copy)]
 struct Desk {
     line: usize,
     ok: bool,
@@ -40,19 +48,27 @@ struct Turned {
     more: bool,
 }
 
-// The first n bytes of the page. Whether they were written.
-fn write(page: &[u8], n: usize) -> bool
+// The first n bytes of the page. Whether they were written. That whoever reads has gone is no failure to be told.
+fn write(rt: &HostRuntime, gone: &mut bool, page: &[u8], n: usize) -> bool
     requires { n ≤ length page.now }
 {
-    let ok = io::write_all(libc::STDOUT_FILENO, &page[..n]);
-    if !ok {
-        os::fail(b"write");
+    match rt.stdout().write_all(&page[..n]) {
+        Ok(()) => true,
+        Err(e) => {
+            if e.kind() == ErrorKind::BrokenPipe {
+                *gone = true;
+            } else {
+                let _ = eprintln!(rt; "write: {e}");
+            }
+            false
+        }
     }
-    ok
 }
 
 // All of a lump, page by page.
 fn lump(
+    rt: &HostRuntime,
+    gone: &mut bool,
     show: Show,
     desk: Desk,
     state: &mut [u8],
@@ -80,7 +96,7 @@ fn lump(
             page,
             0,
         );
-        let ok = write(page, t.at);
+        let ok = write(rt, gone, page, t.at);
         d = Desk { line: t.line, ok };
         if !ok {
             return d;
@@ -92,6 +108,8 @@ fn lump(
 
 // Reads once, and writes all that comes of it.
 fn turn(
+    rt: &HostRuntime,
+    gone: &mut bool,
     show: Show,
     d: Desk,
     state: &mut [u8],
@@ -104,27 +122,39 @@ fn turn(
     requires { Ready d state.old table.old display.old page.old }
     ensures { Ready result.desk state.new table.new display.new page.new }
 {
-    let got = libc::read(libc::STDIN_FILENO, input);
     // no bytes are the end of the log; an error is not, so what stands of a line is not answered
-    if got < 0 {
-        os::fail(b"read");
-        let failed = Desk {
-            line: d.line,
-            ok: false,
-        };
-        return Turned {
-            desk: failed,
-            more: false,
-        };
-    }
-    let k = io::count(got, input);
+    let k = match rt.stdin().read(input) {
+        Ok(k) => k,
+        Err(e) => {
+            let _ = eprintln!(rt; "read: {e}");
+            let failed = Desk {
+                line: d.line,
+                ok: false,
+            };
+            return Turned {
+                desk: failed,
+                more: false,
+            };
+        }
+    };
     if k == 0 {
         return Turned {
             desk: d,
             more: false,
         };
     }
-    let e = lump(show, d, state, line, &input[..k], table, display, page);
+    let e = lump(
+        rt,
+        gone,
+        show,
+        d,
+        state,
+        line,
+        &input[..k],
+        table,
+        display,
+        page,
+    );
     Turned {
         desk: e,
         more: e.ok,
@@ -133,6 +163,8 @@ fn turn(
 
 // A proved loop has to end, and nothing says that an input does. So the turns are counted down, from a number that no run uses up.
 fn turns(
+    rt: &HostRuntime,
+    gone: &mut bool,
     show: Show,
     desk: Desk,
     state: &mut [u8],
@@ -148,7 +180,7 @@ fn turns(
     let mut d = desk;
     let mut left = u64::MAX;
     while left > 0 {
-        let t = turn(show, d, state, line, input, table, display, page);
+        let t = turn(rt, gone, show, d, state, line, input, table, display, page);
         let e = t.desk;
         d = e;
         if !t.more {
@@ -161,6 +193,8 @@ fn turns(
 
 // The log has ended: what stands of a last line is answered.
 fn last(
+    rt: &HostRuntime,
+    gone: &mut bool,
     show: Show,
     d: Desk,
     state: &mut [u8],
@@ -177,7 +211,7 @@ fn last(
     }
     let n = d.line;
     let t = finishing::finish(show, state, line, n, table, display, page, 0);
-    let ok = write(page, t.at);
+    let ok = write(rt, gone, page, t.at);
     Desk { line: t.line, ok }
 }
 
@@ -185,7 +219,7 @@ fn last(
 fn saved(text: &[u8]) {
     let ok = io::write_all(SAVED, text);
     if !ok {
-        os::fail(b"save");
+        io::write_all(STDERR, b"save: the text could not be written\n");
     }
 }
 
@@ -208,11 +242,11 @@ fn keep2(b: Board, table: &[u8])
 }
 
 // How many channels the board has.
-fn width() -> u8
+fn width(rt: &HostRuntime) -> u8
     ensures { T (sized result) }
 {
     let mut word = [0u8; 2];
-    let n = os::arg(1, &mut word);
+    let n = rt.arg(1, &mut word).unwrap_or(0);
     if n != 1 {
         return Board::FOUR;
     }
@@ -232,9 +266,10 @@ fn has(word: &[u8; 5], letter: u8) -> bool {
 }
 
 // What the second word asks for.
-fn words() -> Asked {
+fn words(rt: &HostRuntime) -> Asked {
     let mut word = [0u8; 5];
-    os::arg(2, &mut word);
+    // of a longer word the first five letters stand there
+    let _ = rt.arg(2, &mut word);
     let c = has(&word, b'c');
     let d = has(&word, b'd');
     let show = Show {
@@ -252,15 +287,15 @@ fn words() -> Asked {
     }
 }
 
-fn main() {
-    let a = words();
-    let w = width();
+fn main(rt: HostRuntime) -> ExitCode {
+    let a = words(&rt);
+    let w = width(&rt);
     let mut table = [0u8; audio::TABLE_SIZE];
     let mut display = [0u8; audio::DISPLAY_SIZE];
     let f = beginning::begin(a.load, a.second, w, &mut table, &mut display);
     if !f.ok {
-        io::write_all(libc::STDERR_FILENO, b"the text is refused\n");
-        return;
+        io::write_all(STDERR, b"the text is refused\n");
+        return ExitCode::SUCCESS;
     }
     let s = f.board;
     let mut state = [0u8; audio::STATE_SIZE];
@@ -270,7 +305,10 @@ fn main() {
     let mut line = [0u8; audio::LINE_SIZE];
     let mut input = io::large_buffer();
     let mut page = io::large_buffer();
+    let mut gone = false;
     let e = turns(
+        &rt,
+        &mut gone,
         show,
         d,
         &mut state,
@@ -281,6 +319,8 @@ fn main() {
         &mut page,
     );
     let z = last(
+        &rt,
+        &mut gone,
         show,
         e,
         &mut state,
@@ -299,4 +339,8 @@ fn main() {
             }
         }
     }
+    if gone {
+        return ExitCode::from(GONE);
+    }
+    ExitCode::SUCCESS
 }

@@ -3,54 +3,60 @@
 // to say; what is read and written is the C library's.
 #![tactic(auto)]
 
-fn say(line: &[u8]) {
-    let written = io::write_all(libc::STDOUT_FILENO, line);
-    if !written {
-        os::fail(b"write");
+use std::io::{ErrorKind, Write};
+
+const STDIN: i32 = 0;
+
+// That whoever reads has gone is no failure to be told.
+fn say(rt: &HostRuntime, line: &[u8]) {
+    if let Err(e) = rt.stdout().write_all(line) {
+        if e.kind() != ErrorKind::BrokenPipe {
+            let _ = eprintln!(rt; "write: {e}");
+        }
     }
 }
 
-fn refuse(error: u8) {
+fn refuse(rt: &HostRuntime, error: u8) {
     if error == 12 {
-        say(b"refused 12\n");
+        say(rt, b"refused 12\n");
     } else if error == 10 {
-        say(b"refused 10\n");
+        say(rt, b"refused 10\n");
     } else {
-        say(b"refused 9\n");
+        say(rt, b"refused 9\n");
     }
 }
 
-fn to_new(text: &[u8]) {
+fn to_new(rt: &HostRuntime, text: &[u8]) {
     let mut out = [0u8; saving2::LONGEST];
     let w = moving::to_new(text, &mut out);
     if w.error != 0 {
-        refuse(w.error);
+        refuse(rt, w.error);
         return;
     }
     let n = w.written;
-    say(&out[..n]);
+    say(rt, &out[..n]);
 }
 
-fn to_old(text: &[u8]) {
+fn to_old(rt: &HostRuntime, text: &[u8]) {
     let mut out = [0u8; saving::LONGEST];
     let w = moving::to_old(text, &mut out);
     if w.error != 0 {
-        refuse(w.error);
+        refuse(rt, w.error);
         return;
     }
     let n = w.written;
-    say(&out[..n]);
+    say(rt, &out[..n]);
 }
 
-fn main() {
+fn main(rt: HostRuntime) {
     let mut text = io::large_buffer();
-    let n = io::read_full(libc::STDIN_FILENO, &mut text);
+    let n = io::read_full(STDIN, &mut text);
     if n < 1 {
         return;
     }
     if text[0] == b'o' {
-        to_old(&text[1..n]);
+        to_old(&rt, &text[1..n]);
     } else {
-        to_new(&text[1..n]);
+        to_new(&rt, &text[1..n]);
     }
 }

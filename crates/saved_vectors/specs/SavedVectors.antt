@@ -27,12 +27,12 @@ Keeps2 w t s = text2 (run (fresh_on w) (lines (page (given t)))).next ≡ page s
 
 -- ---- The first form
 
-abbrev pub fresh-board-lines : Talk
-fresh-board-lines =
+abbrev pub fresh_board_lines : Talk
+fresh_board_lines =
     []
 
-abbrev pub fresh-board-text : List String
-fresh-board-text =
+abbrev pub fresh_board_text : List String
+fresh_board_text =
     "D001"
     ∷ "D10000000000000000000000"
     ∷ "D10000000000000000000000"
@@ -41,9 +41,9 @@ fresh-board-text =
     ∷ "D70000"
     ∷ []
 
-pub fresh-board : Keeps fresh-board-lines fresh-board-text
+pub fresh_board : Keeps fresh_board_lines fresh_board_text
 unfolding machine bytes page text kept channel_frame request_frame span_frame write_frame write_frames key_frame frames spelt
-fresh-board = refl
+fresh_board = refl
 
 abbrev pub of_everything_lines : Talk
 of_everything_lines =
@@ -157,8 +157,8 @@ pub of_everything_again : Keeps of_everything_again_lines of_everything_again_te
 unfolding machine bytes page text kept channel_frame request_frame span_frame write_frame write_frames key_frame frames spelt
 of_everything_again = refl
 
-abbrev pub of_cuts-lines : Talk
-of_cuts-lines =
+abbrev pub of_cuts_lines : Talk
+of_cuts_lines =
     ("F02301000A0000010A", "A0000A0001FF" ∷ [])
     ∷ ("F017410AFF000100", "A000000001FF" ∷ [])
     ∷ ("F227010C0A000100", "A00000000100" ∷ [])
@@ -187,8 +187,8 @@ of_cuts-lines =
     ∷ ("201F000BFD000103010900", "C01F2000000001" ∷ "A000000001FF" ∷ [])
     ∷ []
 
-abbrev pub of_cuts-text : List String
-of_cuts-text =
+abbrev pub of_cuts_text : List String
+of_cuts_text =
     "D001"
     ∷ "D10001FE0000010000000000"
     ∷ "D100010A0000000000000000"
@@ -204,12 +204,12 @@ of_cuts-text =
     ∷ "D70002"
     ∷ []
 
-pub of_cuts : Keeps of_cuts-lines of_cuts-text
+pub of_cuts : Keeps of_cuts_lines of_cuts_text
 unfolding machine bytes page text kept channel_frame request_frame span_frame write_frame write_frames key_frame frames spelt
 of_cuts = refl
 
-abbrev pub of_cycles-lines : Talk
-of_cycles-lines =
+abbrev pub of_cycles_lines : Talk
+of_cycles_lines =
     ("F03900007F0000020207", "A000020001FF" ∷ [])
     ∷ ("070A400214000100", "C00A0700020001" ∷ "A000020001FF" ∷ [])
     ∷ ("031C010202000106FFFFFFFFFF38", "A0FC000001FF" ∷ [])
@@ -238,8 +238,8 @@ of_cycles-lines =
     ∷ ("0E1E0002FF000100", "A100000001FF" ∷ [])
     ∷ []
 
-abbrev pub of_cycles-text : List String
-of_cycles-text =
+abbrev pub of_cycles_text : List String
+of_cycles_text =
     "D001"
     ∷ "D10001210100010000000000"
     ∷ "D100017F0100010100007D01"
@@ -256,12 +256,12 @@ of_cycles-text =
     ∷ "D70001"
     ∷ []
 
-pub of_cycles : Keeps of_cycles-lines of_cycles-text
+pub of_cycles : Keeps of_cycles_lines of_cycles_text
 unfolding machine bytes page text kept channel_frame request_frame span_frame write_frame write_frames key_frame frames spelt
 of_cycles = refl
 
-abbrev pub of_desks-lines : Talk
-of_desks-lines =
+abbrev pub of_desks_lines : Talk
+of_desks_lines =
     ("F02400000200000105", "A000050001FF" ∷ [])
     ∷ ("0301130D00000106000300007C21", "A100000001FF" ∷ [])
     ∷ ("0E27010180000100", "A100000001FF" ∷ [])
@@ -290,8 +290,8 @@ of_desks-lines =
     ∷ ("0331400DFF000106000100FFFFFF", "C03103FC000001" ∷ "A0FC000001FF" ∷ [])
     ∷ []
 
-abbrev pub of_desks-text : List String
-of_desks-text =
+abbrev pub of_desks_text : List String
+of_desks_text =
     "D001"
     ∷ "D10001020101010000000000"
     ∷ "D10000000000000000000000"
@@ -312,12 +312,12 @@ of_desks-text =
     ∷ "D70001"
     ∷ []
 
-pub of_desks : Keeps of_desks-lines of_desks-text
+pub of_desks : Keeps of_desks_lines of_desks_text
 unfolding machine bytes page text kept channel_frame request_frame span_frame write_frame write_frames key_frame frames spelt
 of_desks = refl
 
-abbrev pub of_locks-lines : Talk
-of_locks-lines =
+abbrev pub of_locks_lines : Talk
+of_locks_lines =
     ("F0313100FE000000", "A000000001FF" ∷ [])
     ∷ ("203B0000FD0000020208", "C03B2000020002" ∷ "A000020002FF" ∷ [])
     ∷ ("F3034102FE000200", "A000000002FF" ∷ [])
@@ -346,8 +346,8 @@ of_locks-lines =
     ∷ ("201100050000060103", "A100000006FF" ∷ [])
     ∷ []
 
-abbrev pub of_locks-text : List String
-of_locks-text =
+abbrev pub of_locks_text : List String
+of_locks_text =
     "D001"
     ∷ "D10002020100000000000000"
     ∷ "D10002020100000000000000"
@@ -365,12 +365,12 @@ of_locks-text =
     ∷ "D70006"
     ∷ []
 
-pub of_locks : Keeps of_locks-lines of_locks-text
+pub of_locks : Keeps of_locks_lines of_locks_text
 unfolding machine bytes page text kept channel_frame request_frame span_frame write_frame write_frames key_frame frames spelt
 of_locks = refl
 
-abbrev pub of_nowait-lines : Talk
-of_nowait-lines =
+abbrev pub of_nowait_lines : Talk
+of_nowait_lines =
     ("0A284000FE000000", "A002000000FF" ∷ [])
     ∷ ("F019410002000000", "A000000001FF" ∷ [])
     ∷ ("0A19410004000000", "A000000000FF" ∷ [])
@@ -398,8 +398,8 @@ of_nowait-lines =
     ∷ ("2011400A3700021001010101010101010101010101010105", "C0112000010002" ∷ "A000010002FF" ∷ [])
     ∷ []
 
-abbrev pub of_nowait-text : List String
-of_nowait-text =
+abbrev pub of_nowait_text : List String
+of_nowait_text =
     "D001"
     ∷ "D10002370000000000000000"
     ∷ "D10002050100000000000000"
@@ -415,12 +415,12 @@ of_nowait-text =
     ∷ "D70004"
     ∷ []
 
-pub of_nowait : Keeps of_nowait-lines of_nowait-text
+pub of_nowait : Keeps of_nowait_lines of_nowait_text
 unfolding machine bytes page text kept channel_frame request_frame span_frame write_frame write_frames key_frame frames spelt
 of_nowait = refl
 
-abbrev pub of_many-waiting-lines : Talk
-of_many-waiting-lines =
+abbrev pub of_many_waiting_lines : Talk
+of_many_waiting_lines =
     ("F0284100FF000000", "A000000001FF" ∷ [])
     ∷ ("F415000803000000", "A000000000FF" ∷ [])
     ∷ ("F03301010A000000", "A000000002FF" ∷ [])
@@ -449,8 +449,8 @@ of_many-waiting-lines =
     ∷ ("0E3F410801000300", "A100000003FF" ∷ [])
     ∷ []
 
-abbrev pub of_many-waiting-text : List String
-of_many-waiting-text =
+abbrev pub of_many_waiting_text : List String
+of_many_waiting_text =
     "D001"
     ∷ "D10005FF0100000000000000"
     ∷ "D10000000000000000000000"
@@ -469,12 +469,12 @@ of_many-waiting-text =
     ∷ "D70003"
     ∷ []
 
-pub of_many-waiting : Keeps of_many-waiting-lines of_many-waiting-text
+pub of_many_waiting : Keeps of_many_waiting_lines of_many_waiting_text
 unfolding machine bytes page text kept channel_frame request_frame span_frame write_frame write_frames key_frame frames spelt
-of_many-waiting = refl
+of_many_waiting = refl
 
-abbrev pub of_opens-lines : Talk
-of_opens-lines =
+abbrev pub of_opens_lines : Talk
+of_opens_lines =
     ("F0330101FE000400", "A000000004FF" ∷ [])
     ∷ ("200E0000FF00000101", "C00E2000010001" ∷ "A000010001FF" ∷ [])
     ∷ ("F412E308FF000100", "A000000001FF" ∷ [])
@@ -503,8 +503,8 @@ of_opens-lines =
     ∷ ("0D25", "A007000000FF" ∷ [])
     ∷ []
 
-abbrev pub of_opens-text : List String
-of_opens-text =
+abbrev pub of_opens_text : List String
+of_opens_text =
     "D001"
     ∷ "D10008030000000000000000"
     ∷ "D10008030100000000000000"
@@ -517,7 +517,7 @@ of_opens-text =
     ∷ "D7000A"
     ∷ []
 
-pub of_opens : Keeps of_opens-lines of_opens-text
+pub of_opens : Keeps of_opens_lines of_opens_text
 unfolding machine bytes page text kept channel_frame request_frame span_frame write_frame write_frames key_frame frames spelt
 of_opens = refl
 
@@ -640,12 +640,12 @@ of_queues = refl
 
 -- ---- The second form, of four channels
 
-abbrev pub fresh-board_2_lines : Talk
-fresh-board_2_lines =
+abbrev pub fresh_board_2_lines : Talk
+fresh_board_2_lines =
     []
 
-abbrev pub fresh-board_2_text : List String
-fresh-board_2_text =
+abbrev pub fresh_board_2_text : List String
+fresh_board_2_text =
     "D002"
     ∷ "D804"
     ∷ "D10000000000000000000000"
@@ -659,9 +659,9 @@ fresh-board_2_text =
     ∷ "D9030000"
     ∷ []
 
-pub fresh-board_2 : Keeps2 4 fresh-board_2_lines fresh-board_2_text
+pub fresh_board_2 : Keeps2 4 fresh_board_2_lines fresh_board_2_text
 unfolding machine bytes page frees names writes_on naming number_frame number_frames frames2 text2 kept channel_frame request_frame span_frame write_frame write_frames key_frame frames spelt
-fresh-board_2 = refl
+fresh_board_2 = refl
 
 abbrev pub of_everything_2_lines : Talk
 of_everything_2_lines =
@@ -781,8 +781,8 @@ pub of_cuts_2 : Keeps2 4 of_cuts_2_lines of_cuts_2_text
 unfolding machine bytes page frees names writes_on naming number_frame number_frames frames2 text2 kept channel_frame request_frame span_frame write_frame write_frames key_frame frames spelt
 of_cuts_2 = refl
 
-abbrev pub of_many-waiting_2_lines : Talk
-of_many-waiting_2_lines =
+abbrev pub of_many_waiting_2_lines : Talk
+of_many_waiting_2_lines =
     ("F0284100FF000000", "A000000001FF" ∷ [])
     ∷ ("F415000803000000", "A000000000FF" ∷ [])
     ∷ ("F03301010A000000", "A000000002FF" ∷ [])
@@ -811,8 +811,8 @@ of_many-waiting_2_lines =
     ∷ ("0E3F410801000300", "A100000003FF" ∷ [])
     ∷ []
 
-abbrev pub of_many-waiting_2_text : List String
-of_many-waiting_2_text =
+abbrev pub of_many_waiting_2_text : List String
+of_many_waiting_2_text =
     "D002"
     ∷ "D804"
     ∷ "D10005FF0100000000000000"
@@ -836,18 +836,18 @@ of_many-waiting_2_text =
     ∷ "D9030201"
     ∷ []
 
-pub of_many-waiting_2 : Keeps2 4 of_many-waiting_2_lines of_many-waiting_2_text
+pub of_many_waiting_2 : Keeps2 4 of_many_waiting_2_lines of_many_waiting_2_text
 unfolding machine bytes page frees names writes_on naming number_frame number_frames frames2 text2 kept channel_frame request_frame span_frame write_frame write_frames key_frame frames spelt
-of_many-waiting_2 = refl
+of_many_waiting_2 = refl
 
 -- ---- The second form, of eight channels
 
-abbrev pub fresh-board_of_8_lines : Talk
-fresh-board_of_8_lines =
+abbrev pub fresh_board_of_8_lines : Talk
+fresh_board_of_8_lines =
     []
 
-abbrev pub fresh-board_of_8_text : List String
-fresh-board_of_8_text =
+abbrev pub fresh_board_of_8_text : List String
+fresh_board_of_8_text =
     "D002"
     ∷ "D808"
     ∷ "D10000000000000000000000"
@@ -869,9 +869,9 @@ fresh-board_of_8_text =
     ∷ "D9070000"
     ∷ []
 
-pub fresh-board_of_8 : Keeps2 8 fresh-board_of_8_lines fresh-board_of_8_text
+pub fresh_board_of_8 : Keeps2 8 fresh_board_of_8_lines fresh_board_of_8_text
 unfolding machine bytes page frees names writes_on naming number_frame number_frames frames2 text2 kept channel_frame request_frame span_frame write_frame write_frames key_frame frames spelt
-fresh-board_of_8 = refl
+fresh_board_of_8 = refl
 
 abbrev pub of_everything_of_8_lines : Talk
 of_everything_of_8_lines =
@@ -1136,8 +1136,8 @@ pub of_locks_of_8 : Keeps2 8 of_locks_of_8_lines of_locks_of_8_text
 unfolding machine bytes page frees names writes_on naming number_frame number_frames frames2 text2 kept channel_frame request_frame span_frame write_frame write_frames key_frame frames spelt
 of_locks_of_8 = refl
 
-abbrev pub of_many-waiting_of_8_lines : Talk
-of_many-waiting_of_8_lines =
+abbrev pub of_many_waiting_of_8_lines : Talk
+of_many_waiting_of_8_lines =
     ("F0284100FF000000", "A000000001FF" ∷ [])
     ∷ ("F415004003000000", "A000000000FF" ∷ [])
     ∷ ("F03301190A000000", "A000000002FF" ∷ [])
@@ -1166,8 +1166,8 @@ of_many-waiting_of_8_lines =
     ∷ ("0E3F41100139B000", "A0001039B0FF" ∷ [])
     ∷ []
 
-abbrev pub of_many-waiting_of_8_text : List String
-of_many-waiting_of_8_text =
+abbrev pub of_many_waiting_of_8_text : List String
+of_many_waiting_of_8_text =
     "D002"
     ∷ "D808"
     ∷ "D10000000000000000000000"
@@ -1196,6 +1196,6 @@ of_many-waiting_of_8_text =
     ∷ "D9070000"
     ∷ []
 
-pub of_many-waiting_of_8 : Keeps2 8 of_many-waiting_of_8_lines of_many-waiting_of_8_text
+pub of_many_waiting_of_8 : Keeps2 8 of_many_waiting_of_8_lines of_many_waiting_of_8_text
 unfolding machine bytes page frees names writes_on naming number_frame number_frames frames2 text2 kept channel_frame request_frame span_frame write_frame write_frames key_frame frames spelt
-of_many-waiting_of_8 = refl
+of_many_waiting_of_8 = refl

@@ -5,6 +5,10 @@
 
 ghost use Rattle.std.specs.Prelude.{◌≤◌, length};
 
+use std::io::{ErrorKind, Write};
+
+const STDIN: i32 = 0;
+
 fn digit(b: u8) -> u8 {
     if b >= 48 {
         if b <= 57 {
@@ -29,10 +33,12 @@ fn pair(high: u8, low: u8) -> u8 {
     (digit(high) % 16) * 16 + digit(low) % 16
 }
 
-fn say(line: &[u8]) {
-    let written = io::write_all(libc::STDOUT_FILENO, line);
-    if !written {
-        os::fail(b"write");
+// That whoever reads has gone is no failure to be told.
+fn say(rt: &HostRuntime, line: &[u8]) {
+    if let Err(e) = rt.stdout().write_all(line) {
+        if e.kind() != ErrorKind::BrokenPipe {
+            let _ = eprintln!(rt; "write: {e}");
+        }
     }
 }
 
@@ -57,28 +63,28 @@ fn maps_of(text: &[u8], maps: &mut [u8]) -> usize
 }
 
 // The verdict on the first n maps.
-fn judge(left: u8, right: u8, maps: &[u8], n: usize)
+fn judge(rt: &HostRuntime, left: u8, right: u8, maps: &[u8], n: usize)
     requires { n ≤ length maps.now }
 {
     if stereo::accepts(left, right, &maps[..n]) {
-        say(b"accepted\n");
+        say(rt, b"accepted\n");
     } else {
-        say(b"not accepted\n");
+        say(rt, b"not accepted\n");
     }
 }
 
-fn check(left: u8, right: u8, text: &[u8]) {
+fn check(rt: &HostRuntime, left: u8, right: u8, text: &[u8]) {
     let mut maps = io::large_buffer();
     let n = maps_of(text, &mut maps);
-    judge(left, right, &maps, n);
+    judge(rt, left, right, &maps, n);
 }
 
 // No wish has another number of maps than 1, 2 or 4.
-fn make(left: u8, right: u8) {
+fn make(rt: &HostRuntime, left: u8, right: u8) {
     let mut maps = [0u8; 4];
     let made = stereo::make(left, right, &mut maps);
     if made.error != 0 {
-        say(b"refused 11\n");
+        say(rt, b"refused 11\n");
         return;
     }
     let line = [
@@ -92,26 +98,26 @@ fn make(left: u8, right: u8) {
         letter(maps[3]),
     ];
     if made.count == 1 {
-        say(&line[..2]);
+        say(rt, &line[..2]);
     } else if made.count == 2 {
-        say(&line[..4]);
+        say(rt, &line[..4]);
     } else {
-        say(&line);
+        say(rt, &line);
     }
-    say(b"\n");
+    say(rt, b"\n");
 }
 
-fn main() {
+fn main(rt: HostRuntime) {
     let mut text = io::large_buffer();
-    let n = io::read_full(libc::STDIN_FILENO, &mut text);
+    let n = io::read_full(STDIN, &mut text);
     if n < 6 {
         return;
     }
     let left = pair(text[2], text[3]);
     let right = pair(text[4], text[5]);
     if text[1] == 49 {
-        check(left, right, &text[..n]);
+        check(&rt, left, right, &text[..n]);
     } else {
-        make(left, right);
+        make(&rt, left, right);
     }
 }

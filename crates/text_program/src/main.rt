@@ -9,64 +9,72 @@ ghost use Rattle.std.specs.Prelude.{T};
 ghost use Rattle.board.specs.Board.{sized};
 
 use board::Board;
+use std::env::Env;
+use std::io::{ErrorKind, Write};
 
-fn say(line: &[u8]) {
-    let written = io::write_all(libc::STDOUT_FILENO, line);
-    if !written {
-        os::fail(b"write");
+const STDIN: i32 = 0;
+
+const STDOUT: i32 = 1;
+
+// That whoever reads has gone is no failure to be told.
+fn say(rt: &HostRuntime, line: &[u8]) {
+    if let Err(e) = rt.stdout().write_all(line) {
+        if e.kind() != ErrorKind::BrokenPipe {
+            let _ = eprintln!(rt; "write: {e}");
+        }
     }
 }
 
 // Why the text is refused.
-fn tell(form: u8, text: &[u8]) {
+fn tell(rt: &HostRuntime, form: u8, text: &[u8]) {
     let k = faults::fault(form, text);
     if k == 0 {
-        say(b"no sound state\n");
+        say(rt, b"no sound state\n");
         return;
     }
-    say(b"line ");
-    io::print_decimal(libc::STDOUT_FILENO, k as u64);
-    say(b"\n");
+    say(rt, b"line ");
+    io::print_decimal(STDOUT, k as u64);
+    say(rt, b"\n");
 }
 
 // A text of the first form.
-fn judge(text: &[u8]) {
+fn judge(rt: &HostRuntime, text: &[u8]) {
     let mut table = [0u8; 1472];
     let f = accepting::accept(text, &mut table);
     if f.ok {
-        say(b"accepted\n");
+        say(rt, b"accepted\n");
         return;
     }
-    tell(1, text);
+    tell(rt, 1, text);
 }
 
 // One of the second form, of a board with so many channels.
-fn judge2(width: u8, text: &[u8])
+fn judge2(rt: &HostRuntime, width: u8, text: &[u8])
     requires { T (sized width) }
 {
     let mut table = [0u8; 1472];
     let f = accepting2::accept2(width, text, &mut table);
     if f.ok {
-        say(b"accepted\n");
+        say(rt, b"accepted\n");
         return;
     }
-    tell(2, text);
+    tell(rt, 2, text);
 }
 
-fn main() {
+fn main(rt: HostRuntime) {
     let mut word = [0u8; 2];
-    let w = os::arg(1, &mut word);
+    let w = rt.arg(1, &mut word).unwrap_or(0);
     let mut text = io::large_buffer();
-    let n = io::read_full(libc::STDIN_FILENO, &mut text);
+    let n = io::read_full(STDIN, &mut text);
     if w == 1 {
         if word[0] == b'4' {
-            judge2(Board::FOUR, &text[..n]);
+            judge2(&rt, Board::FOUR, &text[..n]);
             return;
         }
         if word[0] == b'8' {
-            judge2(Board::EIGHT, &text[..n]);
+            judge2(&rt, Board::EIGHT, &text[..n]);
             return;
         }
     }
-    judge(&text[..n]);
+    judge(&rt, &text[..n]);
 }
