@@ -1,6 +1,6 @@
 // The list of who waits as structs, of the bytes of a state and a table, in a slice that the caller lends. `waiting` asks nothing:
 // whatever is lent, the answer and every struct are determined (specs/RecordStructs.antt). The byte records are filled first, and
-// `waiting`, proved by hand, makes structs of them. Assumes nothing.
+// `waiting` makes structs of them. Assumes nothing.
 #![tactic(auto)]
 
 ghost use Rattle.std.specs.Prelude.{◌<◌, ◌≡◌};

@@ -41,10 +41,10 @@ pub fn feed_sound(
     out: &mut [u8; audio::ROOM_SIZE],
 ) -> usize
     requires { Whole state.old × Held (state_of state.old) table.old }
-    ensures { Whole state.exit.now
-        × Feeds (state_of state.entry.now) table.old line.now out.old
-        (record { state = state_of state.exit.now; result = result }) table.new out.new
-        × FeedsDisplay (state_of state.entry.now) table.old line.now display.old
+    ensures { Whole state.new
+        × Feeds (state_of state.old) table.old line.now out.old
+        (record { state = state_of state.new; n = result }) table.new out.new
+        × FeedsDisplay (state_of state.old) table.old line.now display.old
         display.new }
 {
     let mut combos = [0u8; audio::LIST_SIZE];

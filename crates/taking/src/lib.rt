@@ -35,10 +35,10 @@ fn answer(
     out: &mut [u8; audio::ROOM_SIZE],
 ) -> usize
     requires { Whole state.old × Held (state_of state.old) table.old × (n ≤ length line.now) }
-    ensures { Whole state.exit.now
-        × Feeds (state_of state.entry.now) table.old (take n line.now) out.old
-        (record { state = state_of state.exit.now; n = result }) table.new out.new
-        × FeedsDisplay (state_of state.entry.now) table.old (take n line.now) display.old
+    ensures { Whole state.new
+        × Feeds (state_of state.old) table.old (take n line.now) out.old
+        (record { state = state_of state.new; n = result }) table.new out.new
+        × FeedsDisplay (state_of state.old) table.old (take n line.now) display.old
         display.new }
 {
     serving::feed_sound(state, &line[..n], table, display, out)

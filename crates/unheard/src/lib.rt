@@ -9,7 +9,7 @@ use frames::Line;
 
 // A line that is no frame: 7, map 0, key 0. How many bytes of output there are; the state, whatever it is, stays.
 pub fn malformed(out: &mut [u8; audio::ROOM_SIZE]) -> usize
-    ensures { (s : Board) → Dull s out.old (record { state = s; result = result }) out.new }
+    ensures { (s : Board) → Dull s out.old (record { state = s; n = result }) out.new }
 {
     let none = [0u8; audio::REPLIES_SIZE];
     let a = answers::done(audio::MALFORMED, 0, 0, audio::NONE);
@@ -18,7 +18,7 @@ pub fn malformed(out: &mut [u8; audio::ROOM_SIZE]) -> usize
 
 // A line on a state that is not sound: a call is answered 1, and nothing moves.
 pub fn unsound(line: &[u8], out: &mut [u8; audio::ROOM_SIZE]) -> usize
-    ensures { (s : Board) → Unheard s line.now out.old (record { state = s; result = result }) out.new }
+    ensures { (s : Board) → Unheard s line.now out.old (record { state = s; n = result }) out.new }
 {
     let mut combos = [0u8; audio::LIST_SIZE];
     let read = frames::read(line, &mut combos);
