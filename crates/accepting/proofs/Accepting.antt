@@ -1,6 +1,6 @@
 -- A text of a sound state reads back to that state, so it is its only state; and the test of what was read tells whether there is one.
 -- Assumes nothing.
-use Prim.Native.Nat.{ℕ, ◌+◌, ◌-◌, ◌≤◌, ◌<◌}
+use Prim.Native.Nat.{ℕ, ◌+◌, ◌≤◌, ◌<◌}
 use mathlib.Core.Path.{◌≡◌, refl, ap, ap₂, sym, subst, ◌∙◌}
 use mathlib.Core.Bool.{Bool, true, false}
 use mathlib.Core.List.{List, [], ◌∷◌}
@@ -10,7 +10,6 @@ use lib.Dec.{T, T_not, eqb, eqb→eq, eqb_refl, leb, leb→le, nleb→lt}
 use lib.ListN.{length, get_or, take, drop, replicate}
 use lib.Seq.{take-suc, take_all}
 use Rattle.machine.specs.State.{State}
-use Rattle.machine.specs.Sound.{sound}
 use Rattle.machine.specs.Log.{line, hex_digit}
 use Rattle.machine.proofs.Tests.{by_test}
 use Rattle.machine_laws.proofs.Sound.{parts}
@@ -22,14 +21,14 @@ use Rattle.board.specs.Board.{sized, fresh_board, struct_of, state_in, Held}
 use Rattle.board.proofs.Laws.{held_of, held_width, one_state, state_in_of}
 use Rattle.sound.specs.Sound.{Decides, board_test}
 use Rattle.sound.proofs.Own.{decides}
-use Rattle.saved.specs.Saved.{FIRST, frames, spelt, text, TextOf}
+use Rattle.saved.specs.Saved.{spelt, text, TextOf}
 use Rattle.sheet.specs.Sheet.{Sheet, Took}
 use Rattle.reading.specs.Reading.{read_from}
 use Rattle.read_back.proofs.WholeText.{text_read}
 use Rattle.hex_lines.specs.HexLines.{Put}
 use Rattle.saving.proofs.Laws.{front}
 use Rattle.accepting.specs.declared.Found.{Found}
-use Rattle.accepting.specs.Accepting.{opening, Yes, Finds, Accepts}
+use Rattle.accepting.specs.Accepting.{opening, Finds, Accepts}
 
 pub false_true : false ≡ true → ⊥
 false_true e = subst (λ (b : Bool). T b) (sym e) tt

@@ -1,23 +1,16 @@
 -- How a loaded text meets its promise, case by case; no second outcome fits. Assumes nothing.
-use Prim.Native.Nat.{ℕ, ◌+◌, ◌≤◌}
-use mathlib.Core.Path.{◌≡◌, refl, ap, sym, subst, ◌∙◌}
-use mathlib.Core.Bool.{Bool, true, false}
-use mathlib.Core.List.{List, [], ◌∷◌}
-use native.Mathlib.Omega.{arith}
-use lib.Dec.{T, T_not, eqb, eqb→eq}
-use lib.ListN.{length, take, drop}
+use Prim.Native.Nat.{ℕ}
+use mathlib.Core.Path.{◌≡◌, refl, subst, ◌∙◌}
+use mathlib.Core.List.{List}
 use Rattle.machine.specs.State.{State}
-use Rattle.machine.proofs.Tests.{by_test}
-use Rattle.store.specs.Store.{table_of}
-use Rattle.board.specs.declared.Board.{Board}
-use Rattle.board.specs.Board.{struct_of, state_in, Held}
-use Rattle.image.specs.Image.{Saved, image_of}
+use Rattle.board.specs.Board.{state_in}
+use Rattle.image.specs.Image.{Saved}
 use Rattle.saved.specs.Saved.{TextOf}
 use Rattle.recounting.specs.Recounting.{counted}
 use Rattle.accepting.specs.declared.Found.{Found}
-use Rattle.accepting.specs.Accepting.{Yes, Accepts}
+use Rattle.accepting.specs.Accepting.{Yes}
 use Rattle.accepting.proofs.Accepting.{one_spelling}
-use Rattle.loading.specs.Loading.{Fits, Unmoved, Loaded, Loads}
+use Rattle.loading.specs.Loading.{Fits, Loaded, Loads}
 
 -- ---- case by case
 

@@ -1,6 +1,6 @@
 -- What was saved and is loaded is as it was, to the byte; what was loaded and is saved is the text; and no second outcome of a load fits.
 -- Assumes nothing.
-use Prim.Native.Nat.{ℕ, ◌+◌, ◌≤◌, ◌<◌}
+use Prim.Native.Nat.{ℕ, ◌≤◌}
 use mathlib.Core.Path.{◌≡◌, refl, ap, ap₂, sym, subst, ◌∙◌}
 use mathlib.Core.List.{List}
 use native.Mathlib.Omega.{arith}
@@ -8,13 +8,12 @@ use lib.Dec.{T, T_not, eqb, eqb→eq}
 use lib.ListN.{length, take}
 use Rattle.machine.specs.State.{State}
 use Rattle.machine.proofs.Tests.{by_test}
-use Rattle.store.specs.Store.{table_of}
 use Rattle.memory.specs.Splice.{splice}
 use Rattle.board.specs.declared.Board.{Board}
 use Rattle.board.specs.Board.{sized, struct_of, state_in, Held}
 use Rattle.board.proofs.Laws.{held_width, held_of, state_in_of}
 use Rattle.machine_laws.proofs.Sound.{parts}
-use Rattle.image.specs.Image.{STATE, state_of, image_of, Saved, Whole}
+use Rattle.image.specs.Image.{STATE, state_of, image_of}
 use Rattle.image.proofs.Round.{one_image, image_of_state_of, state_of_image_of}
 use Rattle.display.specs.Display.{DISPLAY}
 use Rattle.sizes.specs.Sizes.{TABLE}

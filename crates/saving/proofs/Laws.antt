@@ -1,11 +1,10 @@
 -- How a saved state meets its promise, case by case; no second text fits. Assumes nothing.
-use Prim.Native.Nat.{ℕ, ◌+◌, ◌*◌, ◌≤◌, ◌<◌}
+use Prim.Native.Nat.{ℕ, ◌+◌, ◌≤◌, ◌<◌}
 use mathlib.Core.Path.{◌≡◌, refl, ap, sym, subst, ◌∙◌}
-use mathlib.Core.List.{List, [], ◌∷◌, ◌++◌, append-nil}
+use mathlib.Core.List.{List, [], ◌∷◌}
 use native.Mathlib.Omega.{arith}
-use native.Mathlib.Nat.{zero-add}
-use lib.Dec.{T, T_not, eqb, eqb→eq, eqb_refl, leb, leb→le, nleb→lt}
-use lib.ListN.{length, take, drop, length-append}
+use lib.Dec.{T, T_not, eqb, eqb→eq, leb, leb→le, nleb→lt}
+use lib.ListN.{length, take, drop}
 use lib.Seq.{take_at}
 use Rattle.memory.specs.Splice.{splice}
 use Rattle.memory.proofs.Splice.{length-splice}
@@ -19,7 +18,7 @@ use Rattle.image.specs.Image.{state_of}
 use Rattle.waiting_list.specs.WaitingList.{Sound}
 use Rattle.waiting_list.proofs.Laws.{sound_or_not}
 use Rattle.hex_lines.specs.HexLines.{Put}
-use Rattle.saved.specs.Saved.{FIRST, frames, spelt, text}
+use Rattle.saved.specs.Saved.{frames, spelt, text}
 use Rattle.saved.proofs.Lengths.{frames_most, text_most}
 use Rattle.frame_lines.proofs.FrameLines.{put_then}
 use Rattle.saving.specs.Saving.{held_by, Unwritten, Full, Saves}

@@ -1,0 +1,14 @@
+-- `put_records` meets its contract: a struct's line stands behind those of the structs before it. Assumes nothing.
+use Prim.Native.Nat.{◌+◌, ◌-◌, ◌*◌, ◌≤◌}
+use mathlib.Core.Path.{◌≡◌}
+use lib.ListN.{length, take}
+use Rattle.memory.specs.Splice.{splice}
+use Rattle.display_lines.specs.DisplayLines.{record_lines}
+use Rattle.display_lines.proofs.put_records.Given as goal
+
+abbrev pub invariant-loop-i : goal.invariant-loop-i
+invariant-loop-i l = (l.i ≤ l.n) × (l.n ≤ 64) × (length l.list ≡ 64) × (l.at + l.n * 11 ≤ length l.initial.out) × (length l.out ≡ length l.initial.out)
+    × (l.out ≡ splice l.initial.out l.at (record_lines (take l.i l.list)))
+
+abbrev pub decreases-loop-i : goal.decreases-loop-i
+decreases-loop-i l = l.n - l.i

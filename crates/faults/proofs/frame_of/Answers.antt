@@ -1,0 +1,19 @@
+-- `frame_of` meets its contract: its tests are those of the definition, in order. Assumes nothing.
+use Rattle.faults.proofs.Laws.{first_long, first_other, first_form, later_none, later_some}
+use borrow.Author.Rules.{rules}
+use Rattle.faults.proofs.frame_of.Goals as goal
+
+pub returns-then-f-ne2 : goal.returns-then-f-ne2
+returns-then-f-ne2 c = first_long _ _ _ c.if-k-eq0.true c.if-f-ne2.true
+
+pub returns-then-f : goal.returns-then-f
+returns-then-f c = first_other _ _ _ c.if-k-eq0.true c.if-f-ne2.false c.if-f.true
+
+pub returns-then-k-eq0 : goal.returns-then-k-eq0
+returns-then-k-eq0 c = first_form _ _ _ c.if-k-eq0.true c.if-f-ne2.false c.if-f.false
+
+pub returns-then-f-eq0 : goal.returns-then-f-eq0
+returns-then-f-eq0 c = later_none _ _ _ c.if-k-eq0.false c.if-f-eq0.true
+
+pub returns : goal.returns
+returns c = later_some _ _ _ c.if-k-eq0.false (search rules) c.length_in.ensures
