@@ -72,6 +72,8 @@ def clashes(c, d):
     for p, t in texts[c].items():
         if p.endswith(".rt") and re.search(r"\b(?:fn|mod|struct|enum|const) %s\b" % re.escape(d), t):
             return True
+    if any(os.path.basename(p)[:-5].lower() == d for p in texts[c] if p.endswith(".antt")):
+        return True
     return os.path.isdir(f"crates/{c}/proofs/{d}") or os.path.exists(f"crates/{c}/src/{d}.rt")
 
 

@@ -1,5 +1,6 @@
 // Whether two boards, or two runs of bytes, are the same. Assumes nothing.
-use board::Board;
+use arbiter::encoding;
+use handed::board::Board;
 
 // From `from` on, two slices have the same bytes.
 pub fn bytes(a: &[u8], b: &[u8], from: usize) -> bool {

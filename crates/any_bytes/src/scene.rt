@@ -3,12 +3,14 @@ ghost use Rattle.std.specs.Prelude.{◌≤◌};
 
 use crate::terms::at;
 use crate::{same, terms};
-use answers::Request;
-use board::{Board, Outcome};
+use arbiter::{decoding, encoding};
 use channel::Channel;
-use open_keys::Keys;
+use handed::board::{Board, Outcome};
+use handed::desks;
 use queue::Queue;
-use store::State;
+use show::answers::Request;
+use show::open_keys::Keys;
+use show::store::State;
 
 // A board, the bytes of which the first `lent` are lent as the table, how many bytes of reply list are lent, and how many zeros
 // stand in the place of the frame's combinations, if any do.

@@ -6,7 +6,10 @@ ghost use Rattle.std.specs.Prelude.{◌≡◌};
 ghost use Rattle.board.specs.Board.{sized as sized_m, top_of, fresh_board};
 
 use answers::Answer;
-use store::State;
+use answers::store::State;
+pub use answers::{channel, memory, open_keys, queue, reply, store, table};
+pub use widening;
+pub use widening::{machine, machine_laws};
 
 #[derive(Clone, Copy)]
 pub struct Board {

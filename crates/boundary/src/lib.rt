@@ -3,10 +3,14 @@
 // `qamhudeer` exports it to programs in C. Assumes nothing.
 #![tactic(auto)]
 
-ghost use Rattle.handed.specs.Handed.{request_of};
+ghost use Rattle.bytes_call.specs.handed.Handed.{request_of};
 ghost use Rattle.boundary.specs.Boundary.{Crossed};
 
-use answers::Request;
+pub use bytes_call;
+use bytes_call::answers::Request;
+pub use bytes_call::{desk_call, halves, handed};
+pub use starting;
+pub use starting::{display, sizes};
 
 // No call was made.
 pub const UNANSWERED: usize = 255;

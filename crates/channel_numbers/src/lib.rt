@@ -4,11 +4,15 @@
 #![tactic(auto)]
 
 ghost use Rattle.std.specs.Prelude.{◌≡◌, map, length, take};
-ghost use Rattle.memory.specs.Splice.{splice};
+ghost use Rattle.shifting.specs.memory.Splice.{splice};
 ghost use Rattle.channel_numbers.specs.ChannelNumbers.{count_at, moved};
 
-use channel::Channel;
+pub use lanes;
+pub use lanes::{display, machine};
+pub use shifting::memory;
+pub use store;
 use store::State;
+use store::channel::Channel;
 
 // How many writes each channel has.
 fn lengths(cs: [Channel; 8]) -> [u8; 8]

@@ -1,1 +1,3 @@
 pub mod Cycles
+pub use Rattle.table.specs.machine as machine
+pub use Rattle.table.specs as table

@@ -2,12 +2,14 @@
 #![tactic(auto)]
 
 ghost use Rattle.std.specs.Prelude.{◌≡◌, map as each, ◌<◌};
-ghost use Rattle.store.specs.Store.{Each};
+ghost use Rattle.granting.specs.store.Store.{Each};
 ghost use Rattle.leaving.specs.Leaving.{Tidy, struck, cleaned, leaving};
 
-use channel::Channel;
-use queue::Queue;
-use store::State;
+pub use granting;
+use granting::channel::Channel;
+use granting::queue::Queue;
+use granting::store::State;
+pub use granting::{fates, locks};
 
 // A queue without an id: no id stands twice, so its first place is its only one.
 fn strike(q: Queue, id: u8) -> Queue

@@ -1,1 +1,2 @@
 pub mod Pouring
+pub use Rattle.memory.specs as memory

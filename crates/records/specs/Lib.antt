@@ -1,1 +1,2 @@
 pub mod Records
+pub use Rattle.board.specs as board

@@ -1,1 +1,2 @@
 pub mod Shifting
+pub use Rattle.memory.specs as memory

@@ -6,9 +6,10 @@
 #![tactic(auto)]
 
 ghost use Rattle.std.specs.Prelude.{T};
-ghost use Rattle.board.specs.Board.{sized};
+ghost use Rattle.accepting2.specs.board.Board.{sized};
 
-use board::Board;
+use accepting2::accepting;
+use accepting2::board::Board;
 use std::env::Env;
 use std::io::{ErrorKind, Write};
 

@@ -13,7 +13,7 @@ use Rattle.arbiter.proofs.ranges.Reads as ranges_reads
 use Rattle.correcting.proofs.looks.Reads as looks-reads
 use Rattle.correcting.proofs.show.Reads as show_reads
 use Rattle.deciding.proofs.decided.Reads as decided_reads
-use Rattle.refusals.proofs.refusal.Reads as refusal-reads
+use Rattle.deciding.proofs.refusals.refusal.Reads as refusal-reads
 
 ranges-requires : tie.Need-ranges-requires
 ranges-requires c κs = search rules

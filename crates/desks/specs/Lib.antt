@@ -1,0 +1,1 @@
+pub use Rattle.machine.specs as machine

@@ -1,0 +1,2 @@
+pub use Rattle.image.specs as image
+pub use Rattle.image.specs.machine as machine

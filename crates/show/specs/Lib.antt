@@ -1,0 +1,3 @@
+pub use Rattle.answers.specs as answers
+pub use Rattle.answers.specs.open_keys as open_keys
+pub use Rattle.answers.specs.store as store

@@ -1,0 +1,1 @@
+pub use Rattle.shapes.specs as shapes
