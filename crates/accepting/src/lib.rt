@@ -3,17 +3,11 @@
 #![tactic(auto)]
 
 ghost use Rattle.std.specs.Prelude.{◌≡◌, false, length, take, replicate};
-ghost use Rattle.read_back.specs.board.Board.{fresh_board};
-ghost use Rattle.saving.specs.sound.Sound.{Decides};
+ghost use Rattle.board.specs.Board.{fresh_board};
+ghost use Rattle.sound.specs.Sound.{Decides};
 ghost use Rattle.accepting.specs.Accepting.{Finds, Accepts};
 
-pub use read_back;
-use read_back::board::Board;
-pub use read_back::{hex_lines, saved};
-use read_back::{memory, reading};
-pub use saving;
-use saving::audio;
-pub use saving::{decoding, image, saved_lines, sizes, sound, waiting_list};
+use board::Board;
 
 // What was read, and whether it is what was saved.
 #[derive(Clone, Copy)]

@@ -6,26 +6,26 @@ use mathlib.Core.List.{List, [], ◌∷◌}
 use native.Mathlib.Omega.{arith}
 use lib.Dec.{T, T_not, eqb}
 use lib.ListN.{length, take, drop, replicate}
-use Rattle.read_back2.specs.machine.State.{State}
-use Rattle.read_back2.specs.machine.Sound.{sound}
-use Rattle.read_back2.specs.machine.Log.{line, hex_digit}
-use Rattle.read_back2.specs.saved.Saved.{spelt}
-use Rattle.read_back2.proofs.machine_laws.Sound.{parts}
-use Rattle.read_back2.proofs.machine.Tests.{by_test}
-use Rattle.read_back2.specs.store.declared.State.{State as Struct}
-use Rattle.read_back2.specs.store.Store.{table_of}
-use Rattle.read_back2.specs.board.declared.Board.{Board}
-use Rattle.read_back2.specs.board.Board.{sized, fresh_board, struct_of, state_in, Held}
-use Rattle.read_back2.proofs.board.Laws.{held_of, held_width, held_sized, state_in_of}
-use Rattle.saving2.specs.sound.Sound.{Decides, board_test}
-use Rattle.saving2.proofs.sound.Own.{decides}
-use Rattle.read_back2.specs.sheet.Sheet.{Sheet, Took}
-use Rattle.read_back2.specs.reading.Reading.{read_from}
-use Rattle.read_back2.specs.hex_lines.HexLines.{Put}
-use Rattle.saving2.specs.accepting.declared.Found.{Found}
-use Rattle.saving2.proofs.accepting.Accepting.{false_true, same_or_not, held_once, found_same}
-use Rattle.read_back2.specs.saved2.Saved2.{text2, TextOf2}
-use Rattle.read_back2.proofs.saved2.Lengths2.{text2-length}
+use Rattle.machine.specs.State.{State}
+use Rattle.machine.specs.Sound.{sound}
+use Rattle.machine.specs.Log.{line, hex_digit}
+use Rattle.saved.specs.Saved.{spelt}
+use Rattle.machine_laws.proofs.Sound.{parts}
+use Rattle.machine.proofs.Tests.{by_test}
+use Rattle.store.specs.declared.State.{State as Struct}
+use Rattle.store.specs.Store.{table_of}
+use Rattle.board.specs.declared.Board.{Board}
+use Rattle.board.specs.Board.{sized, fresh_board, struct_of, state_in, Held}
+use Rattle.board.proofs.Laws.{held_of, held_width, held_sized, state_in_of}
+use Rattle.sound.specs.Sound.{Decides, board_test}
+use Rattle.sound.proofs.Own.{decides}
+use Rattle.sheet.specs.Sheet.{Sheet, Took}
+use Rattle.reading.specs.Reading.{read_from}
+use Rattle.hex_lines.specs.HexLines.{Put}
+use Rattle.accepting.specs.declared.Found.{Found}
+use Rattle.accepting.proofs.Accepting.{false_true, same_or_not, held_once, found_same}
+use Rattle.saved2.specs.Saved2.{text2, TextOf2}
+use Rattle.saved2.proofs.Lengths2.{text2-length}
 use Rattle.saving2.proofs.Laws2.{taken_front}
 use Rattle.read_back2.proofs.ReadBack2.{zeros, text2_read, one_spelling2}
 use Rattle.accepting2.specs.Accepting2.{Yes2, Finds2, Accepts2}

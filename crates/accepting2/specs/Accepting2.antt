@@ -5,11 +5,11 @@
 --   Finds2 w t f tb'      so it is, or it was saved of no state of w channels
 --   Accepts2 w t f tb'    the promise of `accept2`: so it is, or it was saved of none, and nothing of it is handed back
 use Rattle.std.specs.Prelude.{◌≡◌, true, false, List, ℕ}
-use Rattle.read_back2.specs.machine.State.{State}
-use Rattle.read_back2.specs.board.Board.{state_in, Held}
-use Rattle.saving2.specs.accepting.declared.Found.{Found}
-use Rattle.saving2.specs.accepting.Accepting.{Blank}
-use Rattle.read_back2.specs.saved2.Saved2.{TextOf2}
+use Rattle.machine.specs.State.{State}
+use Rattle.board.specs.Board.{state_in, Held}
+use Rattle.accepting.specs.declared.Found.{Found}
+use Rattle.accepting.specs.Accepting.{Blank}
+use Rattle.saved2.specs.Saved2.{TextOf2}
 
 pub record Yes2 (w : ℕ) (t : List ℕ) (f : Found) (tb' : List ℕ) : Type 0 where
   pub held : Held f.board tb'

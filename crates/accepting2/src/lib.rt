@@ -4,19 +4,11 @@
 #![tactic(auto)]
 
 ghost use Rattle.std.specs.Prelude.{◌≡◌, T, replicate};
-ghost use Rattle.read_back2.specs.board.Board.{sized};
+ghost use Rattle.board.specs.Board.{sized};
 ghost use Rattle.accepting2.specs.Accepting2.{Finds2, Accepts2};
 
-pub use read_back2;
-use read_back2::board::Board;
-use read_back2::reading;
-pub use read_back2::{
-    board, display, gathering, hex_lines, machine, number_lines, saved, saved2, store,
-};
-pub use saving2;
-use saving2::accepting::Found;
-use saving2::sound;
-pub use saving2::{accepting, recounting};
+use accepting::Found;
+use board::Board;
 
 // What the text's lines behind the first two were read to, and whether it is what is saved of that.
 fn compare2(width: u8, text: &[u8], table: &mut [u8]) -> Found

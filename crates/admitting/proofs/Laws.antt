@@ -9,13 +9,13 @@ use borrow.Author.Tests.{eq-eqb, le-leb, lt-leb}
 use lib.Dec.{T, eqb, leb, eqb→eq, leb→le}
 use lib.ListN.{length, get_or, drop}
 use lib.Seq.{drop-cons}
-use Rattle.port.specs.machine.Lists.{all}
-use Rattle.port.proofs.machine.Tests.{by_test, test_true, test_false, and_left, and_right}
-use Rattle.port.specs.display.Display.{DISPLAY}
-use Rattle.port.specs.image.Image.{is_byte}
-use Rattle.port.proofs.image.Round.{bytes_each}
-use Rattle.port.specs.gathering.Lumps.{LINE}
-use Rattle.port.specs.sizes.Sizes.{PORT, ROOM}
+use Rattle.machine.specs.Lists.{all}
+use Rattle.machine.proofs.Tests.{by_test, test_true, test_false, and_left, and_right}
+use Rattle.display.specs.Display.{DISPLAY}
+use Rattle.image.specs.Image.{is_byte}
+use Rattle.image.proofs.Round.{bytes_each}
+use Rattle.gathering.specs.Lumps.{LINE}
+use Rattle.sizes.specs.Sizes.{PORT, ROOM}
 use Rattle.port.specs.Port.{started_in, line_in, port_of}
 use Rattle.admitting.specs.Admitting.{is_port, refusal_for, refusal, Proper}
 

@@ -6,12 +6,12 @@
 --   BADPORT            1, for a display of another size too
 --   refusal_for, refusal p shown room   why a call with this port and so much display and room is refused, or 0
 use Rattle.std.specs.Prelude.{ℕ, ◌≤◌, Bool, true, false, ◌&&◌, List, ◌≡◌, eqb, leb, T, length}
-use Rattle.port.specs.machine.Lists.{all}
-use Rattle.port.specs.machine.Numbers.{TOOSMALL}
-use Rattle.port.specs.display.Display.{DISPLAY}
-use Rattle.port.specs.image.Image.{is_byte}
-use Rattle.port.specs.gathering.Lumps.{LINE}
-use Rattle.port.specs.sizes.Sizes.{PORT, ROOM}
+use Rattle.machine.specs.Lists.{all}
+use Rattle.machine.specs.Numbers.{TOOSMALL}
+use Rattle.display.specs.Display.{DISPLAY}
+use Rattle.image.specs.Image.{is_byte}
+use Rattle.gathering.specs.Lumps.{LINE}
+use Rattle.sizes.specs.Sizes.{PORT, ROOM}
 use Rattle.port.specs.Port.{started_in}
 
 -- "memory stays at one line"

@@ -1,6 +1,5 @@
 // Whether two boards, or two runs of bytes, are the same. Assumes nothing.
-use arbiter::encoding;
-use handed::board::Board;
+use board::Board;
 
 // From `from` on, two slices have the same bytes.
 pub fn bytes(a: &[u8], b: &[u8], from: usize) -> bool {

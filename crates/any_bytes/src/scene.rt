@@ -3,14 +3,12 @@ ghost use Rattle.std.specs.Prelude.{◌≤◌};
 
 use crate::terms::at;
 use crate::{same, terms};
-use arbiter::{decoding, encoding};
+use answers::Request;
+use board::{Board, Outcome};
 use channel::Channel;
-use handed::board::{Board, Outcome};
-use handed::desks;
+use open_keys::Keys;
 use queue::Queue;
-use show::answers::Request;
-use show::open_keys::Keys;
-use show::store::State;
+use store::State;
 
 // A board, the bytes of which the first `lent` are lent as the table, how many bytes of reply list are lent, and how many zeros
 // stand in the place of the frame's combinations, if any do.

@@ -8,17 +8,17 @@ use native.Mathlib.Omega.{arith}
 use lib.ListN.{length, take, drop, length-drop}
 use lib.Seq.{take_all}
 use Rattle.std.specs.Prelude.{if◌then◌else◌}
-use Rattle.beginning.specs.taking.declared.Show.{Show}
-use Rattle.beginning.specs.taking.Desk.{Taken, desk_of, needed, filled, finished}
-use Rattle.keeping.specs.board.declared.Board.{Board}
-use Rattle.keeping.specs.board.Board.{Held}
-use Rattle.keeping.specs.image.Image.{state_of, Whole, Saved}
-use Rattle.keeping.proofs.image.Round.{saved-state}
-use Rattle.beginning.specs.paging.Paging.{Fills}
-use Rattle.beginning.specs.finishing.Finishing.{Finishes}
-use Rattle.beginning.proofs.whole_log.Progress.{Went, desk_good, fills-went, fills_on, finished-went, left_held, left_shown, left_within, left_inside, left_size, left_used}
+use Rattle.taking.specs.declared.Show.{Show}
+use Rattle.taking.specs.Desk.{Taken, desk_of, needed, filled, finished}
+use Rattle.board.specs.declared.Board.{Board}
+use Rattle.board.specs.Board.{Held}
+use Rattle.image.specs.Image.{state_of, Whole, Saved}
+use Rattle.image.proofs.Round.{saved-state}
+use Rattle.paging.specs.Paging.{Fills}
+use Rattle.finishing.specs.Finishing.{Finishes}
+use Rattle.whole_log.proofs.Progress.{Went, desk_good, fills-went, fills_on, finished-went, left_held, left_shown, left_within, left_inside, left_size, left_used}
 use Rattle.arbiter_log.specs.declared.Desk.{Desk}
-use Rattle.beginning.specs.accepting.declared.Found.{Found}
+use Rattle.accepting.specs.declared.Found.{Found}
 use Rattle.beginning.specs.Beginning.{Begins}
 use Rattle.arbiter_log.specs.Desk.{Ready}
 

@@ -7,16 +7,14 @@
 #![tactic(auto)]
 
 ghost use Rattle.std.specs.Prelude.{T, ◌≤◌, length};
-ghost use Rattle.keeping.specs.board.Board.{sized, Held};
+ghost use Rattle.board.specs.Board.{sized, Held};
 ghost use Rattle.arbiter_log.specs.Desk.{Ready};
 
-use beginning::taking::Show;
-use beginning::{encoding, finishing, paging, saving2};
-use keeping::board::Board;
-use keeping::{audio, decoding, saving};
+use board::Board;
 use std::env::Env;
 use std::io::{ErrorKind, Read, Write};
 use std::process::ExitCode;
+use taking::Show;
 
 const STDERR: i32 = 2;
 

@@ -1,2 +1,1 @@
 pub mod Awaiting
-pub use Rattle.play.specs as play

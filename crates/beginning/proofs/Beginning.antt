@@ -5,15 +5,15 @@ use mathlib.Core.Bool.{Bool, true, false}
 use mathlib.Core.List.{List}
 use lib.Dec.{T}
 use lib.ListN.{length, replicate}
-use Rattle.carrying.specs.machine.State.{frees, fresh_on}
-use Rattle.carrying.specs.display.Display.{blank}
-use Rattle.carrying.specs.store.Store.{table_of, entries, lookup, items, write_items}
-use Rattle.carrying.specs.board.declared.Board.{Board}
-use Rattle.carrying.specs.board.Board.{sized, fresh_board, Held}
-use Rattle.carrying.proofs.board.Laws.{table-wide, fresh_of}
-use Rattle.carrying.proofs.whole_log.Whole.{fresh_held}
-use Rattle.carrying.specs.accepting.declared.Found.{Found}
-use Rattle.carrying.proofs.accepting.Accepting.{false_true}
+use Rattle.machine.specs.State.{frees, fresh_on}
+use Rattle.display.specs.Display.{blank}
+use Rattle.store.specs.Store.{table_of, entries, lookup, items, write_items}
+use Rattle.board.specs.declared.Board.{Board}
+use Rattle.board.specs.Board.{sized, fresh_board, Held}
+use Rattle.board.proofs.Laws.{table-wide, fresh_of}
+use Rattle.whole_log.proofs.Whole.{fresh_held}
+use Rattle.accepting.specs.declared.Found.{Found}
+use Rattle.accepting.proofs.Accepting.{false_true}
 use Rattle.carrying.specs.Carrying.{Resumes, Resumes2}
 use Rattle.beginning.specs.Beginning.{Begins}
 

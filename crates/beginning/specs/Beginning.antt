@@ -5,9 +5,9 @@
 --   Loaded2 w f tb dp  or one of the second, of w channels
 --   Begins load second w f tb dp   the promise of `begin`: a fresh board with w channels, or what was loaded
 use Rattle.std.specs.Prelude.{ℕ, ◌≡◌, Bool, true, false, List, length, replicate}
-use Rattle.carrying.specs.display.Display.{blank}
-use Rattle.carrying.specs.board.Board.{fresh_board, Held}
-use Rattle.carrying.specs.accepting.declared.Found.{Found}
+use Rattle.display.specs.Display.{blank}
+use Rattle.board.specs.Board.{fresh_board, Held}
+use Rattle.accepting.specs.declared.Found.{Found}
 use Rattle.carrying.specs.Carrying.{Resumes, Resumes2}
 
 pub record Loaded (f : Found) (tb dp : List ℕ) : Type 0 where

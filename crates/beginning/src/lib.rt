@@ -3,13 +3,12 @@
 #![tactic(auto)]
 
 ghost use Rattle.std.specs.Prelude.{◌≡◌, T, replicate};
-ghost use Rattle.carrying.specs.display.Display.{blank};
-ghost use Rattle.carrying.specs.board.Board.{sized};
+ghost use Rattle.display.specs.Display.{blank};
+ghost use Rattle.board.specs.Board.{sized};
 ghost use Rattle.beginning.specs.Beginning.{Begins};
 
-use carrying::accepting::Found;
-use carrying::board::Board;
-pub use carrying::{accepting, encoding, finishing, gathering, paging, saving2, taking, whole_log};
+use accepting::Found;
+use board::Board;
 
 // The descriptor that ./arbiter-log opens, where it has the file.
 const LOADED: i32 = 3;

@@ -6,10 +6,7 @@ ghost use Rattle.std.specs.Prelude.{◌≡◌};
 ghost use Rattle.board.specs.Board.{sized as sized_m, top_of, fresh_board};
 
 use answers::Answer;
-use answers::store::State;
-pub use answers::{channel, memory, open_keys, queue, reply, store, table};
-pub use widening;
-pub use widening::{machine, machine_laws};
+use store::State;
 
 #[derive(Clone, Copy)]
 pub struct Board {

@@ -9,31 +9,31 @@ use lib.Dec.{T, T_not, eqb}
 use lib.ListN.{length, get_or, replicate, replicate-append-replicate}
 use borrow.Author.Tests.{eqb-true, eqb-false}
 use Rattle.std.specs.Prelude.{if◌then◌else◌}
-use Rattle.starting.specs.machine.Lists.{among}
-use Rattle.starting.specs.machine.State.{Op as OpM, OPEN, CLOSE, ABORT, EVENT, CYCLE_ENDED, GAVE_UP, COMMAND, frees, fresh_on}
-use Rattle.starting.specs.machine.Desks.{HALF}
-use Rattle.starting.specs.machine.Log.{op_of}
-use Rattle.starting.specs.machine.Call.{call}
-use Rattle.starting.proofs.machine_laws.Sound.{parts}
-use Rattle.starting.proofs.machine.Tests.{by_test}
-use Rattle.starting.specs.machine_laws.Refusals.{refusals}
-use Rattle.starting.specs.machine_laws.Keeping.{Counted}
-use Rattle.starting.specs.store.Store.{items, write_items, lookup, entries, table_of}
-use Rattle.starting.specs.board.declared.Board.{Board}
-use Rattle.starting.specs.board.Board.{sized, struct_of, state_in, Held}
-use Rattle.starting.proofs.board.Laws.{held_next, fresh-sane, table-wide}
-use Rattle.starting.proofs.widening.Maps.{length-frees}
-use Rattle.starting.specs.image.Image.{STATE, image_of, state_of, Whole}
-use Rattle.starting.proofs.image.Round.{image_of_state_of, state_of_image_of}
-use Rattle.starting.specs.display.Display.{DISPLAY}
-use Rattle.bytes_call.specs.answers.declared.Request.{Request}
-use Rattle.bytes_call.specs.refusals.declared.Op.{Op}
-use Rattle.bytes_call.specs.refusals.Refusals.{op_in, asked_of, op_for}
-use Rattle.bytes_call.proofs.arbiter.Lent.{whole_or_not}
-use Rattle.bytes_call.specs.desk_call.DeskCall.{Outcome}
-use Rattle.bytes_call.proofs.desk_call.Promise.{one_call, one_display, refused_unmoved, few_each_half as few_laid, sound-after as sound-call}
-use Rattle.starting.specs.sizes.Sizes.{TABLE, ANSWER}
-use Rattle.bytes_call.specs.handed.Handed.{answer_bytes}
+use Rattle.machine.specs.Lists.{among}
+use Rattle.machine.specs.State.{Op as OpM, OPEN, CLOSE, ABORT, EVENT, CYCLE_ENDED, GAVE_UP, COMMAND, frees, fresh_on}
+use Rattle.machine.specs.Desks.{HALF}
+use Rattle.machine.specs.Log.{op_of}
+use Rattle.machine.specs.Call.{call}
+use Rattle.machine_laws.proofs.Sound.{parts}
+use Rattle.machine.proofs.Tests.{by_test}
+use Rattle.machine_laws.specs.Refusals.{refusals}
+use Rattle.machine_laws.specs.Keeping.{Counted}
+use Rattle.store.specs.Store.{items, write_items, lookup, entries, table_of}
+use Rattle.board.specs.declared.Board.{Board}
+use Rattle.board.specs.Board.{sized, struct_of, state_in, Held}
+use Rattle.board.proofs.Laws.{held_next, fresh-sane, table-wide}
+use Rattle.widening.proofs.Maps.{length-frees}
+use Rattle.image.specs.Image.{STATE, image_of, state_of, Whole}
+use Rattle.image.proofs.Round.{image_of_state_of, state_of_image_of}
+use Rattle.display.specs.Display.{DISPLAY}
+use Rattle.answers.specs.declared.Request.{Request}
+use Rattle.refusals.specs.declared.Op.{Op}
+use Rattle.refusals.specs.Refusals.{op_in, asked_of, op_for}
+use Rattle.arbiter.proofs.Lent.{whole_or_not}
+use Rattle.desk_call.specs.DeskCall.{Outcome}
+use Rattle.desk_call.proofs.Promise.{one_call, one_display, refused_unmoved, few_each_half as few_laid, sound-after as sound-call}
+use Rattle.sizes.specs.Sizes.{TABLE, ANSWER}
+use Rattle.handed.specs.Handed.{answer_bytes}
 use Rattle.starting.specs.Starting.{Fits, Started}
 use Rattle.bytes_call.specs.BytesCall.{Carried, Unread}
 use Rattle.boundary.specs.Boundary.{Room, Unanswered, Crossed, Same}

@@ -2,11 +2,11 @@
 use Prim.Native.Nat.{ℕ, ◌+◌, ◌%◌}
 use mathlib.Core.Path.{◌≡◌, refl, ap, subst}
 use mathlib.Core.List.{List}
-use Rattle.starting.specs.machine.Log.{op_of}
-use Rattle.bytes_call.specs.answers.declared.Request.{Request}
-use Rattle.bytes_call.specs.refusals.declared.Op.{Op}
-use Rattle.bytes_call.specs.refusals.Refusals.{op_for}
-use Rattle.bytes_call.specs.handed.Handed.{request_of}
+use Rattle.machine.specs.Log.{op_of}
+use Rattle.answers.specs.declared.Request.{Request}
+use Rattle.refusals.specs.declared.Op.{Op}
+use Rattle.refusals.specs.Refusals.{op_for}
+use Rattle.handed.specs.Handed.{request_of}
 use Rattle.bytes_call.specs.BytesCall.{Carries}
 use Rattle.boundary.specs.Boundary.{Room, Crossed}
 

@@ -7,12 +7,12 @@
 --   Crossed op r ..            the promise of `call`
 --   Same n n₂ st st₂ ..        the same result and the same bytes
 use Rattle.std.specs.Prelude.{ℕ, ◌≡◌, List, length}
-use Rattle.starting.specs.machine.Log.{op_of}
-use Rattle.bytes_call.specs.refusals.Refusals.{op_for}
-use Rattle.starting.specs.image.Image.{Whole}
-use Rattle.bytes_call.specs.answers.declared.Request.{Request}
-use Rattle.starting.specs.display.Display.{DISPLAY}
-use Rattle.starting.specs.sizes.Sizes.{ANSWER}
+use Rattle.machine.specs.Log.{op_of}
+use Rattle.refusals.specs.Refusals.{op_for}
+use Rattle.image.specs.Image.{Whole}
+use Rattle.answers.specs.declared.Request.{Request}
+use Rattle.display.specs.Display.{DISPLAY}
+use Rattle.sizes.specs.Sizes.{ANSWER}
 use Rattle.bytes_call.specs.BytesCall.{Carried, Unread}
 
 abbrev pub UNANSWERED : ℕ

@@ -1,8 +1,1 @@
 pub mod Boundary
-pub use Rattle.bytes_call.specs as bytes_call
-pub use Rattle.bytes_call.specs.desk_call as desk_call
-pub use Rattle.starting.specs.display as display
-pub use Rattle.bytes_call.specs.halves as halves
-pub use Rattle.bytes_call.specs.handed as handed
-pub use Rattle.starting.specs.sizes as sizes
-pub use Rattle.starting.specs as starting

@@ -3,14 +3,10 @@
 // `qamhudeer` exports it to programs in C. Assumes nothing.
 #![tactic(auto)]
 
-ghost use Rattle.bytes_call.specs.handed.Handed.{request_of};
+ghost use Rattle.handed.specs.Handed.{request_of};
 ghost use Rattle.boundary.specs.Boundary.{Crossed};
 
-pub use bytes_call;
-use bytes_call::answers::Request;
-pub use bytes_call::{desk_call, halves, handed};
-pub use starting;
-pub use starting::{display, sizes};
+use answers::Request;
 
 // No call was made.
 pub const UNANSWERED: usize = 255;

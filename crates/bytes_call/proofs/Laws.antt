@@ -3,12 +3,12 @@ use Prim.Native.Nat.{ℕ, ◌+◌, ◌≤◌}
 use mathlib.Core.Path.{◌≡◌, ap, sym, subst, ◌∙◌}
 use mathlib.Core.List.{List}
 use native.Mathlib.Omega.{arith}
-use Rattle.display_bytes.proofs.image.Round.{whole_saved}
-use Rattle.desk_call.specs.answers.declared.Request.{Request}
-use Rattle.desk_call.specs.answers.declared.Answer.{Answer}
-use Rattle.handed.specs.refusals.declared.Op.{Op}
-use Rattle.display_bytes.specs.machine.Desks.{HALF}
-use Rattle.desk_call.proofs.arbiter.Lent.{whole_or_not}
+use Rattle.image.proofs.Round.{whole_saved}
+use Rattle.answers.specs.declared.Request.{Request}
+use Rattle.answers.specs.declared.Answer.{Answer}
+use Rattle.refusals.specs.declared.Op.{Op}
+use Rattle.machine.specs.Desks.{HALF}
+use Rattle.arbiter.proofs.Lent.{whole_or_not}
 use Rattle.handed.specs.Handed.{answer_bytes}
 use Rattle.desk_call.specs.declared.Answered.{Answered}
 use Rattle.desk_call.specs.DeskCall.{outcome_in, Lent}

@@ -6,13 +6,13 @@
 --   Unread key ..              the state's bytes hold no struct: no replies, the answer 1 with map 0 and the key given, and nothing else moved
 --   Carries o r ..             the promise of `carry`: the one or the other
 use Rattle.std.specs.Prelude.{ℕ, ◌+◌, ◌≡◌, List}
-use Rattle.display_bytes.specs.machine.Numbers.{UNSOUND, NONE}
-use Rattle.display_bytes.specs.machine.Commands.{done}
-use Rattle.display_bytes.specs.image.Image.{state_of, Whole, Saved}
-use Rattle.desk_call.specs.answers.declared.Request.{Request}
-use Rattle.desk_call.specs.answers.Answers.{answer_of}
-use Rattle.handed.specs.refusals.declared.Op.{Op}
-use Rattle.desk_call.specs.arbiter.Arbiter.{Shows}
+use Rattle.machine.specs.Numbers.{UNSOUND, NONE}
+use Rattle.machine.specs.Commands.{done}
+use Rattle.image.specs.Image.{state_of, Whole, Saved}
+use Rattle.answers.specs.declared.Request.{Request}
+use Rattle.answers.specs.Answers.{answer_of}
+use Rattle.refusals.specs.declared.Op.{Op}
+use Rattle.arbiter.specs.Arbiter.{Shows}
 use Rattle.desk_call.specs.DeskCall.{Outcome, Called}
 use Rattle.handed.specs.Handed.{answer_bytes}
 

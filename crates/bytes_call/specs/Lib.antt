@@ -1,7 +1,1 @@
 pub mod BytesCall
-pub use Rattle.desk_call.specs.answers as answers
-pub use Rattle.desk_call.specs.arbiter as arbiter
-pub use Rattle.desk_call.specs as desk_call
-pub use Rattle.desk_call.specs.halves as halves
-pub use Rattle.handed.specs as handed
-pub use Rattle.handed.specs.refusals as refusals

@@ -6,13 +6,9 @@ ghost use Rattle.std.specs.Prelude.{◌≡◌, length};
 ghost use Rattle.desk_call.specs.DeskCall.{Lent};
 ghost use Rattle.bytes_call.specs.BytesCall.{Carries};
 
-pub use desk_call;
+use answers::Request;
 use desk_call::Answered;
-use desk_call::answers::Request;
-pub use desk_call::{answers, arbiter, halves};
-pub use handed;
-pub use handed::refusals;
-use handed::refusals::Op;
+use refusals::Op;
 
 // A desk's call, with the display's bytes in an array.
 fn show(

@@ -14,40 +14,40 @@ use native.Mathlib.Nat.{mod-lt}
 use lib.Dec.{T, T_not, eqb, eqb→eq, leb, le→leb}
 use lib.ListN.{length, get_or, take, drop}
 use lib.Seq.{length-take-le, take-append-add, drop_at}
-use Rattle.images.specs.memory.Splice.{splice}
-use Rattle.images.proofs.memory.Splice.{length-splice}
+use Rattle.memory.specs.Splice.{splice}
+use Rattle.memory.proofs.Splice.{length-splice}
 use Rattle.std.specs.Prelude.{if◌then◌else◌}
-use Rattle.one_desk.specs.machine.Lists.{keep}
-use Rattle.one_desk.specs.machine.State.{Answer, Call, Reply, State as StateM}
-use Rattle.one_desk.specs.machine.Desks.{DESK_A, DESK_B, HALF, replies_to, halves}
-use Rattle.one_desk.specs.machine.Log.{op_of}
-use Rattle.one_desk.specs.machine.Call.{call, in_range}
-use Rattle.one_desk.proofs.machine.Tests.{and_both, and_left, and_right, by_test, test_true, test_false}
-use Rattle.code_runs.specs.refusals.Refusals.{op_for}
-use Rattle.one_desk.proofs.machine_laws.Lists.{keep_swap}
-use Rattle.one_desk.proofs.machine_laws.Halves.{call-halves}
-use Rattle.images.specs.channel.Channel.{channel_of}
-use Rattle.images.specs.reply.Replies.{encode, encodes, sent}
-use Rattle.images.proofs.reply.Laws.{length-encodes}
-use Rattle.boundary.specs.halves.Halves.{laid}
-use Rattle.images.specs.board.Board.{state_in, Held}
-use Rattle.images.specs.image.Image.{state_of, Whole, channel_bytes}
-use Rattle.code_runs.specs.answers.Answers.{answer_of}
-use Rattle.boundary.specs.desk_call.DeskCall.{Told}
-use Rattle.code_runs.specs.display.Display.{DISPLAY}
-use Rattle.boundary.specs.sizes.Sizes.{ANSWER}
-use Rattle.boundary.specs.handed.Handed.{answer_bytes}
-use Rattle.boundary.specs.bytes_call.BytesCall.{Carried}
+use Rattle.machine.specs.Lists.{keep}
+use Rattle.machine.specs.State.{Answer, Call, Reply, State as StateM}
+use Rattle.machine.specs.Desks.{DESK_A, DESK_B, HALF, replies_to, halves}
+use Rattle.machine.specs.Log.{op_of}
+use Rattle.machine.specs.Call.{call, in_range}
+use Rattle.machine.proofs.Tests.{and_both, and_left, and_right, by_test, test_true, test_false}
+use Rattle.refusals.specs.Refusals.{op_for}
+use Rattle.machine_laws.proofs.Lists.{keep_swap}
+use Rattle.machine_laws.proofs.Halves.{call-halves}
+use Rattle.channel.specs.Channel.{channel_of}
+use Rattle.reply.specs.Replies.{encode, encodes, sent}
+use Rattle.reply.proofs.Laws.{length-encodes}
+use Rattle.halves.specs.Halves.{laid}
+use Rattle.board.specs.Board.{state_in, Held}
+use Rattle.image.specs.Image.{state_of, Whole, channel_bytes}
+use Rattle.answers.specs.Answers.{answer_of}
+use Rattle.desk_call.specs.DeskCall.{Told}
+use Rattle.display.specs.Display.{DISPLAY}
+use Rattle.sizes.specs.Sizes.{ANSWER}
+use Rattle.handed.specs.Handed.{answer_bytes}
+use Rattle.bytes_call.specs.BytesCall.{Carried}
 use Rattle.boundary.specs.Boundary.{UNANSWERED, Room, Unanswered}
 use Rattle.boundary.proofs.Crossing.{sound-after}
-use Rattle.code_runs.specs.two_runs.TwoRuns.{Party, Start, ByK, ByOthers, counted, in_bytes, lends, view, waiters_of, own_replies}
-use Rattle.code_runs.specs.two_runs.Core.{Missing, OfK, OfOthers, misses}
-use Rattle.code_runs.specs.two_runs.Part.{project}
-use Rattle.code_runs.proofs.two_runs.Part.{Ready, own_replies_twice, project_out, theirs_of, view_part, waiters_part}
-use Rattle.code_runs.proofs.two_runs.Begin.{start_ready}
-use Rattle.code_runs.proofs.two_runs.TheirsCall.{theirs_mild}
-use Rattle.code_runs.proofs.two_runs.TwoRuns.{begins_of, ours-alone, ours-ready, theirs_ready}
-use Rattle.code_runs.proofs.two_runs.Desk.{of_desk_lem}
+use Rattle.two_runs.specs.TwoRuns.{Party, Start, ByK, ByOthers, counted, in_bytes, lends, view, waiters_of, own_replies}
+use Rattle.two_runs.specs.Core.{Missing, OfK, OfOthers, misses}
+use Rattle.two_runs.specs.Part.{project}
+use Rattle.two_runs.proofs.Part.{Ready, own_replies_twice, project_out, theirs_of, view_part, waiters_part}
+use Rattle.two_runs.proofs.Begin.{start_ready}
+use Rattle.two_runs.proofs.TheirsCall.{theirs_mild}
+use Rattle.two_runs.proofs.TwoRuns.{begins_of, ours-alone, ours-ready, theirs_ready}
+use Rattle.two_runs.proofs.Desk.{of_desk_lem}
 use Rattle.code_runs.specs.CodeRuns.{records_to, stored_of}
 use Rattle.code_runs.proofs.CodeRuns.{count_of, records_to-encodes, stores, view_of_lem}
 use Rattle.code_runs.specs.Stored.{stored_in}

@@ -7,19 +7,19 @@ use native.Mathlib.Omega.{arith}
 use lib.Dec.{T, eqb, eqb→eq}
 use lib.ListN.{length, drop}
 use Rattle.std.specs.Prelude.{if◌then◌else◌}
-use Rattle.one_desk.specs.machine.Lists.{keep}
-use Rattle.one_desk.specs.machine.State.{Reply}
-use Rattle.one_desk.specs.machine.Desks.{DESK_A, DESK_B, desk_of, replies_to, halves}
-use Rattle.one_desk.specs.machine.Call.{call}
-use Rattle.one_desk.proofs.machine.Tests.{by_test, eqb_false, test_true, test_false}
-use Rattle.one_desk.proofs.machine_laws.Lists.{keep_twice}
-use Rattle.one_desk.proofs.machine_laws.Halves.{call-halves}
-use Rattle.images.specs.reply.Replies.{encode, encodes}
-use Rattle.images.specs.board.Board.{state_in, Held}
-use Rattle.images.specs.image.Image.{state_of, Whole}
-use Rattle.code_runs.specs.two_runs.TwoRuns.{own_replies}
-use Rattle.code_runs.specs.two_runs.Desk.{of_desk}
-use Rattle.code_runs.proofs.two_runs.Desk.{avoids_of}
+use Rattle.machine.specs.Lists.{keep}
+use Rattle.machine.specs.State.{Reply}
+use Rattle.machine.specs.Desks.{DESK_A, DESK_B, desk_of, replies_to, halves}
+use Rattle.machine.specs.Call.{call}
+use Rattle.machine.proofs.Tests.{by_test, eqb_false, test_true, test_false}
+use Rattle.machine_laws.proofs.Lists.{keep_twice}
+use Rattle.machine_laws.proofs.Halves.{call-halves}
+use Rattle.reply.specs.Replies.{encode, encodes}
+use Rattle.board.specs.Board.{state_in, Held}
+use Rattle.image.specs.Image.{state_of, Whole}
+use Rattle.two_runs.specs.TwoRuns.{own_replies}
+use Rattle.two_runs.specs.Desk.{of_desk}
+use Rattle.two_runs.proofs.Desk.{avoids_of}
 use Rattle.code_runs.specs.CodeRuns.{records}
 use Rattle.c_runs.specs.CRuns.{Turn, asked, roomy, Took, Move, ours, others, Chained, Full, own_records}
 use Rattle.c_runs.specs.Desk.{KeepsApart, half, Demand3DeskBytes}

@@ -6,12 +6,12 @@ use Prim.Native.Nat.{ℕ}
 use mathlib.Core.Path.{◌≡◌, refl, sym, ◌∙◌}
 use mathlib.Core.Logic.{inl, inr}
 use mathlib.Core.List.{List, [], ◌∷◌}
-use Rattle.one_desk.specs.machine.Machine.{machine}
-use Rattle.images.specs.store.Store.{table_of}
-use Rattle.code_runs.specs.two_runs.TwoRuns.{claim}
-use Rattle.code_runs.specs.two_runs.Core.{misses}
-use Rattle.code_runs.specs.two_runs.Desk.{of_desk, from_other, spares, RunOfDesk}
-use Rattle.code_runs.proofs.two_runs.Desk.{begun, begins}
+use Rattle.machine.specs.Machine.{machine}
+use Rattle.store.specs.Store.{table_of}
+use Rattle.two_runs.specs.TwoRuns.{claim}
+use Rattle.two_runs.specs.Core.{misses}
+use Rattle.two_runs.specs.Desk.{of_desk, from_other, spares, RunOfDesk}
+use Rattle.two_runs.proofs.Desk.{begun, begins}
 use Rattle.code_runs.specs.Made.{OnBoard}
 use Rattle.code_runs.proofs.Made.{board-state}
 use Rattle.c_runs.specs.CRuns.{sights}

@@ -8,9 +8,9 @@ use mathlib.Core.List.{[], ◌∷◌, ◌++◌}
 use mathlib.Core.Option.{none, some}
 use lib.Dec.{eqb}
 use lib.ListN.{replicate}
-use Rattle.one_desk.specs.machine.State.{COMMAND}
-use Rattle.one_desk.specs.machine.Machine.{machine}
-use Rattle.code_runs.specs.two_runs.TwoRuns.{Party, claim}
+use Rattle.machine.specs.State.{COMMAND}
+use Rattle.machine.specs.Machine.{machine}
+use Rattle.two_runs.specs.TwoRuns.{Party, claim}
 use Rattle.code_runs.specs.CodeRuns.{code_claim}
 use Rattle.c_runs.specs.CRuns.{Turn, ours, others, own_calls, spoken, own_records, bytes_claim}
 

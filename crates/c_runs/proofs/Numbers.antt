@@ -6,13 +6,13 @@ use mathlib.Core.Path.{◌≡◌, refl}
 use mathlib.Core.Bool.{false}
 use mathlib.Core.List.{List, [], ◌∷◌}
 use lib.ListN.{get_or}
-use Rattle.one_desk.specs.machine.State.{State as StateM}
-use Rattle.one_desk.specs.machine.Call.{call}
-use Rattle.one_desk.specs.machine.Machine.{machine}
-use Rattle.images.specs.store.Store.{table_of}
-use Rattle.boundary.specs.handed.Handed.{answer_bytes}
-use Rattle.code_runs.specs.two_runs.TwoRuns.{Start, Run as RunM, claim}
-use Rattle.code_runs.proofs.two_runs.Premises.{premises, runs_all, starts_all}
+use Rattle.machine.specs.State.{State as StateM}
+use Rattle.machine.specs.Call.{call}
+use Rattle.machine.specs.Machine.{machine}
+use Rattle.store.specs.Store.{table_of}
+use Rattle.handed.specs.Handed.{answer_bytes}
+use Rattle.two_runs.specs.TwoRuns.{Start, Run as RunM, claim}
+use Rattle.two_runs.proofs.Premises.{premises, runs_all, starts_all}
 use Rattle.code_runs.specs.Made.{OnBoard}
 use Rattle.code_runs.proofs.Witness.{party, start}
 use Rattle.c_runs.specs.CRuns.{Run}

@@ -9,17 +9,17 @@ use native.Mathlib.Omega.{arith}
 use borrow.Author.Tests.{ltb-true, ltb-false}
 use lib.Dec.{T, ltb}
 use lib.ListN.{length, get_or}
-use Rattle.one_desk.specs.machine.State.{Answer, Call, Reply, State as StateM}
+use Rattle.machine.specs.State.{Answer, Call, Reply, State as StateM}
 use Rattle.std.specs.Prelude.{if◌then◌else◌}
-use Rattle.one_desk.specs.machine.Lists.{keep}
-use Rattle.one_desk.specs.machine.Desks.{DESK_A, DESK_B, HALF, desk_of, replies_to}
-use Rattle.one_desk.specs.machine.Call.{call}
-use Rattle.one_desk.proofs.machine.Tests.{eqb_false}
-use Rattle.one_desk.proofs.machine_laws.Rooms.{short-mute}
-use Rattle.images.specs.reply.Replies.{encode}
-use Rattle.images.specs.board.Board.{state_in, Held}
-use Rattle.images.specs.image.Image.{state_of, Whole}
-use Rattle.boundary.specs.handed.Handed.{answer_bytes}
+use Rattle.machine.specs.Lists.{keep}
+use Rattle.machine.specs.Desks.{DESK_A, DESK_B, HALF, desk_of, replies_to}
+use Rattle.machine.specs.Call.{call}
+use Rattle.machine.proofs.Tests.{eqb_false}
+use Rattle.machine_laws.proofs.Rooms.{short-mute}
+use Rattle.reply.specs.Replies.{encode}
+use Rattle.board.specs.Board.{state_in, Held}
+use Rattle.image.specs.Image.{state_of, Whole}
+use Rattle.handed.specs.Handed.{answer_bytes}
 use Rattle.code_runs.specs.CodeRuns.{records}
 use Rattle.one_desk.proofs.OneDesk.{one_desk_lem}
 use Rattle.c_runs.specs.CRuns.{Turn, asked, roomy, Took, spoken}

@@ -5,10 +5,10 @@
 use mathlib.Core.Path.{◌≡◌, refl}
 use mathlib.Core.List.{[], ◌∷◌}
 use lib.ListN.{get_or}
-use Rattle.images.specs.memory.Splice.{splice}
-use Rattle.one_desk.specs.machine.Desks.{DESK_A, DESK_B}
-use Rattle.one_desk.specs.machine.Machine.{machine}
-use Rattle.boundary.specs.handed.Handed.{answer_bytes}
+use Rattle.memory.specs.Splice.{splice}
+use Rattle.machine.specs.Desks.{DESK_A, DESK_B}
+use Rattle.machine.specs.Machine.{machine}
+use Rattle.handed.specs.Handed.{answer_bytes}
 use Rattle.code_runs.specs.CodeRuns.{code_claim}
 use Rattle.one_desk.proofs.Witness.{busy, quiet}
 use Rattle.c_runs.specs.CRuns.{bytes_claim}

@@ -2,11 +2,11 @@
 -- desk B, by CLOSE, on the bytes of the third state. Assumes nothing.
 use mathlib.Core.Path.{◌≡◌, refl}
 use mathlib.Core.List.{[]}
-use Rattle.one_desk.specs.machine.Desks.{DESK_A, DESK_B}
-use Rattle.one_desk.specs.machine.Log.{op_of}
-use Rattle.one_desk.specs.machine.Machine.{machine}
-use Rattle.images.specs.store.Store.{table_of}
-use Rattle.code_runs.specs.two_runs.TwoRuns.{claim}
+use Rattle.machine.specs.Desks.{DESK_A, DESK_B}
+use Rattle.machine.specs.Log.{op_of}
+use Rattle.machine.specs.Machine.{machine}
+use Rattle.store.specs.Store.{table_of}
+use Rattle.two_runs.specs.TwoRuns.{claim}
 use Rattle.code_runs.specs.Made.{OnBoard}
 use Rattle.code_runs.proofs.Made.{board-state}
 use Rattle.one_desk.proofs.Witness.{busy, quiet, other, premises-met, premises-met_by_b}

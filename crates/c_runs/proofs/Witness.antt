@@ -8,30 +8,30 @@ use mathlib.Core.Option.{Option, none, some}
 use native.Mathlib.Omega.{arith}
 use lib.Dec.{T, leb, leb→le}
 use lib.ListN.{length, length-replicate}
-use Rattle.one_desk.specs.machine.Lists.{all}
-use Rattle.one_desk.specs.machine.State.{Call, Outcome as OutcomeM, State as StateM}
-use Rattle.one_desk.specs.machine.Desks.{DESK_A, DESK_B, desk_of, replies_to}
-use Rattle.one_desk.specs.machine.Log.{op_of}
-use Rattle.one_desk.specs.machine.Call.{call, in_range}
-use Rattle.one_desk.specs.machine.Machine.{machine}
-use Rattle.one_desk.proofs.machine.Tests.{and_left, and_right}
-use Rattle.one_desk.proofs.machine_laws.Sound.{parts}
-use Rattle.code_runs.specs.display.Display.{blank, displayed}
-use Rattle.boundary.specs.halves.Halves.{laid}
-use Rattle.images.specs.store.Store.{table_of}
-use Rattle.images.specs.board.declared.Board.{Board}
-use Rattle.images.specs.board.Board.{struct_of, state_in, Held}
-use Rattle.images.specs.image.Image.{state_of, Whole}
-use Rattle.images.proofs.image.Round.{state_of_image_of}
+use Rattle.machine.specs.Lists.{all}
+use Rattle.machine.specs.State.{Call, Outcome as OutcomeM, State as StateM}
+use Rattle.machine.specs.Desks.{DESK_A, DESK_B, desk_of, replies_to}
+use Rattle.machine.specs.Log.{op_of}
+use Rattle.machine.specs.Call.{call, in_range}
+use Rattle.machine.specs.Machine.{machine}
+use Rattle.machine.proofs.Tests.{and_left, and_right}
+use Rattle.machine_laws.proofs.Sound.{parts}
+use Rattle.display.specs.Display.{blank, displayed}
+use Rattle.halves.specs.Halves.{laid}
+use Rattle.store.specs.Store.{table_of}
+use Rattle.board.specs.declared.Board.{Board}
+use Rattle.board.specs.Board.{struct_of, state_in, Held}
+use Rattle.image.specs.Image.{state_of, Whole}
+use Rattle.image.proofs.Round.{state_of_image_of}
 use Rattle.images.proofs.Images.{saved_of, sized_of}
-use Rattle.code_runs.specs.answers.Answers.{answer_of}
-use Rattle.code_runs.specs.refusals.Refusals.{op_for}
-use Rattle.code_runs.specs.arbiter.Arbiter.{Shows}
-use Rattle.boundary.specs.desk_call.DeskCall.{Outcome, Told, Called}
-use Rattle.boundary.specs.sizes.Sizes.{REPLIES}
-use Rattle.code_runs.specs.two_runs.TwoRuns.{Party, Start, Step, our, their, Keeps as KeepsM, Run as RunM, calls, claim, counted, in_bytes, said}
-use Rattle.code_runs.specs.two_runs.Desk.{KeepsApart as KeepsApartM, RunOfDesk as RunOfDeskM}
-use Rattle.code_runs.proofs.two_runs.Premises.{premises, runs_all, starts_all}
+use Rattle.answers.specs.Answers.{answer_of}
+use Rattle.refusals.specs.Refusals.{op_for}
+use Rattle.arbiter.specs.Arbiter.{Shows}
+use Rattle.desk_call.specs.DeskCall.{Outcome, Told, Called}
+use Rattle.sizes.specs.Sizes.{REPLIES}
+use Rattle.two_runs.specs.TwoRuns.{Party, Start, Step, our, their, Keeps as KeepsM, Run as RunM, calls, claim, counted, in_bytes, said}
+use Rattle.two_runs.specs.Desk.{KeepsApart as KeepsApartM, RunOfDesk as RunOfDeskM}
+use Rattle.two_runs.proofs.Premises.{premises, runs_all, starts_all}
 use Rattle.boundary.specs.Boundary.{UNANSWERED}
 use Rattle.code_runs.specs.Made.{OnBoard}
 use Rattle.code_runs.proofs.Made.{bytes_count, bytes-range, board_held, board_next, board-state, sound_next}

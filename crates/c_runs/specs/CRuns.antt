@@ -23,17 +23,17 @@
 --   bytes_claim           one name that unfolds these definitions
 use Rattle.std.specs.Prelude.{ℕ, ◌≤◌, ◌≡◌, List, [], ◌∷◌, ◌++◌, map, Bool, ◌&&◌, T, eqb, length, get_or, take, drop, if◌then◌else◌}
 use Rattle.std.proofs.Math.Option.{Option, none, some}
-use Rattle.one_desk.specs.machine.State.{Call}
-use Rattle.one_desk.specs.machine.Log.{op_of}
-use Rattle.images.specs.board.Board.{state_in, Held}
-use Rattle.images.specs.image.Image.{state_of, Whole, channel_bytes}
-use Rattle.code_runs.specs.answers.declared.Request.{Request}
-use Rattle.code_runs.specs.refusals.Refusals.{asked_of, op_for}
-use Rattle.code_runs.specs.display.Display.{DISPLAY}
-use Rattle.boundary.specs.sizes.Sizes.{ANSWER, REPLIES}
-use Rattle.boundary.specs.handed.Handed.{request_of}
+use Rattle.machine.specs.State.{Call}
+use Rattle.machine.specs.Log.{op_of}
+use Rattle.board.specs.Board.{state_in, Held}
+use Rattle.image.specs.Image.{state_of, Whole, channel_bytes}
+use Rattle.answers.specs.declared.Request.{Request}
+use Rattle.refusals.specs.Refusals.{asked_of, op_for}
+use Rattle.display.specs.Display.{DISPLAY}
+use Rattle.sizes.specs.Sizes.{ANSWER, REPLIES}
+use Rattle.handed.specs.Handed.{request_of}
 use Rattle.boundary.specs.Boundary.{Crossed}
-use Rattle.code_runs.specs.two_runs.TwoRuns.{Party, Start, ByK, ByOthers, counted, said}
+use Rattle.two_runs.specs.TwoRuns.{Party, Start, ByK, ByOthers, counted, said}
 use Rattle.code_runs.specs.CodeRuns.{records_to, view_of, stored_of}
 
 pub record Turn : Type 0 where

@@ -7,11 +7,11 @@
 --   half d t                 the records of desk d's half, as many as the answer tells
 --   Demand3DeskBytes       two runs with the same calls of the desk show it the same
 use Rattle.std.specs.Prelude.{ℕ, ◌+◌, ◌*◌, ◌≡◌, ◌⊎◌, List, [], ◌∷◌, T, get_or, drop}
-use Rattle.images.specs.board.Board.{state_in, Held}
-use Rattle.images.specs.image.Image.{state_of, Whole}
-use Rattle.code_runs.specs.two_runs.TwoRuns.{Party, Start, ByK}
-use Rattle.code_runs.specs.two_runs.Core.{misses}
-use Rattle.code_runs.specs.two_runs.Desk.{of_desk, ByOtherDesk}
+use Rattle.board.specs.Board.{state_in, Held}
+use Rattle.image.specs.Image.{state_of, Whole}
+use Rattle.two_runs.specs.TwoRuns.{Party, Start, ByK}
+use Rattle.two_runs.specs.Core.{misses}
+use Rattle.two_runs.specs.Desk.{of_desk, ByOtherDesk}
 use Rattle.code_runs.specs.CodeRuns.{records}
 use Rattle.c_runs.specs.CRuns.{Turn, asked, roomy, Move, ours, others, Chained, Full, own_calls, sights}
 

@@ -13,20 +13,20 @@
 --   own_says xs           the party's calls among them; none where one has no room
 use Rattle.std.specs.Prelude.{ℕ, ◌+◌, List, [], ◌∷◌, length, replicate}
 use Rattle.std.proofs.Math.Option.{Option, none, some}
-use Rattle.one_desk.specs.machine.State.{Call, State as StateM}
-use Rattle.one_desk.specs.machine.Desks.{DESK_A, DESK_B, replies_to}
-use Rattle.one_desk.specs.machine.Log.{op_of}
-use Rattle.one_desk.specs.machine.Call.{call}
-use Rattle.code_runs.specs.display.Display.{blank, displayed}
-use Rattle.boundary.specs.halves.Halves.{laid}
-use Rattle.images.specs.store.Store.{table_of}
-use Rattle.images.specs.board.Board.{struct_of}
-use Rattle.images.specs.image.Image.{image_of}
-use Rattle.code_runs.specs.answers.Answers.{answer_of}
-use Rattle.code_runs.specs.refusals.Refusals.{asked_of, op_for}
-use Rattle.boundary.specs.handed.Handed.{request_of, answer_bytes}
+use Rattle.machine.specs.State.{Call, State as StateM}
+use Rattle.machine.specs.Desks.{DESK_A, DESK_B, replies_to}
+use Rattle.machine.specs.Log.{op_of}
+use Rattle.machine.specs.Call.{call}
+use Rattle.display.specs.Display.{blank, displayed}
+use Rattle.halves.specs.Halves.{laid}
+use Rattle.store.specs.Store.{table_of}
+use Rattle.board.specs.Board.{struct_of}
+use Rattle.image.specs.Image.{image_of}
+use Rattle.answers.specs.Answers.{answer_of}
+use Rattle.refusals.specs.Refusals.{asked_of, op_for}
+use Rattle.handed.specs.Handed.{request_of, answer_bytes}
 use Rattle.boundary.specs.Boundary.{UNANSWERED}
-use Rattle.code_runs.specs.two_runs.TwoRuns.{Step, our, their, said}
+use Rattle.two_runs.specs.TwoRuns.{Step, our, their, said}
 use Rattle.c_runs.specs.CRuns.{Turn, Move, ours, others}
 
 pub record Ask : Type 0 where

@@ -9,8 +9,8 @@
 --   OneDeskBytes        two calls with room for their answers, and with the same numbers, combinations and number of records lent,
 --                        give it the same
 use Rattle.std.specs.Prelude.{ℕ, ◌+◌, ◌≡◌, List, T, get_or}
-use Rattle.images.specs.board.Board.{state_in, Held}
-use Rattle.images.specs.image.Image.{state_of, Whole}
+use Rattle.board.specs.Board.{state_in, Held}
+use Rattle.image.specs.Image.{state_of, Whole}
 use Rattle.one_desk.specs.OneDesk.{Premises}
 use Rattle.c_runs.specs.CRuns.{Turn, asked, roomy, Took, spoken}
 use Rattle.c_runs.specs.Desk.{half}

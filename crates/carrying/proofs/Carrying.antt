@@ -8,29 +8,29 @@ use mathlib.Core.List.{List, [], ◌∷◌, ◌++◌, append_assoc}
 use native.Mathlib.Omega.{arith}
 use lib.Dec.{T}
 use lib.ListN.{length, take, length-append}
-use Rattle.accepting2.specs.machine.State.{State}
-use Rattle.accepting2.specs.machine.Log.{lines, feed, run}
-use Rattle.accepting2.proofs.machine.Tests.{by_test, test_true, test_false}
-use Rattle.accepting2.specs.machine.InBytes.{two_bytes}
-use Rattle.accepting2.specs.display.Display.{numbers}
-use Rattle.accepting2.proofs.display.Pinned.{numbers-length}
-use Rattle.accepting2.specs.board.declared.Board.{Board}
-use Rattle.accepting2.specs.board.Board.{state_in, Held}
-use Rattle.accepting2.proofs.board.Laws.{held_width}
-use Rattle.accepting2.specs.gathering.Lumps.{ended}
-use Rattle.accepting2.proofs.gathering.Lumps.{stands_none}
-use Rattle.whole_log.specs.taking.declared.Show.{Show}
-use Rattle.whole_log.specs.taking.Desk.{hidden, run_shown}
-use Rattle.accepting2.specs.hex_lines.HexLines.{Put}
+use Rattle.machine.specs.State.{State}
+use Rattle.machine.specs.Log.{lines, feed, run}
+use Rattle.machine.proofs.Tests.{by_test, test_true, test_false}
+use Rattle.machine.specs.InBytes.{two_bytes}
+use Rattle.display.specs.Display.{numbers}
+use Rattle.display.proofs.Pinned.{numbers-length}
+use Rattle.board.specs.declared.Board.{Board}
+use Rattle.board.specs.Board.{state_in, Held}
+use Rattle.board.proofs.Laws.{held_width}
+use Rattle.gathering.specs.Lumps.{ended}
+use Rattle.gathering.proofs.Lumps.{stands_none}
+use Rattle.taking.specs.declared.Show.{Show}
+use Rattle.taking.specs.Desk.{hidden, run_shown}
+use Rattle.hex_lines.specs.HexLines.{Put}
 use Rattle.whole_log.specs.Whole.{joined, Ran, board_at, table_at, Ended}
 use Rattle.whole_log.proofs.Whole.{none_ended, run_hidden, ran_run, ran_ends}
-use Rattle.accepting2.specs.saved.Saved.{text, TextOf}
-use Rattle.accepting2.specs.saved2.Saved2.{text2, TextOf2}
-use Rattle.accepting2.proofs.saving2.Laws2.{taken_front}
-use Rattle.accepting2.proofs.read_back2.ReadBack2.{one_spelling2}
-use Rattle.accepting2.specs.recounting.Recounting.{counted}
-use Rattle.accepting2.specs.accepting.declared.Found.{Found}
-use Rattle.accepting2.proofs.accepting.Accepting.{one_spelling, one_accepting}
+use Rattle.saved.specs.Saved.{text, TextOf}
+use Rattle.saved2.specs.Saved2.{text2, TextOf2}
+use Rattle.saving2.proofs.Laws2.{taken_front}
+use Rattle.read_back2.proofs.ReadBack2.{one_spelling2}
+use Rattle.recounting.specs.Recounting.{counted}
+use Rattle.accepting.specs.declared.Found.{Found}
+use Rattle.accepting.proofs.Accepting.{one_spelling, one_accepting}
 use Rattle.accepting2.proofs.Accepting2.{one_accepting2}
 use Rattle.carrying.specs.Carrying.{Counts, Still, Resumes, Resumes2, Carries}
 

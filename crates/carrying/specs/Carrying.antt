@@ -8,12 +8,12 @@
 --   Carries s f tb dp         what is held is the state s, with its display counted: so it is where a text of s, of either form, was
 --                             resumed
 use Rattle.std.specs.Prelude.{◌≡◌, true, false, List, ℕ}
-use Rattle.accepting2.specs.machine.State.{State}
-use Rattle.accepting2.specs.board.Board.{state_in, Held}
-use Rattle.accepting2.specs.accepting.declared.Found.{Found}
-use Rattle.accepting2.specs.accepting.Accepting.{Accepts}
+use Rattle.machine.specs.State.{State}
+use Rattle.board.specs.Board.{state_in, Held}
+use Rattle.accepting.specs.declared.Found.{Found}
+use Rattle.accepting.specs.Accepting.{Accepts}
 use Rattle.accepting2.specs.Accepting2.{Accepts2}
-use Rattle.accepting2.specs.recounting.Recounting.{counted}
+use Rattle.recounting.specs.Recounting.{counted}
 
 -- #110: "Loading a saved state recounts once and sets the looks to 0."
 abbrev pub Counts : Found → List ℕ → List ℕ → Type 0

@@ -3,14 +3,10 @@
 #![tactic(auto)]
 
 ghost use Rattle.std.specs.Prelude.{◌≡◌, T, length, replicate};
-ghost use Rattle.accepting2.specs.board.Board.{sized};
+ghost use Rattle.board.specs.Board.{sized};
 ghost use Rattle.carrying.specs.Carrying.{Resumes, Resumes2};
 
-use accepting2::accepting::Found;
-use accepting2::recounting;
-pub use accepting2::{accepting, board, display, gathering, machine, saving2, store};
-pub use whole_log;
-pub use whole_log::{encoding, finishing, paging, taking};
+use accepting::Found;
 
 // The board that a text holds, its table, and its display counted once. A text that was not saved leaves the display as it was.
 pub fn resume(text: &[u8], table: &mut [u8], display: &mut [u8]) -> Found

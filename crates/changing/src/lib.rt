@@ -5,12 +5,9 @@ ghost use Rattle.std.specs.Prelude.{[], ◌∷◌};
 ghost use Rattle.answers.specs.Answers.{Does};
 ghost use Rattle.changing.specs.Changing.{command_of, Accepted, Among};
 
-use answers::channel::Change;
-use answers::store::State;
 use answers::{Outcome, Request};
-pub use freeing;
-pub use freeing::granting;
-use freeing::sweep;
+use channel::Change;
+use store::State;
 
 // RESET, FLUSH and FREE: writes are aborted.
 pub fn dropping(r: Request, s: State, table: &mut [u8], replies: &mut [u8]) -> Outcome

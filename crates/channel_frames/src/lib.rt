@@ -5,11 +5,9 @@
 ghost use Rattle.std.specs.Prelude.{◌≡◌, [], length};
 ghost use Rattle.sheet.specs.Sheet.{sheet, channel_from, channel_taken, Takes};
 
-pub use sheet;
+use channel::Channel;
+use queue::Queue;
 use sheet::Draft;
-use sheet::channel::Channel;
-use sheet::queue::Queue;
-pub use sheet::{memory, open_keys, store, table};
 
 // The channel of a frame D1, without its writes.
 fn channel_of(f: &[u8]) -> Channel

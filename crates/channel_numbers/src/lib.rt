@@ -4,15 +4,11 @@
 #![tactic(auto)]
 
 ghost use Rattle.std.specs.Prelude.{◌≡◌, map, length, take};
-ghost use Rattle.shifting.specs.memory.Splice.{splice};
+ghost use Rattle.memory.specs.Splice.{splice};
 ghost use Rattle.channel_numbers.specs.ChannelNumbers.{count_at, moved};
 
-pub use lanes;
-pub use lanes::{display, machine};
-pub use shifting::memory;
-pub use store;
+use channel::Channel;
 use store::State;
-use store::channel::Channel;
 
 // How many writes each channel has.
 fn lengths(cs: [Channel; 8]) -> [u8; 8]

@@ -12,24 +12,24 @@ use native.Mathlib.Nat.{zero-add}
 use lib.Dec.{T, eqb, leb, le→leb, leb→le}
 use lib.ListN.{length, get_or, drop}
 use Rattle.std.specs.Prelude.{if◌then◌else◌}
-use Rattle.two_runs.specs.machine.Lists.{all, keep}
-use Rattle.two_runs.specs.machine.Numbers.{CMD_WRITE, CYCLES}
-use Rattle.two_runs.specs.machine.State.{Call, Channel as ChannelM, Op as OpM, OPEN, CLOSE, ABORT, EVENT, COMMAND, Reply, State as StateM, free}
-use Rattle.two_runs.specs.machine.Commands.{cycles_in}
-use Rattle.two_runs.specs.machine.Call.{call, in_range}
-use Rattle.two_runs.proofs.machine.Tests.{and_both, or_right}
-use Rattle.two_runs.specs.machine_laws.Keeping.{Counted}
-use Rattle.arbiter.specs.memory.Splice.{splice}
-use Rattle.arbiter.specs.channel.declared.Channel.{Channel}
-use Rattle.arbiter.specs.channel.Channel.{channel_of}
-use Rattle.arbiter.specs.reply.Replies.{encode, encodes, sent}
-use Rattle.arbiter.specs.board.declared.Board.{Board}
-use Rattle.arbiter.specs.answers.Answers.{answer_in}
-use Rattle.arbiter.specs.board.Board.{state_in, Held, Told}
-use Rattle.arbiter.proofs.board.Laws.{held_channels}
-use Rattle.arbiter.specs.board.declared.Outcome.{Outcome}
-use Rattle.arbiter.specs.answers.declared.Request.{Request}
-use Rattle.arbiter.specs.refusals.declared.Op.{Op}
+use Rattle.machine.specs.Lists.{all, keep}
+use Rattle.machine.specs.Numbers.{CMD_WRITE, CYCLES}
+use Rattle.machine.specs.State.{Call, Channel as ChannelM, Op as OpM, OPEN, CLOSE, ABORT, EVENT, COMMAND, Reply, State as StateM, free}
+use Rattle.machine.specs.Commands.{cycles_in}
+use Rattle.machine.specs.Call.{call, in_range}
+use Rattle.machine.proofs.Tests.{and_both, or_right}
+use Rattle.machine_laws.specs.Keeping.{Counted}
+use Rattle.memory.specs.Splice.{splice}
+use Rattle.channel.specs.declared.Channel.{Channel}
+use Rattle.channel.specs.Channel.{channel_of}
+use Rattle.reply.specs.Replies.{encode, encodes, sent}
+use Rattle.board.specs.declared.Board.{Board}
+use Rattle.answers.specs.Answers.{answer_in}
+use Rattle.board.specs.Board.{state_in, Held, Told}
+use Rattle.board.proofs.Laws.{held_channels}
+use Rattle.board.specs.declared.Outcome.{Outcome}
+use Rattle.answers.specs.declared.Request.{Request}
+use Rattle.refusals.specs.declared.Op.{Op}
 use Rattle.arbiter.specs.Outcome.{Same}
 use Rattle.arbiter.proofs.Outcome.{held_after, one_outcome}
 use Rattle.two_runs.specs.TwoRuns.{Party, Start, their, Keeps as KeepsM, Run as RunM, reached, calls, counted, in_bytes, lends, own, said, mask, view, waiters_of, own_replies, answered, received, owning, seen}

@@ -4,12 +4,12 @@ use Prim.Native.Nat.{ℕ}
 use mathlib.Core.Path.{◌≡◌, refl}
 use mathlib.Core.Bool.{false}
 use mathlib.Core.List.{List, [], ◌∷◌}
-use Rattle.two_runs.specs.machine.State.{OPEN, CLOSE, EVENT, CYCLE_ENDED, COMMAND, State as StateM, free}
-use Rattle.two_runs.specs.machine.Machine.{machine}
-use Rattle.two_runs.specs.machine.Walks.{plays}
-use Rattle.arbiter.specs.memory.Splice.{splice}
-use Rattle.arbiter.specs.store.Store.{table_of}
-use Rattle.arbiter.specs.board.Board.{struct_of}
+use Rattle.machine.specs.State.{OPEN, CLOSE, EVENT, CYCLE_ENDED, COMMAND, State as StateM, free}
+use Rattle.machine.specs.Machine.{machine}
+use Rattle.machine.specs.Walks.{plays}
+use Rattle.memory.specs.Splice.{splice}
+use Rattle.store.specs.Store.{table_of}
+use Rattle.board.specs.Board.{struct_of}
 use Rattle.two_runs.specs.TwoRuns.{Step, our, their, claim}
 use Rattle.two_runs.proofs.Premises.{premises, runs_all, starts_all}
 use Rattle.code_runs.specs.CodeRuns.{all_records, Alike, code_claim}

@@ -9,19 +9,19 @@ use native.Mathlib.Omega.{arith}
 use native.Mathlib.Nat.{zero-add}
 use lib.Dec.{T, leb, leb→le}
 use lib.ListN.{length, length-replicate}
-use Rattle.two_runs.specs.machine.Lists.{all}
-use Rattle.two_runs.specs.machine.State.{Call, Op as OpM, OPEN, CLOSE, ABORT, EVENT, CYCLE_ENDED, GAVE_UP, COMMAND, State as StateM}
-use Rattle.two_runs.specs.machine.Call.{call, in_range}
-use Rattle.two_runs.specs.machine.Sound.{sound}
-use Rattle.two_runs.proofs.machine.Tests.{and_left, and_right}
-use Rattle.two_runs.proofs.machine_laws.Sound.{parts}
-use Rattle.two_runs.proofs.machine_laws.KeepingCalls.{call-sound}
-use Rattle.two_runs.proofs.machine_laws.Board.{call-wide}
-use Rattle.arbiter.specs.reply.Replies.{sent}
-use Rattle.arbiter.specs.store.Store.{table_of}
-use Rattle.arbiter.specs.board.Board.{sized, struct_of, state_in, Held, Told}
-use Rattle.arbiter.proofs.board.Laws.{held_of, state_in_of}
-use Rattle.arbiter.specs.refusals.Refusals.{op_in, op_for}
+use Rattle.machine.specs.Lists.{all}
+use Rattle.machine.specs.State.{Call, Op as OpM, OPEN, CLOSE, ABORT, EVENT, CYCLE_ENDED, GAVE_UP, COMMAND, State as StateM}
+use Rattle.machine.specs.Call.{call, in_range}
+use Rattle.machine.specs.Sound.{sound}
+use Rattle.machine.proofs.Tests.{and_left, and_right}
+use Rattle.machine_laws.proofs.Sound.{parts}
+use Rattle.machine_laws.proofs.KeepingCalls.{call-sound}
+use Rattle.machine_laws.proofs.Board.{call-wide}
+use Rattle.reply.specs.Replies.{sent}
+use Rattle.store.specs.Store.{table_of}
+use Rattle.board.specs.Board.{sized, struct_of, state_in, Held, Told}
+use Rattle.board.proofs.Laws.{held_of, state_in_of}
+use Rattle.refusals.specs.Refusals.{op_in, op_for}
 use Rattle.two_runs.specs.TwoRuns.{Party, Step, our, their, Keeps as KeepsM, Run as RunM, calls, counted, in_bytes, lends, own, said}
 use Rattle.code_runs.specs.CodeRuns.{asked, Took, Chained, Keeps, Full, Run, own_calls}
 use Rattle.code_runs.specs.Made.{number_out, blank, outcome_of, made, moves, OnBoard}

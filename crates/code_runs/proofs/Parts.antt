@@ -4,10 +4,10 @@
 use Prim.Native.Nat.{ℕ}
 use mathlib.Core.Path.{◌≡◌, refl, ap, sym, ◌∙◌}
 use mathlib.Core.List.{List, [], ◌∷◌, ◌++◌, map}
-use Rattle.arbiter.specs.channel.declared.Channel.{Channel}
-use Rattle.arbiter.specs.board.declared.Board.{Board}
-use Rattle.arbiter.specs.board.Board.{state_in, Held}
-use Rattle.arbiter.specs.answers.declared.Answer.{Answer}
+use Rattle.channel.specs.declared.Channel.{Channel}
+use Rattle.board.specs.declared.Board.{Board}
+use Rattle.board.specs.Board.{state_in, Held}
+use Rattle.answers.specs.declared.Answer.{Answer}
 use Rattle.two_runs.specs.TwoRuns.{Party, Start}
 use Rattle.code_runs.specs.CodeRuns.{Move, ours, others, Run, own_calls, own_records, view_of, stored_of, Sight, told, got, has, sights, state_after, table_after, own_answers, all_records, Alike}
 use Rattle.code_runs.proofs.CodeRuns.{k_sees_the_same_of_the_code}

@@ -7,20 +7,20 @@ use mathlib.Core.List.{List, [], ◌∷◌, ◌++◌, map}
 use native.Mathlib.Nat.{div-add-mod'}
 use lib.Dec.{eqb}
 use Rattle.std.specs.Prelude.{if◌then◌else◌}
-use Rattle.two_runs.specs.machine.Lists.{keep}
-use Rattle.two_runs.specs.machine.State.{Write, Channel as ChannelM, Lock, State as StateM, free}
-use Rattle.two_runs.specs.machine.Sound.{writes_of}
-use Rattle.arbiter.specs.memory.Splice.{block}
-use Rattle.arbiter.specs.queue.Queue.{queue_of, list_of}
-use Rattle.arbiter.proofs.queue.Laws.{list_of_queue_of}
-use Rattle.arbiter.specs.channel.declared.Channel.{Channel}
-use Rattle.arbiter.specs.channel.Channel.{channel_of}
-use Rattle.arbiter.specs.table.Entry.{span_entry, write_entry, waiter_entry, key_in}
-use Rattle.arbiter.specs.store.Store.{Item, Each, Long, items, lookup, table_of}
-use Rattle.arbiter.proofs.store.Store.{Written, parts_long, block_table_of, write_entries, write_ids, waiter-entries, waiter-ids}
-use Rattle.arbiter.specs.board.declared.Board.{Board}
-use Rattle.arbiter.specs.board.Board.{struct_of, state_in, Held}
-use Rattle.arbiter.proofs.board.Laws.{held_parts}
+use Rattle.machine.specs.Lists.{keep}
+use Rattle.machine.specs.State.{Write, Channel as ChannelM, Lock, State as StateM, free}
+use Rattle.machine.specs.Sound.{writes_of}
+use Rattle.memory.specs.Splice.{block}
+use Rattle.queue.specs.Queue.{queue_of, list_of}
+use Rattle.queue.proofs.Laws.{list_of_queue_of}
+use Rattle.channel.specs.declared.Channel.{Channel}
+use Rattle.channel.specs.Channel.{channel_of}
+use Rattle.table.specs.Entry.{span_entry, write_entry, waiter_entry, key_in}
+use Rattle.store.specs.Store.{Item, Each, Long, items, lookup, table_of}
+use Rattle.store.proofs.Store.{Written, parts_long, block_table_of, write_entries, write_ids, waiter-entries, waiter-ids}
+use Rattle.board.specs.declared.Board.{Board}
+use Rattle.board.specs.Board.{struct_of, state_in, Held}
+use Rattle.board.proofs.Laws.{held_parts}
 use Rattle.two_runs.specs.TwoRuns.{Party, holds, mask, view, waiters_of}
 use Rattle.code_runs.specs.CodeRuns.{view_of, entry_of, entries_of, stored_of}
 use Rattle.code_runs.specs.Stored.{writes_in, waiters_in, stored_in}

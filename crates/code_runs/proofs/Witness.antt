@@ -9,15 +9,15 @@ use mathlib.Core.Bool.{false, ◌||◌}
 use mathlib.Core.List.{List, [], ◌∷◌, ◌++◌}
 use lib.Dec.{eqb}
 use lib.ListN.{replicate}
-use Rattle.two_runs.specs.machine.State.{Call, Op, OPEN, CLOSE, EVENT, CYCLE_ENDED, COMMAND, State as StateM, free}
-use Rattle.two_runs.specs.machine.Desks.{desk_of}
-use Rattle.two_runs.specs.machine.Machine.{machine}
-use Rattle.two_runs.specs.machine.Walks.{plays}
-use Rattle.arbiter.specs.memory.Splice.{block, splice}
-use Rattle.arbiter.specs.open_keys.OpenKeys.{keys_of}
-use Rattle.arbiter.specs.table.Entry.{number_bytes, write_entry, span_entry}
-use Rattle.arbiter.specs.store.Store.{items, write_items, lookup, entries, table_of}
-use Rattle.arbiter.specs.board.Board.{struct_of}
+use Rattle.machine.specs.State.{Call, Op, OPEN, CLOSE, EVENT, CYCLE_ENDED, COMMAND, State as StateM, free}
+use Rattle.machine.specs.Desks.{desk_of}
+use Rattle.machine.specs.Machine.{machine}
+use Rattle.machine.specs.Walks.{plays}
+use Rattle.memory.specs.Splice.{block, splice}
+use Rattle.open_keys.specs.OpenKeys.{keys_of}
+use Rattle.table.specs.Entry.{number_bytes, write_entry, span_entry}
+use Rattle.store.specs.Store.{items, write_items, lookup, entries, table_of}
+use Rattle.board.specs.Board.{struct_of}
 use Rattle.two_runs.specs.TwoRuns.{Party, Start, Step, our, own, their, claim, Run as RunM}
 use Rattle.two_runs.proofs.Premises.{premises, runs_all, starts_all}
 use Rattle.code_runs.specs.CodeRuns.{stored_of, all_records, state_after, table_after, Alike, code_claim}

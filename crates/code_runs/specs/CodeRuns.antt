@@ -36,24 +36,24 @@
 --   Alike p st tb ms ns  the claim in parts: these two are the same, and its channels and what is stored of them are in the end
 --   code_claim            one name that unfolds these definitions
 use Rattle.std.specs.Prelude.{ℕ, zero, suc, ◌≤◌, ◌≡◌, List, [], ◌∷◌, ◌++◌, map, T, eqb, length, get_or, take, drop, if◌then◌else◌}
-use Rattle.two_runs.specs.machine.Lists.{keep}
-use Rattle.two_runs.specs.machine.State.{Call, free}
-use Rattle.arbiter.specs.channel.declared.Channel.{Channel}
-use Rattle.arbiter.specs.memory.Splice.{block}
-use Rattle.arbiter.specs.queue.Queue.{list_of}
-use Rattle.arbiter.specs.channel.Channel.{channel_of}
-use Rattle.arbiter.specs.table.Entry.{key_in}
-use Rattle.arbiter.specs.board.declared.Board.{Board}
-use Rattle.arbiter.specs.board.Board.{state_in, Held}
-use Rattle.arbiter.specs.answers.declared.Request.{Request}
-use Rattle.arbiter.specs.answers.declared.Answer.{Answer}
-use Rattle.arbiter.specs.board.declared.Outcome.{Outcome}
-use Rattle.arbiter.specs.refusals.declared.Op.{Op}
-use Rattle.arbiter.specs.refusals.Refusals.{asked_of}
+use Rattle.machine.specs.Lists.{keep}
+use Rattle.machine.specs.State.{Call, free}
+use Rattle.channel.specs.declared.Channel.{Channel}
+use Rattle.memory.specs.Splice.{block}
+use Rattle.queue.specs.Queue.{list_of}
+use Rattle.channel.specs.Channel.{channel_of}
+use Rattle.table.specs.Entry.{key_in}
+use Rattle.board.specs.declared.Board.{Board}
+use Rattle.board.specs.Board.{state_in, Held}
+use Rattle.answers.specs.declared.Request.{Request}
+use Rattle.answers.specs.declared.Answer.{Answer}
+use Rattle.board.specs.declared.Outcome.{Outcome}
+use Rattle.refusals.specs.declared.Op.{Op}
+use Rattle.refusals.specs.Refusals.{asked_of}
 use Rattle.arbiter.specs.Arbiter.{Called}
 use Rattle.two_runs.specs.TwoRuns.{Party, Start, ByK, ByOthers, counted, said, Step, our, their, Seen, answered, received, owning}
-use Rattle.arbiter.specs.reply.Replies.{encode}
-use Rattle.arbiter.specs.answers.Answers.{answer_of}
+use Rattle.reply.specs.Replies.{encode}
+use Rattle.answers.specs.Answers.{answer_of}
 use Rattle.code_runs.specs.Stored.{stored_in}
 
 -- ---- a call of the code

@@ -9,15 +9,15 @@
 --   moves s xs      the run of the code
 --   OnBoard s       a sound state of a board of four or of eight channels
 use Rattle.std.specs.Prelude.{ℕ, ◌*◌, List, [], ◌∷◌, T, length, replicate}
-use Rattle.two_runs.specs.machine.State.{Call, Op as OpM, OPEN, CLOSE, ABORT, EVENT, COMMAND, Outcome as OutcomeM, State as StateM}
-use Rattle.two_runs.specs.machine.Call.{call}
-use Rattle.two_runs.specs.machine.Sound.{sound}
-use Rattle.arbiter.specs.reply.Replies.{sent}
-use Rattle.arbiter.specs.store.Store.{table_of}
-use Rattle.arbiter.specs.board.Board.{sized, struct_of}
-use Rattle.arbiter.specs.board.declared.Outcome.{Outcome}
-use Rattle.arbiter.specs.answers.Answers.{answer_of}
-use Rattle.arbiter.specs.refusals.Refusals.{op_for}
+use Rattle.machine.specs.State.{Call, Op as OpM, OPEN, CLOSE, ABORT, EVENT, COMMAND, Outcome as OutcomeM, State as StateM}
+use Rattle.machine.specs.Call.{call}
+use Rattle.machine.specs.Sound.{sound}
+use Rattle.reply.specs.Replies.{sent}
+use Rattle.store.specs.Store.{table_of}
+use Rattle.board.specs.Board.{sized, struct_of}
+use Rattle.board.specs.declared.Outcome.{Outcome}
+use Rattle.answers.specs.Answers.{answer_of}
+use Rattle.refusals.specs.Refusals.{op_for}
 use Rattle.two_runs.specs.TwoRuns.{Step, our, their}
 use Rattle.code_runs.specs.CodeRuns.{Turn, Move, ours, others}
 

@@ -5,8 +5,8 @@
 --   waiters_in ws      those of WAITCYCLEs
 --   stored_in cs ws    both
 use Rattle.std.specs.Prelude.{ℕ, List, [], ◌∷◌, ◌++◌, map}
-use Rattle.two_runs.specs.machine.State.{Write, Channel as ChannelM, Lock}
-use Rattle.arbiter.specs.table.Entry.{write_entry, waiter_entry}
+use Rattle.machine.specs.State.{Write, Channel as ChannelM, Lock}
+use Rattle.table.specs.Entry.{write_entry, waiter_entry}
 
 unfoldable pub writes_in : List ChannelM → List (List ℕ)
 writes_in [] = []

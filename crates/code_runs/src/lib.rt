@@ -1,6 +1,2 @@
 // Demand 3 on the code is a statement (specs/) and its proof (proofs/). The call of a run is `code_turns`. Assumes nothing.
 #![tactic(auto)]
-
-pub use arbiter;
-pub use arbiter::{answers, audio, board, display, image, memory, refusals, reply, store, table};
-pub use two_runs;

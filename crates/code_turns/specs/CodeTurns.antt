@@ -3,11 +3,11 @@
 --
 --   Turns o r ms st tb l dp d ..   where the bytes st hold a board: a turn that took it, as `code_runs` says; else unread, and nothing moved
 use Rattle.std.specs.Prelude.{ℕ, List}
-use Rattle.code_runs.specs.image.Image.{state_of, Whole}
-use Rattle.code_runs.specs.answers.declared.Request.{Request}
-use Rattle.code_runs.specs.refusals.declared.Op.{Op}
-use Rattle.code_runs.specs.arbiter.declared.Answered.{Answered}
-use Rattle.code_runs.specs.arbiter.Arbiter.{outcome_in, Shows, Unread}
+use Rattle.image.specs.Image.{state_of, Whole}
+use Rattle.answers.specs.declared.Request.{Request}
+use Rattle.refusals.specs.declared.Op.{Op}
+use Rattle.arbiter.specs.declared.Answered.{Answered}
+use Rattle.arbiter.specs.Arbiter.{outcome_in, Shows, Unread}
 use Rattle.code_runs.specs.CodeRuns.{Turn, Took}
 
 -- the call as a turn of a run

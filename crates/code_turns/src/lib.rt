@@ -6,10 +6,9 @@
 ghost use Rattle.std.specs.Prelude.{◌≤◌};
 ghost use Rattle.code_turns.specs.CodeTurns.{Turns};
 
-use code_runs::answers::Request;
-use code_runs::arbiter::Answered;
-use code_runs::refusals::Op;
-use code_runs::{arbiter, audio};
+use answers::Request;
+use arbiter::Answered;
+use refusals::Op;
 
 // The types keep a precedence within 255 and a key within 65,535; here it is said.
 fn ranges(prec: u8, key: u16)

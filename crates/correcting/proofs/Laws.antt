@@ -5,8 +5,8 @@ use mathlib.Core.Path.{◌≡◌, ap, ◌∙◌}
 use mathlib.Core.List.{List, [], ◌∷◌, ◌++◌, append-nil}
 use native.Mathlib.Omega.{arith}
 use lib.ListN.{length, length-append}
-use Rattle.channel_numbers.specs.memory.Splice.{splice}
-use Rattle.channel_numbers.proofs.memory.Splice.{splice_then}
+use Rattle.memory.specs.Splice.{splice}
+use Rattle.memory.proofs.Splice.{splice_then}
 
 -- the numbers in front, then the looks
 pub whole_display : (d xs : List ℕ) (a b : ℕ) → length d ≡ 18 → length xs ≡ 16 → splice (splice d 0 xs) 16 (a ∷ b ∷ []) ≡ xs ++ a ∷ b ∷ []

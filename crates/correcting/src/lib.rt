@@ -2,14 +2,11 @@
 #![tactic(auto)]
 
 ghost use Rattle.std.specs.Prelude.{◌<◌, ◌≡◌, ◌++◌, map, length, take};
-ghost use Rattle.channel_numbers.specs.machine.InBytes.{two_bytes};
-ghost use Rattle.channel_numbers.specs.display.Display.{looks_of};
+ghost use Rattle.machine.specs.InBytes.{two_bytes};
+ghost use Rattle.display.specs.Display.{looks_of};
 ghost use Rattle.channel_numbers.specs.ChannelNumbers.{count_at, moved};
 
-pub use channel_numbers;
-use channel_numbers::memory;
-use channel_numbers::store::State;
-pub use channel_numbers::{display, lanes};
+use store::State;
 
 // The looks of the last settling, as a display has them.
 pub fn looks(display: &[u8]) -> usize

@@ -3,20 +3,17 @@
 #![tactic(auto)]
 
 ghost use Rattle.std.specs.Prelude.{◌≡◌, false, [], ◌+◌, ◌<◌, length};
-ghost use Rattle.fronts.specs.machine.Numbers.{synced};
-ghost use Rattle.fronts.specs.machine.Commands.{front_replies, do_finish};
-ghost use Rattle.answers.specs.store.Store.{state_in};
-ghost use Rattle.answers.specs.store.Work.{Ready};
+ghost use Rattle.machine.specs.Numbers.{synced};
+ghost use Rattle.machine.specs.Commands.{front_replies, do_finish};
+ghost use Rattle.store.specs.Store.{state_in};
+ghost use Rattle.store.specs.Work.{Ready};
 ghost use Rattle.answers.specs.Answers.{call_of, Does};
 ghost use Rattle.cutting.specs.Cutting.{CutsFronts, finish_replies};
 
-use answers::store::State;
 use answers::{Outcome, Request};
-pub use fronts;
-use fronts::channel::Change;
-use fronts::{Front, channel};
-use sweep::dropped_writes;
-pub use sweep::{fates, granting, locks};
+use channel::Change;
+use fronts::Front;
+use store::State;
 
 // The state without the front writes, and how many replies there are.
 #[derive(Clone, Copy)]

@@ -8,10 +8,10 @@ use native.Mathlib.Omega.{arith}
 use lib.Dec.{T, eqb, eqb→eq, T_not, not_T}
 use lib.ListN.{length, get_or, length-set}
 use Rattle.std.specs.Prelude.{if◌then◌else◌}
-use Rattle.table.specs.machine.State.{Write}
-use Rattle.table.specs.machine.Granting.{aborted}
-use Rattle.table.specs.machine.Commands.{toned, counted_down, is_last, last_replies, cycled}
-use Rattle.table.proofs.machine.Tests.{if_elim, by_test, test_true, test_false, and_left, and_right}
+use Rattle.machine.specs.State.{Write}
+use Rattle.machine.specs.Granting.{aborted}
+use Rattle.machine.specs.Commands.{toned, counted_down, is_last, last_replies, cycled}
+use Rattle.machine.proofs.Tests.{if_elim, by_test, test_true, test_false, and_left, and_right}
 use Rattle.table.specs.Entry.{number_bytes}
 use Rattle.cycles.specs.declared.Turn.TheVariants.{Cut, Over, On}
 use Rattle.cycles.specs.Cycles.{turn_in, turn_of, applied_in, counted_in, next_in, next_of, turn_replies, turn_queue}

@@ -9,9 +9,9 @@
 --   turn_queue t w ws      the queue after it, of which w was in front and ws is the rest
 -- proofs/Laws.antt shows that the two agree, and that they are the machine's `cycled` and `last_replies`.
 use Rattle.std.specs.Prelude.{ℕ, ◌-◌, ◌&&◌, List, [], ◌∷◌, eqb, get_or, set, if◌then◌else◌}
-use Rattle.table.specs.machine.Numbers.{ABORTED, CMD_WRITE}
-use Rattle.table.specs.machine.State.{Write, Reply}
-use Rattle.table.specs.machine.Commands.{toned, counted_down}
+use Rattle.machine.specs.Numbers.{ABORTED, CMD_WRITE}
+use Rattle.machine.specs.State.{Write, Reply}
+use Rattle.machine.specs.Commands.{toned, counted_down}
 use Rattle.cycles.specs.declared.Turn.{Turn}
 use Rattle.cycles.specs.declared.Turn.TheVariants.{Cut, Over, On}
 

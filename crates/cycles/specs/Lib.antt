@@ -1,3 +1,1 @@
 pub mod Cycles
-pub use Rattle.table.specs.machine as machine
-pub use Rattle.table.specs as table

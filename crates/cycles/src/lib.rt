@@ -4,9 +4,7 @@
 ghost use Rattle.std.specs.Prelude.{◌≡◌};
 ghost use Rattle.cycles.specs.Cycles.{turn_in, applied_in, counted_in, next_in};
 
-pub use table;
 use table::Head;
-pub use table::machine;
 
 // FINISH is remembered, so the write is cut; or the cycle was its last; or it goes on.
 #[derive(Clone, Copy)]

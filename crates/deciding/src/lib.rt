@@ -2,21 +2,18 @@
 #![tactic(auto)]
 
 ghost use Rattle.std.specs.Prelude.{◌≤◌, ◌<◌, ◌≡◌, true, length, get_or};
-ghost use Rattle.answers.specs.memory.Splice.{block};
-ghost use Rattle.refusing.specs.refusals.declared.Op.TheVariants.{Abort};
-ghost use Rattle.answers.specs.machine.Call.{answering};
-ghost use Rattle.settling.specs.display.Looks.{looked_by};
-ghost use Rattle.answers.specs.store.Store.{state_in as wide_in};
+ghost use Rattle.memory.specs.Splice.{block};
+ghost use Rattle.refusals.specs.declared.Op.TheVariants.{Abort};
+ghost use Rattle.machine.specs.Call.{answering};
+ghost use Rattle.display.specs.Looks.{looked_by};
+ghost use Rattle.store.specs.Store.{state_in as wide_in};
 ghost use Rattle.answers.specs.Answers.{Told as WideTold};
-ghost use Rattle.refusing.specs.refusals.Refusals.{asked_of};
+ghost use Rattle.refusals.specs.Refusals.{asked_of};
 ghost use Rattle.deciding.specs.Deciding.{rests_at, decision_of, waits_in, wait_word, gone_by, joined_by, Moved, Decided};
 
-use answers::store::State;
-use answers::{Answer, Request, table};
-pub use refusing;
-use refusing::refusals::Op;
-pub use refusing::{audio, refusals, steps};
-use settling::lanes;
+use answers::{Answer, Request};
+use refusals::Op;
+use store::State;
 
 // An OPEN answered -11 is the one call, of those that are not refused, after which nothing settles.
 fn rests(op: Op, a: Answer) -> bool

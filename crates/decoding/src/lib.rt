@@ -4,13 +4,11 @@
 ghost use Rattle.std.specs.Prelude.{◌≡◌, ◌+◌, ◌≤◌, length};
 ghost use Rattle.image.specs.Image.{keys_from, open_at, queue_at, channel_at, channels_at, state_of, Whole};
 
-pub use image;
-use image::board::Board;
-use image::channel::Channel;
-use image::open_keys::Keys;
-use image::queue::Queue;
-use image::store::State;
-pub use image::{machine, memory, store, widening};
+use board::Board;
+use channel::Channel;
+use open_keys::Keys;
+use queue::Queue;
+use store::State;
 
 fn queue_at(bytes: &[u8], at: usize) -> Queue
     requires { at + 65 ≤ length bytes.now }

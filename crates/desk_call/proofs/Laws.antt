@@ -10,32 +10,32 @@ use borrow.Author.Tests.{lt-ltb, le-ltb, ltb-true, ltb-false}
 use lib.Dec.{T, ltb}
 use lib.ListN.{length, take, drop, take-append-drop, drop_of_length-le}
 use lib.Seq.{length-take-le, take_all}
-use Rattle.halves.specs.memory.Splice.{splice}
-use Rattle.halves.proofs.memory.Splice.{splice_none}
+use Rattle.memory.specs.Splice.{splice}
+use Rattle.memory.proofs.Splice.{splice_none}
 use Rattle.std.specs.Prelude.{if◌then◌else◌}
-use Rattle.halves.specs.machine.Lists.{keep}
-use Rattle.halves.specs.machine.State.{State as StateM, Call, Reply, Outcome as OutcomeM}
-use Rattle.halves.specs.machine.Desks.{DESK_A, DESK_B, HALF, replies_to}
-use Rattle.halves.specs.machine.Call.{call}
-use Rattle.arbiter.proofs.machine_laws.Replies.{call-replies}
-use Rattle.arbiter.proofs.machine_laws.Halves.{call-halves}
-use Rattle.arbiter.specs.machine_laws.Rooms.{lent}
-use Rattle.arbiter.proofs.machine_laws.Rooms.{room_unread, short-mute}
-use Rattle.arbiter.specs.display.Display.{displayed}
-use Rattle.arbiter.proofs.display.Rooms.{displayed_room}
-use Rattle.halves.specs.reply.Replies.{encodes, sent}
+use Rattle.machine.specs.Lists.{keep}
+use Rattle.machine.specs.State.{State as StateM, Call, Reply, Outcome as OutcomeM}
+use Rattle.machine.specs.Desks.{DESK_A, DESK_B, HALF, replies_to}
+use Rattle.machine.specs.Call.{call}
+use Rattle.machine_laws.proofs.Replies.{call-replies}
+use Rattle.machine_laws.proofs.Halves.{call-halves}
+use Rattle.machine_laws.specs.Rooms.{lent}
+use Rattle.machine_laws.proofs.Rooms.{room_unread, short-mute}
+use Rattle.display.specs.Display.{displayed}
+use Rattle.display.proofs.Rooms.{displayed_room}
+use Rattle.reply.specs.Replies.{encodes, sent}
 use Rattle.halves.specs.declared.Halves.{Halves}
 use Rattle.halves.specs.Halves.{Laying, Laid, laid}
 use Rattle.halves.proofs.Laws.{laid-replies, laying_replies}
-use Rattle.arbiter.specs.store.Store.{table_of}
-use Rattle.arbiter.specs.answers.declared.Request.{Request}
-use Rattle.arbiter.specs.answers.Answers.{answer_of}
-use Rattle.arbiter.specs.board.declared.Board.{Board}
-use Rattle.arbiter.specs.board.declared.Outcome.{Outcome as OutcomeI}
-use Rattle.arbiter.specs.board.Board.{struct_of, state_in, Held, Told as ToldI}
-use Rattle.arbiter.specs.refusals.declared.Op.{Op}
-use Rattle.arbiter.specs.refusals.Refusals.{asked_of}
-use Rattle.arbiter.specs.image.Image.{state_of}
+use Rattle.store.specs.Store.{table_of}
+use Rattle.answers.specs.declared.Request.{Request}
+use Rattle.answers.specs.Answers.{answer_of}
+use Rattle.board.specs.declared.Board.{Board}
+use Rattle.board.specs.declared.Outcome.{Outcome as OutcomeI}
+use Rattle.board.specs.Board.{struct_of, state_in, Held, Told as ToldI}
+use Rattle.refusals.specs.declared.Op.{Op}
+use Rattle.refusals.specs.Refusals.{asked_of}
+use Rattle.image.specs.Image.{state_of}
 use Rattle.arbiter.specs.declared.Answered.{Answered as AnsweredI}
 use Rattle.arbiter.specs.Arbiter.{outcome_in as outcome_in_i, Unmoved as UnmovedI, Called as CalledI, Shows, Unread as UnreadI, Lent as LentI}
 use Rattle.arbiter.proofs.Outcome.{held_or_not}

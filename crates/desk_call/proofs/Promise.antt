@@ -6,28 +6,28 @@ use mathlib.Core.List.{List, []}
 use native.Mathlib.Omega.{arith}
 use lib.Dec.{T}
 use lib.ListN.{length}
-use Rattle.halves.specs.memory.Splice.{splice}
-use Rattle.halves.proofs.memory.Splice.{splice_none}
-use Rattle.halves.specs.machine.Numbers.{UNSOUND}
-use Rattle.halves.specs.machine.Lists.{any, among, keep}
-use Rattle.halves.specs.machine.State.{Reply, Outcome as OutcomeM}
-use Rattle.halves.specs.machine.Desks.{DESK_A, DESK_B, HALF, replies_to}
-use Rattle.halves.specs.machine.Commands.{done}
-use Rattle.halves.specs.machine.Call.{call}
-use Rattle.arbiter.specs.machine_laws.Refusals.{refusals, mute, heard, own_reply}
-use Rattle.arbiter.proofs.machine_laws.Refusals.{refused_same, refused-mute, refused-heard}
-use Rattle.arbiter.proofs.machine_laws.Halves.{call-halves}
-use Rattle.arbiter.specs.machine_laws.Keeping.{Counted}
-use Rattle.halves.specs.reply.Replies.{sent}
+use Rattle.memory.specs.Splice.{splice}
+use Rattle.memory.proofs.Splice.{splice_none}
+use Rattle.machine.specs.Numbers.{UNSOUND}
+use Rattle.machine.specs.Lists.{any, among, keep}
+use Rattle.machine.specs.State.{Reply, Outcome as OutcomeM}
+use Rattle.machine.specs.Desks.{DESK_A, DESK_B, HALF, replies_to}
+use Rattle.machine.specs.Commands.{done}
+use Rattle.machine.specs.Call.{call}
+use Rattle.machine_laws.specs.Refusals.{refusals, mute, heard, own_reply}
+use Rattle.machine_laws.proofs.Refusals.{refused_same, refused-mute, refused-heard}
+use Rattle.machine_laws.proofs.Halves.{call-halves}
+use Rattle.machine_laws.specs.Keeping.{Counted}
+use Rattle.reply.specs.Replies.{sent}
 use Rattle.halves.specs.Halves.{laid}
-use Rattle.arbiter.specs.store.Store.{table_of}
-use Rattle.arbiter.specs.answers.declared.Request.{Request}
-use Rattle.arbiter.specs.answers.declared.Answer.{Answer}
-use Rattle.arbiter.specs.board.declared.Board.{Board}
-use Rattle.arbiter.specs.board.declared.Outcome.{Outcome as OutcomeI}
-use Rattle.arbiter.specs.board.Board.{struct_of, state_in, Held, Told as ToldI}
-use Rattle.arbiter.specs.refusals.declared.Op.{Op}
-use Rattle.arbiter.specs.refusals.Refusals.{op_in, asked_of}
+use Rattle.store.specs.Store.{table_of}
+use Rattle.answers.specs.declared.Request.{Request}
+use Rattle.answers.specs.declared.Answer.{Answer}
+use Rattle.board.specs.declared.Board.{Board}
+use Rattle.board.specs.declared.Outcome.{Outcome as OutcomeI}
+use Rattle.board.specs.Board.{struct_of, state_in, Held, Told as ToldI}
+use Rattle.refusals.specs.declared.Op.{Op}
+use Rattle.refusals.specs.Refusals.{op_in, asked_of}
 use Rattle.arbiter.specs.Arbiter.{Called as CalledI, Shows}
 use Rattle.arbiter.proofs.Outcome.{held_or_not, held_after}
 use Rattle.desk_call.specs.DeskCall.{Outcome, Told, Unmoved, Called, Same}

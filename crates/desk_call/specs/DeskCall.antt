@@ -12,21 +12,21 @@
 --   Unread r st tb l dp ..          the answer where the state's bytes hold no struct: 1, map 0, the key given; not a byte has moved
 --   Lent o r ms st tb l dp d ..     the promise of `call` on any bytes st: of the board that they hold, or unread
 use Rattle.std.specs.Prelude.{ℕ, ◌≡◌, List, ltb, length, if◌then◌else◌}
-use Rattle.halves.specs.machine.Numbers.{UNSOUND, NONE}
-use Rattle.halves.specs.machine.State.{Outcome as OutcomeM}
-use Rattle.halves.specs.machine.Desks.{DESK_A, DESK_B, replies_to}
-use Rattle.halves.specs.machine.Commands.{done}
-use Rattle.halves.specs.machine.Call.{call}
+use Rattle.machine.specs.Numbers.{UNSOUND, NONE}
+use Rattle.machine.specs.State.{Outcome as OutcomeM}
+use Rattle.machine.specs.Desks.{DESK_A, DESK_B, replies_to}
+use Rattle.machine.specs.Commands.{done}
+use Rattle.machine.specs.Call.{call}
 use Rattle.halves.specs.Halves.{laid}
-use Rattle.arbiter.specs.store.Store.{table_of}
-use Rattle.arbiter.specs.answers.declared.Request.{Request}
-use Rattle.arbiter.specs.answers.declared.Answer.{Answer}
-use Rattle.arbiter.specs.answers.Answers.{answer_of}
-use Rattle.arbiter.specs.board.declared.Board.{Board}
-use Rattle.arbiter.specs.board.Board.{struct_of, state_in, Held}
-use Rattle.arbiter.specs.image.Image.{state_of, Whole}
-use Rattle.arbiter.specs.refusals.declared.Op.{Op}
-use Rattle.arbiter.specs.refusals.Refusals.{asked_of}
+use Rattle.store.specs.Store.{table_of}
+use Rattle.answers.specs.declared.Request.{Request}
+use Rattle.answers.specs.declared.Answer.{Answer}
+use Rattle.answers.specs.Answers.{answer_of}
+use Rattle.board.specs.declared.Board.{Board}
+use Rattle.board.specs.Board.{struct_of, state_in, Held}
+use Rattle.image.specs.Image.{state_of, Whole}
+use Rattle.refusals.specs.declared.Op.{Op}
+use Rattle.refusals.specs.Refusals.{asked_of}
 use Rattle.arbiter.specs.Arbiter.{Shows}
 use Rattle.desk_call.specs.declared.Answered.{Answered}
 

@@ -6,12 +6,8 @@
 ghost use Rattle.std.specs.Prelude.{◌≡◌};
 ghost use Rattle.desk_call.specs.DeskCall.{room_of, Lent};
 
-pub use arbiter;
-pub use arbiter::answers;
-use arbiter::answers::{Answer, Request};
-use arbiter::refusals::Op;
-pub use halves;
-use halves::audio;
+use answers::{Answer, Request};
+use refusals::Op;
 
 // An answer, and how many replies there are in each half. The board afterwards is in the bytes that were lent.
 #[derive(Clone, Copy)]

@@ -4,8 +4,6 @@
 ghost use Rattle.std.specs.Prelude.{◌≡◌};
 ghost use Rattle.machine.specs.Desks.{desk_of};
 
-pub use machine;
-
 // Desk A has the ids 0 to 31, desk B the others.
 pub const HALF: u8 = 32;
 

@@ -3,6 +3,3 @@ pub mod Display
 pub mod Runs
 pub mod Pinned
 pub mod Standing
-pub use Rattle.widening.specs.machine as machine
-pub use Rattle.widening.specs.machine_laws as machine_laws
-pub use Rattle.widening.specs as widening

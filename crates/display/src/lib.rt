@@ -1,5 +1,2 @@
 // Document 02, #110, "The wall display", as definitions (specs/) and laws (proofs/). Assumes nothing.
 #![tactic(auto)]
-
-pub use widening;
-pub use widening::{machine, machine_laws};

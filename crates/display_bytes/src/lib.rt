@@ -3,10 +3,6 @@
 
 ghost use Rattle.std.specs.Prelude.{◌≡◌, length};
 
-pub use image;
-pub use image::machine;
-use image::memory;
-
 pub fn read(display: &[u8]) -> [u8; 18]
     requires { length display.now ≡ 18 }
     ensures { result ≡ display.now }

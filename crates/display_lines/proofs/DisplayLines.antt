@@ -7,13 +7,13 @@ use native.Mathlib.Omega.{arith}
 use native.Mathlib.Numerals.{add-one}
 use lib.ListN.{length, take, drop, get_or, set, length-append, length-drop, length-map}
 use lib.Seq.{take-suc, length-take-le}
-use Rattle.hex_lines.specs.memory.Splice.{splice}
-use Rattle.hex_lines.proofs.memory.Splice.{splice_then, splice_snoc}
-use Rattle.hex_lines.specs.machine.State.{Channel, Request, State}
-use Rattle.hex_lines.specs.machine.Log.{hex_digit, line}
-use Rattle.hex_lines.specs.spelling.Spelling.{digits}
+use Rattle.memory.specs.Splice.{splice}
+use Rattle.memory.proofs.Splice.{splice_then, splice_snoc}
+use Rattle.machine.specs.State.{Channel, Request, State}
+use Rattle.machine.specs.Log.{hex_digit, line}
+use Rattle.spelling.specs.Spelling.{digits}
 use Rattle.hex_lines.proofs.HexLines.{length_digits, digits_append, length_line, line_ends}
-use Rattle.record_structs.specs.display.Display.{record_of, load_line, request_lines, display_lines}
+use Rattle.display.specs.Display.{record_of, load_line, request_lines, display_lines}
 use Rattle.record_structs.specs.declared.Waiter.{Waiter}
 use Rattle.record_structs.specs.RecordStructs.{waiter_of, waiters_in}
 use Rattle.display_lines.specs.DisplayLines.{load_of, four_of, record_lines, display_of, Shows}

@@ -10,9 +10,9 @@
 --   Shows w d ws out r out'   what `spell` promises: these lines stand in front, every other byte is as before, r is their length, which is
 --                         within the memory lent
 use Rattle.std.specs.Prelude.{ℕ, ◌*◌, ◌≤◌, ◌≡◌, List, [], ◌∷◌, ◌++◌, length, take, drop, if◌then◌else◌}
-use Rattle.hex_lines.specs.machine.Log.{line}
-use Rattle.hex_lines.specs.memory.Splice.{splice}
-use Rattle.record_structs.specs.display.Display.{NUMBERS}
+use Rattle.machine.specs.Log.{line}
+use Rattle.memory.specs.Splice.{splice}
+use Rattle.display.specs.Display.{NUMBERS}
 use Rattle.record_structs.specs.declared.Waiter.{Waiter}
 
 unfoldable pub load_of : ℕ → List ℕ → List ℕ

@@ -3,14 +3,11 @@
 #![tactic(auto)]
 
 ghost use Rattle.std.specs.Prelude.{◌≡◌, ◌∷◌, ◌+◌, ◌*◌, ◌≤◌, length, take, if◌then◌else◌};
-ghost use Rattle.hex_lines.specs.memory.Splice.{splice};
-ghost use Rattle.hex_lines.specs.machine.Log.{line};
+ghost use Rattle.memory.specs.Splice.{splice};
+ghost use Rattle.machine.specs.Log.{line};
 ghost use Rattle.display_lines.specs.DisplayLines.{load_of, four_of, record_lines, Shows};
 
-use hex_lines::spelling;
-pub use record_structs;
-use record_structs::{ROOM, Waiter, audio};
-pub use record_structs::{decoding, display, waiting_list};
+use record_structs::{ROOM, Waiter};
 
 // E0: the two numbers of each of w channels, then the looks.
 fn put_load(out: &mut [u8], w: usize, display: &[u8])

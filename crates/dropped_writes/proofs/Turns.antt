@@ -8,18 +8,18 @@ use native.Mathlib.Numerals.{add-one}
 use native.Mathlib.Nat.{div-one}
 use lib.ListN.{length, drop, get_or, length-append, length-map, drop_of_length-le}
 use lib.Seq.{drop-cons}
-use Rattle.locks.specs.memory.Splice.{splice}
-use Rattle.locks.proofs.memory.Splice.{splice_none, length-splice}
-use Rattle.locks.specs.queue.Queue.{list_of}
-use Rattle.locks.specs.channel.declared.Channel.{Channel}
-use Rattle.locks.proofs.channel.Turns.{half_pow}
-use Rattle.locks.specs.table.Entry.{idle}
-use Rattle.locks.specs.reply.Replies.{encode, sent}
-use Rattle.locks.proofs.reply.Laws.{length-sent, sent-append}
-use Rattle.locks.specs.machine.State.{Write, Reply}
-use Rattle.locks.specs.machine.Maps.{odd}
-use Rattle.locks.specs.machine.Granting.{aborted, aborted_in}
-use Rattle.locks.specs.store.Store.{write_in, Small}
+use Rattle.memory.specs.Splice.{splice}
+use Rattle.memory.proofs.Splice.{splice_none, length-splice}
+use Rattle.queue.specs.Queue.{list_of}
+use Rattle.channel.specs.declared.Channel.{Channel}
+use Rattle.channel.proofs.Turns.{half_pow}
+use Rattle.table.specs.Entry.{idle}
+use Rattle.reply.specs.Replies.{encode, sent}
+use Rattle.reply.proofs.Laws.{length-sent, sent-append}
+use Rattle.machine.specs.State.{Write, Reply}
+use Rattle.machine.specs.Maps.{odd}
+use Rattle.machine.specs.Granting.{aborted, aborted_in}
+use Rattle.store.specs.Store.{write_in, Small}
 use Rattle.dropped_writes.specs.DroppedWrites.{idled, writes_in, Writable, Writables, held_in}
 
 -- ---- small ids

@@ -13,19 +13,19 @@
 --                              has, between the items pre and post
 --   Dropt, Drops               queue, table, reply list and count afterwards; that, for all such WAITCYCLEs
 use Rattle.std.specs.Prelude.{ℕ, ◌+◌, ◌*◌, ◌≤◌, ◌<◌, ◌≡◌, not, List, [], ◌∷◌, ◌++◌, map, length, if◌then◌else◌}
-use Rattle.locks.specs.queue.declared.Queue.{Queue}
-use Rattle.locks.specs.queue.Queue.{queue_of, list_of}
-use Rattle.locks.specs.channel.declared.Channel.{Channel}
-use Rattle.locks.specs.channel.Channel.{channel_in}
-use Rattle.locks.specs.memory.Splice.{splice}
-use Rattle.locks.specs.table.Entry.{idle}
-use Rattle.locks.specs.machine.Numbers.{ADCMD_WAITCYCLE}
-use Rattle.locks.specs.machine.Lists.{keep}
-use Rattle.locks.specs.machine.State.{Channel as ChannelM, Lock, Reply}
-use Rattle.locks.specs.machine.Maps.{odd, half}
-use Rattle.locks.specs.machine.Granting.{aborted, aborted_in, on_channels, given_up}
-use Rattle.locks.specs.reply.Replies.{sent}
-use Rattle.locks.specs.store.Store.{Item, waiter_item, entries, write_in, Small, Each}
+use Rattle.queue.specs.declared.Queue.{Queue}
+use Rattle.queue.specs.Queue.{queue_of, list_of}
+use Rattle.channel.specs.declared.Channel.{Channel}
+use Rattle.channel.specs.Channel.{channel_in}
+use Rattle.memory.specs.Splice.{splice}
+use Rattle.table.specs.Entry.{idle}
+use Rattle.machine.specs.Numbers.{ADCMD_WAITCYCLE}
+use Rattle.machine.specs.Lists.{keep}
+use Rattle.machine.specs.State.{Channel as ChannelM, Lock, Reply}
+use Rattle.machine.specs.Maps.{odd, half}
+use Rattle.machine.specs.Granting.{aborted, aborted_in, on_channels, given_up}
+use Rattle.reply.specs.Replies.{sent}
+use Rattle.store.specs.Store.{Item, waiter_item, entries, write_in, Small, Each}
 use Rattle.locks.specs.Locks.{Locked}
 use Rattle.dropped_writes.specs.declared.Dropped.{Dropped}
 

@@ -1,3 +1,1 @@
 pub mod DroppedWrites
-pub use Rattle.locks.specs.fates as fates
-pub use Rattle.locks.specs as locks

@@ -4,17 +4,14 @@
 #![tactic(auto)]
 
 ghost use Rattle.std.specs.Prelude.{◌≡◌, ◌+◌, ◌*◌, ◌≤◌, length};
-ghost use Rattle.locks.specs.queue.Queue.{list_of};
-ghost use Rattle.locks.specs.machine.Granting.{aborted_in};
+ghost use Rattle.queue.specs.Queue.{list_of};
+ghost use Rattle.machine.specs.Granting.{aborted_in};
 ghost use Rattle.dropped_writes.specs.DroppedWrites.{Writable, Writables, held_in, Aborts, AbortsIn, Dropping, Drops};
 
-pub use locks;
-use locks::channel::Channel;
-pub use locks::fates;
-use locks::fates::End;
-use locks::queue::Queue;
-use locks::reply::Reply;
-use locks::{channel, reply, table};
+use channel::Channel;
+use fates::End;
+use queue::Queue;
+use reply::Reply;
 
 // Every write of a channel, oldest first.
 pub fn abort_writes(table: &mut [u8], replies: &mut [u8], n: usize, c: Channel) -> usize

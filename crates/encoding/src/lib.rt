@@ -3,15 +3,13 @@
 #![tactic(auto)]
 
 ghost use Rattle.std.specs.Prelude.{◌≡◌, ◌+◌, ◌≤◌, ◌<◌, length, set};
-ghost use Rattle.image.specs.machine.InBytes.{mark_of};
+ghost use Rattle.machine.specs.InBytes.{mark_of};
 ghost use Rattle.image.specs.Image.{keys_bytes, open_bytes, queue_bytes, channel_bytes, Wrote, Entered, Saved};
 
-pub use image;
-use image::board::Board;
-use image::channel::Channel;
-use image::open_keys::Keys;
-use image::queue::Queue;
-pub use image::{board, machine, machine_laws, memory, store, widening};
+use board::Board;
+use channel::Channel;
+use open_keys::Keys;
+use queue::Queue;
 
 fn mark(on: bool) -> u8
     ensures { result ≡ mark_of on }

@@ -8,12 +8,12 @@
 --   cycle_replies i s        the reply to that write where it ends
 --   EndsCycle i s ..        the promise of `end_cycle`: that state, that reply
 use Rattle.std.specs.Prelude.{ℕ, ◌^◌, ◌≡◌, true, List, [], ◌∷◌, get_or, set}
-use Rattle.play.specs.machine.Numbers.{CMD_WRITE}
-use Rattle.play.specs.machine.State.{Write, Reply, State as StateM, free, with_channels}
-use Rattle.play.specs.machine.Commands.{front, playing, front_cycled, last_replies}
-use Rattle.play.specs.store.declared.State.{State}
-use Rattle.play.specs.store.Store.{state_in}
-use Rattle.play.specs.store.Work.{Did}
+use Rattle.machine.specs.Numbers.{CMD_WRITE}
+use Rattle.machine.specs.State.{Write, Reply, State as StateM, free, with_channels}
+use Rattle.machine.specs.Commands.{front, playing, front_cycled, last_replies}
+use Rattle.store.specs.declared.State.{State}
+use Rattle.store.specs.Store.{state_in}
+use Rattle.store.specs.Work.{Did}
 use Rattle.play.specs.Play.{with_front}
 use Rattle.ending.specs.declared.Ended.{Ended}
 

@@ -1,2 +1,1 @@
 pub mod Ending
-pub use Rattle.play.specs as play

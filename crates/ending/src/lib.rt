@@ -3,21 +3,18 @@
 #![tactic(auto)]
 
 ghost use Rattle.std.specs.Prelude.{◌≡◌, ◌<◌, length, get_or};
-ghost use Rattle.play.specs.memory.Splice.{block};
-ghost use Rattle.play.specs.table.Entry.{list_in};
-ghost use Rattle.play.specs.store.Store.{state_in};
-ghost use Rattle.play.specs.store.Work.{Ready};
-ghost use Rattle.tuning.specs.cycles.Cycles.{turn_in};
+ghost use Rattle.memory.specs.Splice.{block};
+ghost use Rattle.table.specs.Entry.{list_in};
+ghost use Rattle.store.specs.Store.{state_in};
+ghost use Rattle.store.specs.Work.{Ready};
+ghost use Rattle.cycles.specs.Cycles.{turn_in};
 ghost use Rattle.ending.specs.Ending.{Led, EndsWrite, EndsCycle};
 
-pub use play;
-use play::reply::Reply;
-use play::store::State;
-use play::table::Head;
-use play::{memory, reply, table};
-use tuning::cycles;
-use tuning::cycles::Turn;
-use tuning::retuning::Tune;
+use cycles::Turn;
+use reply::Reply;
+use retuning::Tune;
+use store::State;
+use table::Head;
 
 // The state after it, and how many replies there are.
 #[derive(Clone, Copy)]

@@ -7,16 +7,16 @@ use native.Mathlib.Omega.{arith}
 use borrow.Author.Tests.{eqb-true, eqb-false}
 use lib.Dec.{eqb}
 use lib.ListN.{length}
-use Rattle.one_line.proofs.machine.Tests.{by_test, test_true, test_false}
-use Rattle.one_line.specs.board.declared.Board.{Board}
-use Rattle.one_line.specs.board.Board.{state_in, Held}
-use Rattle.one_line.specs.gathering.Lumps.{used}
-use Rattle.one_line.specs.taking.declared.Show.{Show}
-use Rattle.one_line.specs.taking.Desk.{Taken, hidden, Desk, desk_of, fits, closed, finished, Ends, Same}
-use Rattle.one_line.proofs.taking.Kept.{held_fine, closed_fine, leaves_held}
-use Rattle.one_line.proofs.taking.Laws.{one_leaving, closed_none, closed_some}
-use Rattle.one_line.specs.putting.Putting.{Puts}
-use Rattle.one_line.proofs.putting.Laws.{nothing_put, answered_few, answered-size, answer-put}
+use Rattle.machine.proofs.Tests.{by_test, test_true, test_false}
+use Rattle.board.specs.declared.Board.{Board}
+use Rattle.board.specs.Board.{state_in, Held}
+use Rattle.gathering.specs.Lumps.{used}
+use Rattle.taking.specs.declared.Show.{Show}
+use Rattle.taking.specs.Desk.{Taken, hidden, Desk, desk_of, fits, closed, finished, Ends, Same}
+use Rattle.taking.proofs.Kept.{held_fine, closed_fine, leaves_held}
+use Rattle.taking.proofs.Laws.{one_leaving, closed_none, closed_some}
+use Rattle.putting.specs.Putting.{Puts}
+use Rattle.putting.proofs.Laws.{nothing_put, answered_few, answered-size, answer-put}
 use Rattle.one_line.proofs.Laws.{stays}
 use Rattle.finishing.specs.Finishing.{Finishes}
 

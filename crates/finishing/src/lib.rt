@@ -3,18 +3,13 @@
 #![tactic(auto)]
 
 ghost use Rattle.std.specs.Prelude.{◌≤◌};
-ghost use Rattle.one_line.specs.board.Board.{Held};
-ghost use Rattle.one_line.specs.gathering.Lumps.{LINE};
-ghost use Rattle.one_line.specs.image.Image.{state_of, Whole};
-ghost use Rattle.one_line.specs.taking.Desk.{taken_in};
+ghost use Rattle.board.specs.Board.{Held};
+ghost use Rattle.gathering.specs.Lumps.{LINE};
+ghost use Rattle.image.specs.Image.{state_of, Whole};
+ghost use Rattle.taking.specs.Desk.{taken_in};
 ghost use Rattle.finishing.specs.Finishing.{Finishes};
 
-use one_line::taking::{Left, Show};
-use one_line::{audio, putting};
-pub use one_line::{
-    board, channel, channel_lines, display, display_lines, encoding, gathering, machine,
-    machine_laws, memory, serving, store, taking, widening,
-};
+use taking::{Left, Show};
 
 // The log has ended: what stands of a last line is answered as a line, where the page has room. Where nothing stands, nothing
 // is written.

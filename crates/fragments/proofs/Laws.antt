@@ -8,14 +8,14 @@ use native.Mathlib.Omega.{arith}
 use native.Mathlib.Nat.{add-zero}
 use lib.ListN.{length, length-take, length-drop}
 use lib.Seq.{take-nil}
-use Rattle.telling.specs.memory.Splice.{splice}
-use Rattle.telling.proofs.memory.Splice.{splice_none, length-splice}
-use Rattle.telling.specs.gathering.declared.Gathered.{Gathered}
-use Rattle.telling.specs.gathering.Lumps.{LINE, front, ended, used, kept, Gathers}
-use Rattle.telling.proofs.gathering.Lumps.{used-within, used_open}
-use Rattle.telling.specs.port.Port.{started_in, line_in, port_of}
-use Rattle.telling.specs.admitting.Admitting.{refusal, Proper}
-use Rattle.telling.proofs.admitting.Laws.{allowed, port_again}
+use Rattle.memory.specs.Splice.{splice}
+use Rattle.memory.proofs.Splice.{splice_none, length-splice}
+use Rattle.gathering.specs.declared.Gathered.{Gathered}
+use Rattle.gathering.specs.Lumps.{LINE, front, ended, used, kept, Gathers}
+use Rattle.gathering.proofs.Lumps.{used-within, used_open}
+use Rattle.port.specs.Port.{started_in, line_in, port_of}
+use Rattle.admitting.specs.Admitting.{refusal, Proper}
+use Rattle.admitting.proofs.Laws.{allowed, port_again}
 use Rattle.telling.specs.Telling.{Says, Still, Moves, SameCall}
 use Rattle.telling.proofs.Laws.{cons_cons, none_or_not, one_porting}
 use Rattle.fragments.specs.Fragments.{grown, line_with, line_fed, port_fed, Feeds}

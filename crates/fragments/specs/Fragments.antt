@@ -6,9 +6,9 @@
 --   Feeds                         the promise of `feed`
 use Rattle.std.specs.Prelude.{ℕ, ◌+◌, List, length, take, if◌then◌else◌}
 use Rattle.std.proofs.Math.Option.{Option, none, some}
-use Rattle.telling.specs.memory.Splice.{splice}
-use Rattle.telling.specs.gathering.Lumps.{ended, used, kept}
-use Rattle.telling.specs.port.Port.{started_in, line_in, port_of}
+use Rattle.memory.specs.Splice.{splice}
+use Rattle.gathering.specs.Lumps.{ended, used, kept}
+use Rattle.port.specs.Port.{started_in, line_in, port_of}
 use Rattle.telling.specs.Telling.{Ported}
 
 abbrev pub grown : List ℕ → List ℕ → ℕ

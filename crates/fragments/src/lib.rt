@@ -5,9 +5,6 @@
 
 ghost use Rattle.fragments.specs.Fragments.{Feeds};
 
-pub use telling;
-pub use telling::{admitting, digits, gathering, hearing, port, serving, unheard};
-
 // The refusal, or 0; how much of the fragment is used; how much output stands in front of the room.
 #[derive(Clone, Copy)]
 pub struct Fed {

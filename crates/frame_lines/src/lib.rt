@@ -3,23 +3,15 @@
 #![tactic(auto)]
 
 ghost use Rattle.std.specs.Prelude.{◌≡◌, map, ◌+◌, ◌*◌, ◌%◌, ◌≤◌, ◌<◌, length, get_or};
-ghost use Rattle.hex_lines.specs.memory.Splice.{block};
-ghost use Rattle.hex_lines.specs.machine.Log.{line};
-ghost use Rattle.hex_lines.specs.machine.InBytes.{mark_of};
-ghost use Rattle.board.specs.queue.Queue.{list_of};
+ghost use Rattle.memory.specs.Splice.{block};
+ghost use Rattle.machine.specs.Log.{line};
+ghost use Rattle.machine.specs.InBytes.{mark_of};
+ghost use Rattle.queue.specs.Queue.{list_of};
 ghost use Rattle.hex_lines.specs.HexLines.{Put};
 ghost use Rattle.saved.specs.Saved.{spelt};
 ghost use Rattle.frame_lines.specs.FrameLines.{request_line, span_line, write_line, entry_frame, Listed};
 
-pub use board;
-use board::queue::Queue;
-pub use board::{channel, open_keys, queue};
-pub use hex_lines;
-pub use hex_lines::{machine, memory};
-pub use saved;
-use saved::table;
-pub use waiting;
-pub use waiting::store;
+use queue::Queue;
 
 pub fn mark(on: bool) -> u8
     ensures { result ≡ mark_of on }

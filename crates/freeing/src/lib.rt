@@ -3,19 +3,16 @@
 #![tactic(auto)]
 
 ghost use Rattle.std.specs.Prelude.{◌≡◌, false, [], ◌+◌, ◌≤◌, ◌<◌, length};
-ghost use Rattle.answers.specs.machine.Commands.{freeing_replies, do_free, do_close};
-ghost use Rattle.answers.specs.store.Store.{state_in};
-ghost use Rattle.answers.specs.store.Work.{Ready};
+ghost use Rattle.machine.specs.Commands.{freeing_replies, do_free, do_close};
+ghost use Rattle.store.specs.Store.{state_in};
+ghost use Rattle.store.specs.Work.{Ready};
 ghost use Rattle.freeing.specs.Freeing.{match_replies, owned_replies, Frees};
 ghost use Rattle.answers.specs.Answers.{call_of, Does};
 
-use answers::channel::Change;
-use answers::store::State;
-use answers::{Outcome, Request, channel};
-pub use sweep;
-use sweep::fates::End;
-pub use sweep::granting;
-use sweep::{dropped_writes, locks};
+use answers::{Outcome, Request};
+use channel::Change;
+use fates::End;
+use store::State;
 
 #[derive(Clone, Copy)]
 pub struct Freed {

@@ -6,9 +6,9 @@ use mathlib.Core.List.{List, [], ◌∷◌, map}
 use native.Mathlib.Omega.{arith}
 use lib.Dec.{eqb-suc-zero}
 use lib.ListN.{length, length-map}
-use Rattle.channel.specs.machine.State.{Write, Channel as ChannelM}
-use Rattle.channel.specs.machine.Maps.{odd, half, bit}
-use Rattle.channel.specs.machine.Commands.{playing, in_progress, leads, led_by}
+use Rattle.machine.specs.State.{Write, Channel as ChannelM}
+use Rattle.machine.specs.Maps.{odd, half, bit}
+use Rattle.machine.specs.Commands.{playing, in_progress, leads, led_by}
 use Rattle.channel.specs.Channel.{channel_of, map_where}
 use Rattle.fronts.specs.declared.Front.{Front}
 use Rattle.fronts.specs.declared.Front.TheVariants.{Plays, Leads}

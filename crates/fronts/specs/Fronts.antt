@@ -6,9 +6,9 @@
 --   passes f c         the test by its name; named f m c: of a channel that the lowest bit of m names
 --   meaning f          the machine's test of that name: proofs/Laws.antt shows that the two agree
 use Rattle.std.specs.Prelude.{ℕ, Bool, not, ◌&&◌, eqb, get_or}
-use Rattle.channel.specs.machine.State.{Channel as ChannelM}
-use Rattle.channel.specs.machine.Maps.{odd}
-use Rattle.channel.specs.machine.Commands.{playing, leads}
+use Rattle.machine.specs.State.{Channel as ChannelM}
+use Rattle.machine.specs.Maps.{odd}
+use Rattle.machine.specs.Commands.{playing, leads}
 use Rattle.channel.specs.declared.Channel.{Channel}
 use Rattle.fronts.specs.declared.Front.{Front}
 use Rattle.fronts.specs.declared.Front.TheVariants.{Plays, Leads}

@@ -5,9 +5,7 @@ ghost use Rattle.std.specs.Prelude.{◌≡◌, ◌<◌, ◌/◌, ◌^◌};
 ghost use Rattle.channel.specs.Channel.{map_where};
 ghost use Rattle.fronts.specs.Fronts.{on_air, leads_at, passes as passes_m, named};
 
-pub use channel;
 use channel::Channel;
-pub use channel::{machine, machine_laws, queue};
 
 // What is asked of a channel's front write: that it is in progress, or that it is an id's.
 #[derive(Clone, Copy)]

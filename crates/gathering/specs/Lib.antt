@@ -1,4 +1,1 @@
 pub mod Lumps
-pub use Rattle.digits.specs as digits
-pub use Rattle.digits.specs.machine as machine
-pub use Rattle.memory.specs as memory

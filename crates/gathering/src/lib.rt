@@ -4,10 +4,6 @@
 ghost use Rattle.std.specs.Prelude.{◌≡◌, ◌-◌, ◌<◌, ◌≤◌, length};
 ghost use Rattle.gathering.specs.Lumps.{front, Gathers};
 
-pub use digits;
-pub use digits::machine;
-pub use memory;
-
 // What stands of a line after a lump of input, how much of the lump is used, and whether the line has ended.
 #[derive(Clone, Copy)]
 pub struct Gathered {

@@ -8,13 +8,13 @@ use native.Mathlib.Nat.{zero-add}
 use lib.Dec.{eqb, eqb_refl}
 use lib.ListN.{length, get_or, take, drop, length-append, length-drop}
 use lib.Seq.{drop-drop, drop-length, get_or-drop, length-take-le, take-length}
-use Rattle.reply.specs.memory.Splice.{splice, block}
-use Rattle.reply.proofs.memory.Splice.{length-splice, splice_none, splice_then}
+use Rattle.memory.specs.Splice.{splice, block}
+use Rattle.memory.proofs.Splice.{length-splice, splice_none, splice_then}
 use Rattle.std.specs.Prelude.{if◌then◌else◌}
-use Rattle.desks.specs.machine.Lists.{keep}
-use Rattle.desks.specs.machine.State.{Reply}
-use Rattle.desks.specs.machine.Desks.{DESK_A, DESK_B, HALF, desk_of, replies_to, halves}
-use Rattle.desks.proofs.machine.Tests.{eqb_false, test_true}
+use Rattle.machine.specs.Lists.{keep}
+use Rattle.machine.specs.State.{Reply}
+use Rattle.machine.specs.Desks.{DESK_A, DESK_B, HALF, desk_of, replies_to, halves}
+use Rattle.machine.proofs.Tests.{eqb_false, test_true}
 use Rattle.reply.specs.Replies.{encode, encodes, sent}
 use Rattle.reply.proofs.Laws.{length-encodes, encodes-append}
 use Rattle.halves.specs.Halves.{one, picked, Laying, Laid, laid, in_order, Ordering}

@@ -9,9 +9,9 @@
 --   laid l rs          the list l with the replies rs in its halves
 --   in_order n l        of the first n records of l desk A's, then desk B's; Ordering l n out: what `order` asks, room for them
 use Rattle.std.specs.Prelude.{ℕ, zero, suc, ◌*◌, ◌≤◌, ◌<◌, ◌≡◌, List, [], ◌++◌, eqb, length, get_or, take, drop, if◌then◌else◌}
-use Rattle.reply.specs.memory.Splice.{splice, block}
-use Rattle.desks.specs.machine.State.{Reply}
-use Rattle.desks.specs.machine.Desks.{DESK_A, DESK_B, HALF, desk_of, replies_to}
+use Rattle.memory.specs.Splice.{splice, block}
+use Rattle.machine.specs.State.{Reply}
+use Rattle.machine.specs.Desks.{DESK_A, DESK_B, HALF, desk_of, replies_to}
 use Rattle.reply.specs.Replies.{sent}
 use Rattle.halves.specs.declared.Halves.{Halves}
 

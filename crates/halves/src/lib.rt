@@ -4,13 +4,8 @@
 #![tactic(auto)]
 
 ghost use Rattle.std.specs.Prelude.{◌≡◌, ◌+◌, ◌*◌, ◌≤◌, length};
-ghost use Rattle.reply.specs.memory.Splice.{splice};
+ghost use Rattle.memory.specs.Splice.{splice};
 ghost use Rattle.halves.specs.Halves.{one, picked, Laying, Laid, in_order, Ordering};
-
-pub use audio;
-pub use desks::machine;
-pub use reply;
-pub use reply::memory;
 
 // How many replies there are in each half.
 #[derive(Clone, Copy)]

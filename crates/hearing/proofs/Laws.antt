@@ -6,18 +6,18 @@ use mathlib.Core.List.{List}
 use mathlib.Core.Option.{Option, none, some}
 use native.Mathlib.Omega.{arith}
 use lib.ListN.{length}
-use Rattle.feeding.specs.machine.State.{Call as CallM}
-use Rattle.feeding.specs.machine.Log.{line, answer_line, unhex, frame, feed}
-use Rattle.feeding.specs.memory.Splice.{splice}
-use Rattle.feeding.specs.board.declared.Board.{Board}
-use Rattle.feeding.specs.board.Board.{Held}
-use Rattle.feeding.specs.image.Image.{image_of, state_of, Whole, Saved}
-use Rattle.feeding.proofs.image.Round.{image_of_state_of, one_image, whole_saved}
-use Rattle.feeding.proofs.arbiter.Outcome.{held_or_not}
-use Rattle.feeding.proofs.arbiter.Lent.{whole_or_not}
-use Rattle.feeding.specs.unheard.Unheard.{Fed, unheard, Unheard}
-use Rattle.feeding.specs.serving.Serving.{Feeds, FeedsDisplay}
-use Rattle.feeding.proofs.serving.Laws.{feed_few}
+use Rattle.machine.specs.State.{Call as CallM}
+use Rattle.machine.specs.Log.{line, answer_line, unhex, frame, feed}
+use Rattle.memory.specs.Splice.{splice}
+use Rattle.board.specs.declared.Board.{Board}
+use Rattle.board.specs.Board.{Held}
+use Rattle.image.specs.Image.{image_of, state_of, Whole, Saved}
+use Rattle.image.proofs.Round.{image_of_state_of, one_image, whole_saved}
+use Rattle.arbiter.proofs.Outcome.{held_or_not}
+use Rattle.arbiter.proofs.Lent.{whole_or_not}
+use Rattle.unheard.specs.Unheard.{Fed, unheard, Unheard}
+use Rattle.serving.specs.Serving.{Feeds, FeedsDisplay}
+use Rattle.serving.proofs.Laws.{feed_few}
 use Rattle.feeding.specs.Feeding.{FeedsAny, FeedsDisplayAny, FeedsLent}
 use Rattle.hearing.specs.Hearing.{Kept, held_in, Hears, Tells, Same}
 

@@ -10,14 +10,14 @@
 --   Tells l st tb dp out n st' tb' dp' out'   the promise of `hear`: that output, n bytes of it, stands in front of `out`
 --   Same n n₂ st st₂ ..           the same number of bytes, and the same bytes
 use Rattle.std.specs.Prelude.{ℕ, ◌≡◌, List, length}
-use Rattle.feeding.specs.machine.State.{State as StateM}
-use Rattle.feeding.specs.machine.Log.{unhex, frame, feed}
-use Rattle.feeding.specs.display.Display.{displayed_by}
-use Rattle.feeding.specs.memory.Splice.{splice}
-use Rattle.feeding.specs.store.Store.{table_of}
-use Rattle.feeding.specs.board.Board.{struct_of, state_in, Held}
-use Rattle.feeding.specs.image.Image.{state_of, Whole, Saved}
-use Rattle.feeding.specs.unheard.Unheard.{unheard}
+use Rattle.machine.specs.State.{State as StateM}
+use Rattle.machine.specs.Log.{unhex, frame, feed}
+use Rattle.display.specs.Display.{displayed_by}
+use Rattle.memory.specs.Splice.{splice}
+use Rattle.store.specs.Store.{table_of}
+use Rattle.board.specs.Board.{struct_of, state_in, Held}
+use Rattle.image.specs.Image.{state_of, Whole, Saved}
+use Rattle.unheard.specs.Unheard.{unheard}
 
 pub record Kept (st tb : List ℕ) : Type 0 where
   pub whole : Whole st

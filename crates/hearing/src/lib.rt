@@ -4,9 +4,6 @@
 
 ghost use Rattle.hearing.specs.Hearing.{Tells};
 
-use feeding::audio;
-pub use feeding::{serving, unheard};
-
 // How many bytes of output there are.
 pub fn hear(
     line: &[u8],

@@ -2,14 +2,10 @@
 #![tactic(auto)]
 
 ghost use Rattle.std.specs.Prelude.{◌≡◌, ◌++◌, ◌+◌, ◌*◌, ◌≤◌, length};
-ghost use Rattle.spelling.specs.memory.Splice.{splice};
-ghost use Rattle.digits.specs.machine.Log.{line};
+ghost use Rattle.memory.specs.Splice.{splice};
+ghost use Rattle.machine.specs.Log.{line};
 ghost use Rattle.spelling.specs.Spelling.{digits};
 ghost use Rattle.hex_lines.specs.HexLines.{octets_of, Put};
-
-pub use digits::machine;
-pub use spelling;
-pub use spelling::memory;
 
 // The digits of bytes.
 pub fn put_bytes(out: &mut [u8], at: usize, bs: &[u8])

@@ -7,19 +7,19 @@ use Prim.Native.Nat.{ℕ}
 use mathlib.Core.Path.{◌≡◌, refl}
 use mathlib.Core.List.{List, [], ◌∷◌, ◌++◌, map}
 use lib.ListN.{length, get_or, replicate, take}
-use Rattle.slipped.specs.machine.State.{fresh_on, frees}
-use Rattle.slipped.specs.machine.Desks.{desk_of}
-use Rattle.slipped.specs.machine.Machine.{machine}
-use Rattle.c_runs.specs.memory.Splice.{block, splice}
-use Rattle.slipped.specs.display.Looks.{beyond, reached, look_on, looks_in, looks, acting, looks_after, looked_by, looked}
-use Rattle.slipped.specs.display.Display.{blank, names, writes_on, naming, number, corrected, displayed}
-use Rattle.c_runs.specs.table.Entry.{number_bytes, write_entry, wait_entry, span_entry}
-use Rattle.c_runs.specs.store.Store.{items, write_items, lookup, entries, table_of}
-use Rattle.c_runs.specs.image.Image.{channel_bytes, channels_bytes, image_of}
-use Rattle.c_runs.specs.handed.Handed.{answer_bytes}
+use Rattle.machine.specs.State.{fresh_on, frees}
+use Rattle.machine.specs.Desks.{desk_of}
+use Rattle.machine.specs.Machine.{machine}
+use Rattle.memory.specs.Splice.{block, splice}
+use Rattle.display.specs.Looks.{beyond, reached, look_on, looks_in, looks, acting, looks_after, looked_by, looked}
+use Rattle.display.specs.Display.{blank, names, writes_on, naming, number, corrected, displayed}
+use Rattle.table.specs.Entry.{number_bytes, write_entry, wait_entry, span_entry}
+use Rattle.store.specs.Store.{items, write_items, lookup, entries, table_of}
+use Rattle.image.specs.Image.{channel_bytes, channels_bytes, image_of}
+use Rattle.handed.specs.Handed.{answer_bytes}
 use Rattle.c_runs.specs.CRuns.{Turn}
 use Rattle.c_runs.specs.Made.{Ask, bytes_of}
-use Rattle.slipped.proofs.nothing_left.Witness.{run}
+use Rattle.nothing_left.proofs.Witness.{run}
 use Rattle.inspected_bytes.specs.Inspected.{state_after, table_after, display_after, handed, back}
 use Rattle.inspected_bytes.proofs.Made.{made, spelts}
 

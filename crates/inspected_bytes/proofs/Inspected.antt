@@ -10,25 +10,25 @@ use native.Mathlib.Omega.{arith}
 use lib.Dec.{T, eqb, ltb}
 use lib.ListN.{length, get_or, take, drop}
 use Rattle.std.specs.Prelude.{if◌then◌else◌}
-use Rattle.slipped.specs.machine.Lists.{all, keep}
-use Rattle.slipped.specs.machine.State.{Call, Reply, State as StateM, fresh_on}
-use Rattle.slipped.specs.machine.Desks.{DESK_A, DESK_B, HALF, desk_of, replies_to, halves}
-use Rattle.slipped.specs.machine.Call.{call}
-use Rattle.slipped.proofs.machine.Tests.{test_true}
-use Rattle.slipped.proofs.machine_laws.Lists.{all_append, all_any, all_keep, keep_each}
-use Rattle.slipped.specs.display.Display.{NUMBERS, blank}
-use Rattle.slipped.specs.display.Runs.{after_calls, shown_after}
-use Rattle.c_runs.specs.reply.Replies.{encode}
-use Rattle.c_runs.specs.board.Board.{Held}
-use Rattle.c_runs.specs.image.Image.{state_of, Whole}
-use Rattle.c_runs.proofs.boundary.Crossing.{fresh-after}
-use Rattle.c_runs.specs.sizes.Sizes.{REPLIES}
-use Rattle.slipped.specs.two_runs.TwoRuns.{Party, own_replies}
-use Rattle.c_runs.specs.code_runs.CodeRuns.{records, records_to}
+use Rattle.machine.specs.Lists.{all, keep}
+use Rattle.machine.specs.State.{Call, Reply, State as StateM, fresh_on}
+use Rattle.machine.specs.Desks.{DESK_A, DESK_B, HALF, desk_of, replies_to, halves}
+use Rattle.machine.specs.Call.{call}
+use Rattle.machine.proofs.Tests.{test_true}
+use Rattle.machine_laws.proofs.Lists.{all_append, all_any, all_keep, keep_each}
+use Rattle.display.specs.Display.{NUMBERS, blank}
+use Rattle.display.specs.Runs.{after_calls, shown_after}
+use Rattle.reply.specs.Replies.{encode}
+use Rattle.board.specs.Board.{Held}
+use Rattle.image.specs.Image.{state_of, Whole}
+use Rattle.boundary.proofs.Crossing.{fresh-after}
+use Rattle.sizes.specs.Sizes.{REPLIES}
+use Rattle.two_runs.specs.TwoRuns.{Party, own_replies}
+use Rattle.code_runs.specs.CodeRuns.{records, records_to}
 use Rattle.c_runs.specs.CRuns.{Turn, asked, roomy, Took, own_records}
 use Rattle.c_runs.proofs.CRuns.{over, tells, took-records}
-use Rattle.slipped.specs.nothing_left.NothingLeft.{NothingLeft}
-use Rattle.slipped.proofs.nothing_left.NothingLeft.{nothing_left_standing}
+use Rattle.nothing_left.specs.NothingLeft.{NothingLeft}
+use Rattle.nothing_left.proofs.NothingLeft.{nothing_left_standing}
 use Rattle.slipped.specs.Slipped.{mild, settles_one}
 use Rattle.slipped.proofs.Slipped.{slips-mild, mild-stays, mild_unseen, fresh_left}
 use Rattle.inspected_bytes.specs.Inspected.{Ran, Fresh, calls, state_after, table_after, display_after, holds, handed, reported}

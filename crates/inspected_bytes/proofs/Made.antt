@@ -10,34 +10,34 @@ use mathlib.Core.Path.{◌≡◌, refl, ap, ap₂, sym, subst, ◌∙◌}
 use mathlib.Core.List.{List, [], ◌∷◌, ◌++◌, map, map-append}
 use lib.Dec.{T, leb, leb→le}
 use lib.ListN.{length, replicate, length-replicate}
-use Rattle.slipped.specs.machine.Lists.{all}
-use Rattle.slipped.specs.machine.State.{Call, Outcome as OutcomeM, State as StateM, fresh_on}
-use Rattle.slipped.specs.machine.Desks.{DESK_A, DESK_B, replies_to}
-use Rattle.slipped.specs.machine.Log.{op_of}
-use Rattle.slipped.specs.machine.Call.{call, in_range}
-use Rattle.c_runs.specs.refusals.Refusals.{op_for}
-use Rattle.slipped.proofs.machine.Tests.{and_left, and_right}
-use Rattle.slipped.proofs.machine_laws.Sound.{parts}
-use Rattle.slipped.proofs.widening.Maps.{length-frees}
-use Rattle.slipped.specs.display.Display.{DISPLAY, blank, displayed}
-use Rattle.slipped.proofs.display.Display.{displayed-length}
-use Rattle.slipped.specs.display.Runs.{after_calls, shown_after}
-use Rattle.c_runs.specs.halves.Halves.{laid}
-use Rattle.c_runs.specs.store.Store.{table_of}
-use Rattle.c_runs.specs.board.Board.{sized, struct_of}
-use Rattle.c_runs.proofs.board.Laws.{fresh-sane}
-use Rattle.c_runs.specs.image.Image.{STATE}
-use Rattle.c_runs.proofs.images.Images.{saved_of}
-use Rattle.c_runs.specs.answers.Answers.{answer_of}
-use Rattle.c_runs.specs.arbiter.Arbiter.{Shows}
-use Rattle.c_runs.specs.desk_call.DeskCall.{Outcome, Told, Called}
-use Rattle.c_runs.specs.sizes.Sizes.{TABLE}
-use Rattle.c_runs.specs.starting.Starting.{Fits, Started}
-use Rattle.c_runs.specs.handed.Handed.{answer_bytes}
-use Rattle.c_runs.proofs.boundary.Crossing.{fresh-after}
-use Rattle.slipped.specs.two_runs.TwoRuns.{in_bytes}
-use Rattle.c_runs.specs.code_runs.Made.{OnBoard}
-use Rattle.c_runs.proofs.code_runs.Made.{board_held, board_next, board-state, bytes_count, bytes-range, sound_next}
+use Rattle.machine.specs.Lists.{all}
+use Rattle.machine.specs.State.{Call, Outcome as OutcomeM, State as StateM, fresh_on}
+use Rattle.machine.specs.Desks.{DESK_A, DESK_B, replies_to}
+use Rattle.machine.specs.Log.{op_of}
+use Rattle.machine.specs.Call.{call, in_range}
+use Rattle.refusals.specs.Refusals.{op_for}
+use Rattle.machine.proofs.Tests.{and_left, and_right}
+use Rattle.machine_laws.proofs.Sound.{parts}
+use Rattle.widening.proofs.Maps.{length-frees}
+use Rattle.display.specs.Display.{DISPLAY, blank, displayed}
+use Rattle.display.proofs.Display.{displayed-length}
+use Rattle.display.specs.Runs.{after_calls, shown_after}
+use Rattle.halves.specs.Halves.{laid}
+use Rattle.store.specs.Store.{table_of}
+use Rattle.board.specs.Board.{sized, struct_of}
+use Rattle.board.proofs.Laws.{fresh-sane}
+use Rattle.image.specs.Image.{STATE}
+use Rattle.images.proofs.Images.{saved_of}
+use Rattle.answers.specs.Answers.{answer_of}
+use Rattle.arbiter.specs.Arbiter.{Shows}
+use Rattle.desk_call.specs.DeskCall.{Outcome, Told, Called}
+use Rattle.sizes.specs.Sizes.{TABLE}
+use Rattle.starting.specs.Starting.{Fits, Started}
+use Rattle.handed.specs.Handed.{answer_bytes}
+use Rattle.boundary.proofs.Crossing.{fresh-after}
+use Rattle.two_runs.specs.TwoRuns.{in_bytes}
+use Rattle.code_runs.specs.Made.{OnBoard}
+use Rattle.code_runs.proofs.Made.{board_held, board_next, board-state, bytes_count, bytes-range, sound_next}
 use Rattle.c_runs.specs.CRuns.{Turn, request, roomy, Took}
 use Rattle.c_runs.specs.Made.{Ask, spelt, bytes_of}
 use Rattle.c_runs.proofs.Witness.{bytes_whole, bytes-state}

@@ -12,18 +12,18 @@ use mathlib.Core.List.{List, [], ◌∷◌, ◌++◌, map}
 use native.Mathlib.Omega.{arith}
 use lib.Dec.{T}
 use Rattle.std.specs.Prelude.{if◌then◌else◌}
-use Rattle.slipped.specs.machine.State.{Call, State as StateM}
-use Rattle.slipped.specs.machine.Call.{call}
-use Rattle.slipped.proofs.machine.Tests.{by_test, test_true, test_false}
-use Rattle.slipped.specs.display.Display.{displayed}
-use Rattle.slipped.specs.display.Runs.{after_calls, shown_after}
-use Rattle.c_runs.specs.store.Store.{table_of}
-use Rattle.c_runs.specs.board.Board.{struct_of, Held}
-use Rattle.c_runs.specs.image.Image.{image_of, state_of, Whole}
-use Rattle.c_runs.proofs.image.Round.{image_of_state_of}
-use Rattle.c_runs.specs.desk_call.DeskCall.{Outcome}
-use Rattle.c_runs.proofs.desk_call.Promise.{one_call}
-use Rattle.c_runs.specs.handed.Handed.{answer_bytes}
+use Rattle.machine.specs.State.{Call, State as StateM}
+use Rattle.machine.specs.Call.{call}
+use Rattle.machine.proofs.Tests.{by_test, test_true, test_false}
+use Rattle.display.specs.Display.{displayed}
+use Rattle.display.specs.Runs.{after_calls, shown_after}
+use Rattle.store.specs.Store.{table_of}
+use Rattle.board.specs.Board.{struct_of, Held}
+use Rattle.image.specs.Image.{image_of, state_of, Whole}
+use Rattle.image.proofs.Round.{image_of_state_of}
+use Rattle.desk_call.specs.DeskCall.{Outcome}
+use Rattle.desk_call.proofs.Promise.{one_call}
+use Rattle.handed.specs.Handed.{answer_bytes}
 use Rattle.c_runs.specs.CRuns.{Turn, asked, roomy, Took}
 use Rattle.c_runs.proofs.CRuns.{after, over, tells, unanswered}
 use Rattle.inspected_bytes.specs.Inspected.{Chain, Ran, calls, state_after, table_after, display_after, holds, Handed, handed, Back}

@@ -5,21 +5,21 @@ use Prim.Native.Nat.{ℕ}
 use mathlib.Core.Path.{◌≡◌, ap, subst, ◌∙◌}
 use mathlib.Core.List.{List, [], ◌∷◌, ◌++◌}
 use lib.Dec.{T}
-use Rattle.slipped.specs.machine.Lists.{all}
-use Rattle.slipped.specs.machine.State.{State as StateM, fresh_on, frees}
-use Rattle.slipped.specs.machine.Call.{call}
-use Rattle.slipped.specs.machine.Machine.{machine}
-use Rattle.slipped.proofs.machine.Tests.{and_left, and_right}
-use Rattle.slipped.specs.display.Display.{blank, displayed}
-use Rattle.slipped.specs.display.Runs.{after_calls, shown_after}
-use Rattle.c_runs.specs.store.Store.{table_of}
-use Rattle.slipped.specs.two_runs.TwoRuns.{counted, in_bytes}
-use Rattle.c_runs.specs.code_runs.Made.{OnBoard}
-use Rattle.c_runs.proofs.code_runs.Made.{board_next}
+use Rattle.machine.specs.Lists.{all}
+use Rattle.machine.specs.State.{State as StateM, fresh_on, frees}
+use Rattle.machine.specs.Call.{call}
+use Rattle.machine.specs.Machine.{machine}
+use Rattle.machine.proofs.Tests.{and_left, and_right}
+use Rattle.display.specs.Display.{blank, displayed}
+use Rattle.display.specs.Runs.{after_calls, shown_after}
+use Rattle.store.specs.Store.{table_of}
+use Rattle.two_runs.specs.TwoRuns.{counted, in_bytes}
+use Rattle.code_runs.specs.Made.{OnBoard}
+use Rattle.code_runs.proofs.Made.{board_next}
 use Rattle.c_runs.specs.CRuns.{Turn}
 use Rattle.c_runs.specs.Made.{Ask, spelt, bytes_of, made as alone, missed}
 use Rattle.c_runs.proofs.Witness.{made_took, missed-took}
-use Rattle.slipped.specs.nothing_left.NothingLeft.{NothingLeft}
+use Rattle.nothing_left.specs.NothingLeft.{NothingLeft}
 use Rattle.slipped.specs.Slipped.{slips, slip}
 use Rattle.inspected_bytes.specs.Inspected.{Chain, Ran, state_after, table_after, holds, Inserted}
 use Rattle.inspected_bytes.proofs.Made.{turn_of, made, spelts, calls_made, made_append, handed_parts, fresh_on_lem, fresh-bytes}

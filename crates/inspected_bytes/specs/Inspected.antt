@@ -19,16 +19,16 @@
 --   SlippedBytes        the second assurance
 --   inspecting           one name that unfolds these definitions
 use Rattle.std.specs.Prelude.{ℕ, ◌≤◌, ◌≡◌, List, [], ◌∷◌, ◌++◌, map, T, eqb, length, get_or, take, drop}
-use Rattle.slipped.specs.machine.Lists.{all}
-use Rattle.slipped.specs.machine.State.{Call, State as StateM}
-use Rattle.slipped.specs.display.Display.{NUMBERS}
-use Rattle.c_runs.specs.board.Board.{state_in}
-use Rattle.c_runs.specs.image.Image.{state_of}
-use Rattle.c_runs.specs.sizes.Sizes.{REPLIES}
-use Rattle.c_runs.specs.starting.Starting.{Fits, Started}
-use Rattle.c_runs.specs.code_runs.CodeRuns.{records}
+use Rattle.machine.specs.Lists.{all}
+use Rattle.machine.specs.State.{Call, State as StateM}
+use Rattle.display.specs.Display.{NUMBERS}
+use Rattle.board.specs.Board.{state_in}
+use Rattle.image.specs.Image.{state_of}
+use Rattle.sizes.specs.Sizes.{REPLIES}
+use Rattle.starting.specs.Starting.{Fits, Started}
+use Rattle.code_runs.specs.CodeRuns.{records}
 use Rattle.c_runs.specs.CRuns.{Turn, asked, roomy, Took}
-use Rattle.slipped.specs.nothing_left.NothingLeft.{NothingLeft}
+use Rattle.nothing_left.specs.NothingLeft.{NothingLeft}
 use Rattle.slipped.specs.Slipped.{slips, settles_one}
 
 -- ---- a run

@@ -3,16 +3,16 @@
 use mathlib.Core.Path.{◌≡◌, refl}
 use mathlib.Core.List.{List, [], ◌∷◌, ◌++◌, map}
 use lib.ListN.{length, get_or, replicate, take}
-use Rattle.slipped.specs.machine.State.{COMMAND, fresh_on, frees}
-use Rattle.slipped.specs.machine.Machine.{machine}
-use Rattle.slipped.specs.machine.Walks.{asks}
-use Rattle.code_runs.specs.memory.Splice.{block, splice}
-use Rattle.slipped.specs.display.Looks.{beyond, reached, look_on, looks_in, looks, acting, looks_after, looked_by, looked}
-use Rattle.slipped.specs.display.Display.{blank, names, writes_on, naming, number, corrected, displayed}
-use Rattle.code_runs.specs.table.Entry.{number_bytes, write_entry, wait_entry, span_entry}
-use Rattle.code_runs.specs.store.Store.{items, write_items, lookup, entries, table_of}
-use Rattle.code_runs.specs.board.Board.{fresh_board}
-use Rattle.slipped.proofs.nothing_left.Witness.{run}
+use Rattle.machine.specs.State.{COMMAND, fresh_on, frees}
+use Rattle.machine.specs.Machine.{machine}
+use Rattle.machine.specs.Walks.{asks}
+use Rattle.memory.specs.Splice.{block, splice}
+use Rattle.display.specs.Looks.{beyond, reached, look_on, looks_in, looks, acting, looks_after, looked_by, looked}
+use Rattle.display.specs.Display.{blank, names, writes_on, naming, number, corrected, displayed}
+use Rattle.table.specs.Entry.{number_bytes, write_entry, wait_entry, span_entry}
+use Rattle.store.specs.Store.{items, write_items, lookup, entries, table_of}
+use Rattle.board.specs.Board.{fresh_board}
+use Rattle.nothing_left.proofs.Witness.{run}
 use Rattle.inspected_code.specs.Inspected.{Step, turns, board_after, table_after, display_after, handed}
 use Rattle.inspected_code.proofs.Made.{made}
 

@@ -10,20 +10,20 @@ use native.Mathlib.Omega.{arith}
 use native.Mathlib.Nat.{zero-add}
 use lib.Dec.{T, eqb}
 use lib.ListN.{length, get_or, take, drop}
-use Rattle.slipped.specs.machine.Lists.{all}
-use Rattle.slipped.specs.machine.State.{Call, Reply, State as StateM, fresh_on}
-use Rattle.slipped.specs.machine.Call.{call}
-use Rattle.slipped.specs.display.Display.{NUMBERS, blank}
-use Rattle.slipped.specs.display.Runs.{after_calls, shown_after}
-use Rattle.code_runs.specs.memory.Splice.{splice}
-use Rattle.code_runs.specs.reply.Replies.{encode, encodes, sent}
-use Rattle.code_runs.specs.store.Store.{table_of}
-use Rattle.code_runs.specs.board.declared.Board.{Board}
-use Rattle.code_runs.specs.board.Board.{sized, fresh_board, struct_of, state_in, Held}
+use Rattle.machine.specs.Lists.{all}
+use Rattle.machine.specs.State.{Call, Reply, State as StateM, fresh_on}
+use Rattle.machine.specs.Call.{call}
+use Rattle.display.specs.Display.{NUMBERS, blank}
+use Rattle.display.specs.Runs.{after_calls, shown_after}
+use Rattle.memory.specs.Splice.{splice}
+use Rattle.reply.specs.Replies.{encode, encodes, sent}
+use Rattle.store.specs.Store.{table_of}
+use Rattle.board.specs.declared.Board.{Board}
+use Rattle.board.specs.Board.{sized, fresh_board, struct_of, state_in, Held}
 use Rattle.code_runs.specs.CodeRuns.{Turn, asked, Took, records}
 use Rattle.code_runs.proofs.CodeRuns.{took-told}
-use Rattle.slipped.specs.nothing_left.NothingLeft.{NothingLeft}
-use Rattle.slipped.proofs.nothing_left.NothingLeft.{nothing_left_standing}
+use Rattle.nothing_left.specs.NothingLeft.{NothingLeft}
+use Rattle.nothing_left.proofs.NothingLeft.{nothing_left_standing}
 use Rattle.slipped.specs.Slipped.{mild, settles_one}
 use Rattle.slipped.proofs.Slipped.{slips-mild, mild-stays, mild_unseen, fresh_left}
 use Rattle.inspected_code.specs.Inspected.{Step, Fresh, turns, calls, board_after, table_after, display_after, state_after, handed, LeftCode, Inserted, SlippedCode}

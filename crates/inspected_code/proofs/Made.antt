@@ -10,20 +10,20 @@ use native.Mathlib.Omega.{arith}
 use native.Mathlib.Nat.{zero-add}
 use lib.Dec.{T, leb, leb→le}
 use lib.ListN.{length, length-replicate}
-use Rattle.slipped.specs.machine.Lists.{all}
-use Rattle.slipped.specs.machine.State.{Call, Op as OpM, OPEN, CLOSE, ABORT, EVENT, CYCLE_ENDED, GAVE_UP, COMMAND, State as StateM, fresh_on}
-use Rattle.slipped.specs.machine.Call.{call, in_range}
-use Rattle.slipped.proofs.machine.Tests.{and_left, and_right}
-use Rattle.slipped.proofs.widening.Maps.{length-frees}
-use Rattle.slipped.specs.display.Display.{blank, displayed}
-use Rattle.slipped.specs.display.Runs.{after_calls, shown_after}
-use Rattle.code_runs.specs.reply.Replies.{sent}
-use Rattle.code_runs.specs.store.Store.{table_of}
-use Rattle.code_runs.specs.board.declared.Board.{Board}
-use Rattle.code_runs.specs.board.Board.{sized, struct_of, Told}
-use Rattle.code_runs.proofs.board.Laws.{fresh_of, fresh-sane}
-use Rattle.code_runs.specs.refusals.Refusals.{op_in, op_for}
-use Rattle.slipped.specs.two_runs.TwoRuns.{counted, in_bytes}
+use Rattle.machine.specs.Lists.{all}
+use Rattle.machine.specs.State.{Call, Op as OpM, OPEN, CLOSE, ABORT, EVENT, CYCLE_ENDED, GAVE_UP, COMMAND, State as StateM, fresh_on}
+use Rattle.machine.specs.Call.{call, in_range}
+use Rattle.machine.proofs.Tests.{and_left, and_right}
+use Rattle.widening.proofs.Maps.{length-frees}
+use Rattle.display.specs.Display.{blank, displayed}
+use Rattle.display.specs.Runs.{after_calls, shown_after}
+use Rattle.reply.specs.Replies.{sent}
+use Rattle.store.specs.Store.{table_of}
+use Rattle.board.specs.declared.Board.{Board}
+use Rattle.board.specs.Board.{sized, struct_of, Told}
+use Rattle.board.proofs.Laws.{fresh_of, fresh-sane}
+use Rattle.refusals.specs.Refusals.{op_in, op_for}
+use Rattle.two_runs.specs.TwoRuns.{counted, in_bytes}
 use Rattle.code_runs.specs.CodeRuns.{asked, Took}
 use Rattle.code_runs.specs.Made.{OnBoard, number_out, blank as records, outcome_of, made as turn_of}
 use Rattle.code_runs.proofs.Made.{board_next, board-state, board_held, bytes-range, bytes_count}

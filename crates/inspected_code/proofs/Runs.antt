@@ -9,15 +9,15 @@ use mathlib.Core.Path.{◌≡◌, refl, ap, ap₂, sym, subst, ◌∙◌}
 use mathlib.Core.List.{List, [], ◌∷◌, ◌++◌, map}
 use native.Mathlib.Omega.{arith}
 use lib.Dec.{T}
-use Rattle.slipped.specs.machine.State.{State as StateM, fresh_on}
-use Rattle.slipped.proofs.machine_laws.Sound.{parts}
-use Rattle.slipped.proofs.widening.Maps.{length-frees}
-use Rattle.slipped.specs.display.Runs.{after_calls, shown_after}
-use Rattle.code_runs.specs.store.Store.{table_of}
-use Rattle.code_runs.specs.board.declared.Board.{Board}
-use Rattle.code_runs.specs.board.declared.Outcome.{Outcome}
-use Rattle.code_runs.specs.board.Board.{sized, fresh_board, state_in, Held}
-use Rattle.code_runs.proofs.board.Laws.{fresh_of, fresh-sane, held_next}
+use Rattle.machine.specs.State.{State as StateM, fresh_on}
+use Rattle.machine_laws.proofs.Sound.{parts}
+use Rattle.widening.proofs.Maps.{length-frees}
+use Rattle.display.specs.Runs.{after_calls, shown_after}
+use Rattle.store.specs.Store.{table_of}
+use Rattle.board.specs.declared.Board.{Board}
+use Rattle.board.specs.declared.Outcome.{Outcome}
+use Rattle.board.specs.Board.{sized, fresh_board, state_in, Held}
+use Rattle.board.proofs.Laws.{fresh_of, fresh-sane, held_next}
 use Rattle.code_runs.specs.CodeRuns.{Turn, Took}
 use Rattle.code_runs.proofs.CodeRuns.{took_held, took_next, one_turn}
 use Rattle.inspected_code.specs.Inspected.{Step, Ran, turns, calls, board_after, table_after, display_after, Handed, handed}

@@ -7,17 +7,17 @@ use Prim.Native.Nat.{ℕ}
 use mathlib.Core.Path.{◌≡◌, ap, subst, ◌∙◌}
 use mathlib.Core.List.{List, ◌∷◌, ◌++◌}
 use lib.Dec.{T}
-use Rattle.slipped.specs.machine.State.{Call, State as StateM, fresh_on}
-use Rattle.slipped.specs.machine.Lists.{all}
-use Rattle.slipped.specs.machine.Call.{call}
-use Rattle.slipped.specs.machine.Machine.{machine}
-use Rattle.slipped.specs.display.Display.{blank, displayed}
-use Rattle.slipped.specs.display.Runs.{after_calls, shown_after}
-use Rattle.code_runs.specs.board.Board.{sized}
+use Rattle.machine.specs.State.{Call, State as StateM, fresh_on}
+use Rattle.machine.specs.Lists.{all}
+use Rattle.machine.specs.Call.{call}
+use Rattle.machine.specs.Machine.{machine}
+use Rattle.display.specs.Display.{blank, displayed}
+use Rattle.display.specs.Runs.{after_calls, shown_after}
+use Rattle.board.specs.Board.{sized}
 use Rattle.code_runs.specs.Made.{made as turn_of}
-use Rattle.slipped.specs.two_runs.TwoRuns.{counted, in_bytes}
-use Rattle.slipped.specs.nothing_left.NothingLeft.{NothingLeft}
-use Rattle.slipped.proofs.nothing_left.Witness.{run}
+use Rattle.two_runs.specs.TwoRuns.{counted, in_bytes}
+use Rattle.nothing_left.specs.NothingLeft.{NothingLeft}
+use Rattle.nothing_left.proofs.Witness.{run}
 use Rattle.slipped.specs.Slipped.{slips}
 use Rattle.slipped.proofs.Witness.{early, late, frees9, frees9-slips}
 use Rattle.inspected_code.specs.Inspected.{Step, state_after, Fresh, Inserted}

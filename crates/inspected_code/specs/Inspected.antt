@@ -17,17 +17,17 @@
 --   SlippedCode         the second assurance
 --   inspecting           one name that unfolds these definitions
 use Rattle.std.specs.Prelude.{ℕ, ◌≤◌, ◌≡◌, List, [], ◌∷◌, ◌++◌, map, T, eqb, get_or, take}
-use Rattle.slipped.specs.machine.Lists.{all}
-use Rattle.slipped.specs.machine.State.{Call, State as StateM, fresh_on}
-use Rattle.slipped.specs.display.Display.{NUMBERS, blank}
-use Rattle.code_runs.specs.store.Store.{table_of}
-use Rattle.code_runs.specs.board.declared.Board.{Board}
-use Rattle.code_runs.specs.board.Board.{sized, fresh_board, state_in}
-use Rattle.code_runs.specs.answers.declared.Request.{Request}
-use Rattle.code_runs.specs.refusals.declared.Op.{Op}
-use Rattle.code_runs.specs.arbiter.Arbiter.{Shows}
+use Rattle.machine.specs.Lists.{all}
+use Rattle.machine.specs.State.{Call, State as StateM, fresh_on}
+use Rattle.display.specs.Display.{NUMBERS, blank}
+use Rattle.store.specs.Store.{table_of}
+use Rattle.board.specs.declared.Board.{Board}
+use Rattle.board.specs.Board.{sized, fresh_board, state_in}
+use Rattle.answers.specs.declared.Request.{Request}
+use Rattle.refusals.specs.declared.Op.{Op}
+use Rattle.arbiter.specs.Arbiter.{Shows}
 use Rattle.code_runs.specs.CodeRuns.{Turn, asked, Took, records}
-use Rattle.slipped.specs.nothing_left.NothingLeft.{NothingLeft}
+use Rattle.nothing_left.specs.NothingLeft.{NothingLeft}
 use Rattle.slipped.specs.Slipped.{slips, settles_one}
 
 -- ---- a run

@@ -8,13 +8,13 @@ use mathlib.Core.List.{List, [], ◌∷◌, ◌++◌, append_assoc}
 use mathlib.Core.Option.{Option, none, some}
 use lib.Dec.{T}
 use lib.ListN.{length, take}
-use Rattle.slipped.specs.machine.State.{State, Call, fresh_on}
-use Rattle.slipped.specs.machine.Commands.{silent}
-use Rattle.slipped.specs.machine.Log.{outcome_of, feed, run}
-use Rattle.slipped.specs.display.Display.{NUMBERS, blank, displayed_by}
-use Rattle.slipped.specs.display.Runs.{after_calls, shown_after}
-use Rattle.slipped.specs.nothing_left.NothingLeft.{NothingLeft}
-use Rattle.slipped.proofs.nothing_left.NothingLeft.{nothing_left_standing}
+use Rattle.machine.specs.State.{State, Call, fresh_on}
+use Rattle.machine.specs.Commands.{silent}
+use Rattle.machine.specs.Log.{outcome_of, feed, run}
+use Rattle.display.specs.Display.{NUMBERS, blank, displayed_by}
+use Rattle.display.specs.Runs.{after_calls, shown_after}
+use Rattle.nothing_left.specs.NothingLeft.{NothingLeft}
+use Rattle.nothing_left.proofs.NothingLeft.{nothing_left_standing}
 use Rattle.slipped.specs.Slipped.{mild, leaving_out, settles_one}
 use Rattle.slipped.proofs.Inserting.{leaving_middle}
 use Rattle.slipped.proofs.Slipped.{slips-mild, mild-stays, mild_unseen, fresh_left}

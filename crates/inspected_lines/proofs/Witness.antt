@@ -9,12 +9,12 @@ use mathlib.Core.Bool.{true, false}
 use mathlib.Core.List.{List, [], ◌∷◌, ◌++◌, map}
 use lib.Dec.{T}
 use lib.ListN.{length, replicate}
-use Rattle.slipped.specs.machine.State.{fresh_on, frees}
-use Rattle.slipped.specs.machine.Machine.{machine}
-use Rattle.slipped.specs.machine.Text.{bytes, page}
-use Rattle.slipped.specs.machine.Log.{lines, run}
-use Rattle.slipped.specs.display.Looks.{beyond, reached, look_on, looks_in, looks, acting, looks_after, looked_by, looked}
-use Rattle.slipped.specs.display.Display.{blank, names, writes_on, naming, number, corrected, displayed, displayed_by}
+use Rattle.machine.specs.State.{fresh_on, frees}
+use Rattle.machine.specs.Machine.{machine}
+use Rattle.machine.specs.Text.{bytes, page}
+use Rattle.machine.specs.Log.{lines, run}
+use Rattle.display.specs.Looks.{beyond, reached, look_on, looks_in, looks, acting, looks_after, looked_by, looked}
+use Rattle.display.specs.Display.{blank, names, writes_on, naming, number, corrected, displayed, displayed_by}
 use Rattle.slipped.specs.Slipped.{slip}
 use Rattle.inspected_lines.specs.Lines.{call_in, calls_in, slips_by, outputs, shown_by, logging}
 

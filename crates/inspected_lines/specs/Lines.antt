@@ -13,10 +13,10 @@
 --   logging              one name that unfolds these definitions
 use Rattle.std.specs.Prelude.{ℕ, ◌≡◌, Bool, false, List, [], ◌∷◌, ◌++◌, T, length, take}
 use Rattle.std.proofs.Math.Option.{Option, none, some}
-use Rattle.slipped.specs.machine.State.{State, Call, fresh_on}
-use Rattle.slipped.specs.machine.Log.{unhex, frame, feed, run}
-use Rattle.slipped.specs.display.Display.{NUMBERS, blank, displayed_by}
-use Rattle.slipped.specs.nothing_left.NothingLeft.{NothingLeft}
+use Rattle.machine.specs.State.{State, Call, fresh_on}
+use Rattle.machine.specs.Log.{unhex, frame, feed, run}
+use Rattle.display.specs.Display.{NUMBERS, blank, displayed_by}
+use Rattle.nothing_left.specs.NothingLeft.{NothingLeft}
 use Rattle.slipped.specs.Slipped.{slips, leaving_out, settles_one}
 
 abbrev pub call_in : List ℕ → Option Call

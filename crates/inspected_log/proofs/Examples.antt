@@ -5,13 +5,13 @@ use Prim.Native.Nat.{ℕ}
 use mathlib.Core.Path.{◌≡◌, refl}
 use mathlib.Core.Bool.{true, false}
 use mathlib.Core.List.{List, [], ◌∷◌, ◌++◌}
-use Rattle.inspected_lines.specs.machine.State.{frees}
-use Rattle.inspected_lines.specs.machine.Machine.{machine}
-use Rattle.inspected_lines.specs.machine.Text.{bytes, page}
-use Rattle.inspected_lines.specs.display.Looks.{beyond, reached, look_on, looks_in, looks, acting, looks_after, looked_by, looked}
-use Rattle.inspected_lines.specs.display.Display.{names, writes_on, naming, number, corrected, displayed, displayed_by, load_line, request_lines, display_lines}
-use Rattle.whole_log.specs.taking.declared.Show.{Show}
-use Rattle.whole_log.specs.taking.Desk.{hidden, shown_of, fed, run_shown}
+use Rattle.machine.specs.State.{frees}
+use Rattle.machine.specs.Machine.{machine}
+use Rattle.machine.specs.Text.{bytes, page}
+use Rattle.display.specs.Looks.{beyond, reached, look_on, looks_in, looks, acting, looks_after, looked_by, looked}
+use Rattle.display.specs.Display.{names, writes_on, naming, number, corrected, displayed, displayed_by, load_line, request_lines, display_lines}
+use Rattle.taking.specs.declared.Show.{Show}
+use Rattle.taking.specs.Desk.{hidden, shown_of, fed, run_shown}
 use Rattle.inspected_lines.specs.Lines.{logging}
 use Rattle.inspected_lines.proofs.Witness.{before, slipped, behind}
 use Rattle.inspected_log.specs.Program.{text, own, more}

@@ -8,16 +8,16 @@ use mathlib.Core.Path.{◌≡◌, refl, ap, ap₂, sym, ◌∙◌}
 use mathlib.Core.Bool.{Bool, true, false, not}
 use mathlib.Core.List.{List, [], ◌∷◌, ◌++◌, append_assoc}
 use lib.Dec.{T}
-use Rattle.inspected_lines.specs.machine.State.{State, fresh_on}
+use Rattle.machine.specs.State.{State, fresh_on}
 use Rattle.std.specs.Prelude.{if◌then◌else◌}
-use Rattle.inspected_lines.specs.machine.Log.{feed, run}
-use Rattle.inspected_lines.specs.display.Display.{blank, displayed_by, display_lines}
-use Rattle.whole_log.specs.board.Board.{sized, struct_of}
-use Rattle.whole_log.specs.channel_lines.ChannelLines.{board_lines}
-use Rattle.whole_log.specs.taking.declared.Show.{Show}
-use Rattle.whole_log.specs.taking.Desk.{shown_of, fed, run_shown, log_shown}
+use Rattle.machine.specs.Log.{feed, run}
+use Rattle.display.specs.Display.{blank, displayed_by, display_lines}
+use Rattle.board.specs.Board.{sized, struct_of}
+use Rattle.channel_lines.specs.ChannelLines.{board_lines}
+use Rattle.taking.specs.declared.Show.{Show}
+use Rattle.taking.specs.Desk.{shown_of, fed, run_shown, log_shown}
 use Rattle.whole_log.proofs.Whole.{whole_log-shown}
-use Rattle.inspected_lines.specs.slipped.Slipped.{settles_one}
+use Rattle.slipped.specs.Slipped.{settles_one}
 use Rattle.inspected_lines.specs.Lines.{call_in, calls_in, slips_by, shown_by}
 use Rattle.inspected_lines.proofs.Lines.{nothing-slipped_into_a_log, line_stays}
 use Rattle.inspected_log.specs.Program.{Read, text, own, more, SlippedProgram}

@@ -7,14 +7,14 @@ use mathlib.Core.Path.{◌≡◌, refl}
 use mathlib.Core.List.{List, [], ◌∷◌, ◌++◌}
 use native.Mathlib.Omega.{arith}
 use lib.ListN.{replicate, length-replicate}
-use Rattle.inspected_lines.specs.machine.State.{fresh_on}
-use Rattle.inspected_lines.specs.machine.Log.{lines}
-use Rattle.inspected_lines.specs.machine.Machine.{machine}
-use Rattle.inspected_lines.specs.machine.Text.{bytes, page}
-use Rattle.inspected_lines.specs.display.Display.{blank}
-use Rattle.whole_log.specs.store.Store.{table_of}
-use Rattle.whole_log.specs.board.Board.{struct_of}
-use Rattle.whole_log.specs.taking.Desk.{hidden}
+use Rattle.machine.specs.State.{fresh_on}
+use Rattle.machine.specs.Log.{lines}
+use Rattle.machine.specs.Machine.{machine}
+use Rattle.machine.specs.Text.{bytes, page}
+use Rattle.display.specs.Display.{blank}
+use Rattle.store.specs.Store.{table_of}
+use Rattle.board.specs.Board.{struct_of}
+use Rattle.taking.specs.Desk.{hidden}
 use Rattle.whole_log.specs.Whole.{joined, Runs}
 use Rattle.whole_log.proofs.Runs.{run_exists}
 use Rattle.inspected_lines.proofs.Witness.{before, slipped, behind, slips_there}

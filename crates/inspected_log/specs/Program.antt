@@ -11,15 +11,15 @@
 --   Inserted ..                     two outputs, with the line x and without it
 --   SlippedProgram                 the assurance
 use Rattle.std.specs.Prelude.{ℕ, ◌≡◌, not, List, ◌∷◌, ◌++◌, T}
-use Rattle.inspected_lines.specs.machine.State.{fresh_on}
-use Rattle.inspected_lines.specs.machine.Log.{lines, run}
-use Rattle.inspected_lines.specs.display.Display.{blank}
-use Rattle.whole_log.specs.store.Store.{table_of}
-use Rattle.whole_log.specs.board.Board.{struct_of, sized}
-use Rattle.whole_log.specs.taking.declared.Show.{Show}
-use Rattle.whole_log.specs.taking.Desk.{fed, run_shown}
+use Rattle.machine.specs.State.{fresh_on}
+use Rattle.machine.specs.Log.{lines, run}
+use Rattle.display.specs.Display.{blank}
+use Rattle.store.specs.Store.{table_of}
+use Rattle.board.specs.Board.{struct_of, sized}
+use Rattle.taking.specs.declared.Show.{Show}
+use Rattle.taking.specs.Desk.{fed, run_shown}
 use Rattle.whole_log.specs.Whole.{joined, Ran}
-use Rattle.inspected_lines.specs.slipped.Slipped.{settles_one}
+use Rattle.slipped.specs.Slipped.{settles_one}
 use Rattle.inspected_lines.specs.Lines.{call_in, calls_in, slips_by, shown_by}
 
 pub record Read (show : Show) (w : ℕ) (l page : List ℕ) (ls bss : List (List ℕ)) (out : List ℕ) : Type 0 where

@@ -5,15 +5,15 @@ use Prim.Native.Nat.{ℕ}
 use mathlib.Core.Path.{◌≡◌, refl, ap, sym, subst, ◌∙◌}
 use mathlib.Core.List.{List, [], ◌∷◌, ◌++◌}
 use lib.ListN.{take}
-use Rattle.inspected_lines.specs.machine.State.{State, fresh_on}
-use Rattle.inspected_lines.specs.machine.Log.{feed}
-use Rattle.inspected_lines.specs.display.Display.{NUMBERS, blank, displayed_by}
-use Rattle.port.specs.store.Store.{table_of}
-use Rattle.port.specs.board.Board.{struct_of}
-use Rattle.port.specs.image.Image.{image_of}
+use Rattle.machine.specs.State.{State, fresh_on}
+use Rattle.machine.specs.Log.{feed}
+use Rattle.display.specs.Display.{NUMBERS, blank, displayed_by}
+use Rattle.store.specs.Store.{table_of}
+use Rattle.board.specs.Board.{struct_of}
+use Rattle.image.specs.Image.{image_of}
 use Rattle.slow_line.specs.Slow.{Came, shown_after}
 use Rattle.slow_line.proofs.Log.{slow_line}
-use Rattle.inspected_lines.specs.nothing_left.NothingLeft.{NothingLeft}
+use Rattle.nothing_left.specs.NothingLeft.{NothingLeft}
 use Rattle.inspected_lines.specs.Lines.{call_in, shown_by}
 use Rattle.inspected_lines.proofs.Lines.{nothing_left_by_a_log, nothing-slipped_into_a_log}
 use Rattle.inspected_port.specs.Port.{Fed, LeftPort, SlippedPort}

@@ -8,23 +8,23 @@ use mathlib.Core.Path.{◌≡◌, refl, ap, sym}
 use mathlib.Core.List.{List, [], ◌∷◌, ◌++◌}
 use lib.Dec.{T}
 use lib.ListN.{replicate, length-replicate}
-use Rattle.inspected_lines.specs.machine.Lists.{all}
-use Rattle.inspected_lines.specs.machine.State.{fresh_on}
-use Rattle.inspected_lines.specs.machine.Log.{lines}
-use Rattle.inspected_lines.specs.machine.Machine.{machine}
-use Rattle.inspected_lines.specs.machine.Text.{bytes, page}
-use Rattle.inspected_lines.proofs.machine_laws.Sound.{parts}
-use Rattle.inspected_lines.specs.display.Display.{blank}
-use Rattle.port.specs.board.Board.{sized, struct_of}
-use Rattle.port.proofs.board.Laws.{fresh-sane}
-use Rattle.port.specs.image.Image.{STATE, image_of, is_byte}
-use Rattle.slow_line.proofs.images.Images.{saved_of}
-use Rattle.port.specs.sizes.Sizes.{TABLE, PORT}
-use Rattle.slow_line.specs.starting.Starting.{Fits, Started}
-use Rattle.slow_line.specs.whole_log.Whole.{joined}
+use Rattle.machine.specs.Lists.{all}
+use Rattle.machine.specs.State.{fresh_on}
+use Rattle.machine.specs.Log.{lines}
+use Rattle.machine.specs.Machine.{machine}
+use Rattle.machine.specs.Text.{bytes, page}
+use Rattle.machine_laws.proofs.Sound.{parts}
+use Rattle.display.specs.Display.{blank}
+use Rattle.board.specs.Board.{sized, struct_of}
+use Rattle.board.proofs.Laws.{fresh-sane}
+use Rattle.image.specs.Image.{STATE, image_of, is_byte}
+use Rattle.images.proofs.Images.{saved_of}
+use Rattle.sizes.specs.Sizes.{TABLE, PORT}
+use Rattle.starting.specs.Starting.{Fits, Started}
+use Rattle.whole_log.specs.Whole.{joined}
 use Rattle.slow_line.proofs.Runs.{run_exists, fresh-port}
-use Rattle.inspected_lines.specs.nothing_left.NothingLeft.{NothingLeft}
-use Rattle.slow_line.specs.hearing.Hearing.{held_in}
+use Rattle.nothing_left.specs.NothingLeft.{NothingLeft}
+use Rattle.hearing.specs.Hearing.{held_in}
 use Rattle.inspected_lines.proofs.Witness.{before, slipped, behind, slips_there}
 use Rattle.inspected_port.specs.Port.{Fed, Inserted}
 use Rattle.inspected_port.proofs.Port.{nothing_left_behind_the_port, nothing-slipped_through_the_port}

@@ -8,16 +8,16 @@
 --   Inserted ..              two runs, with the line x and without it
 --   SlippedPort             the second assurance
 use Rattle.std.specs.Prelude.{ℕ, ◌≡◌, List, ◌∷◌, ◌++◌, T, take}
-use Rattle.inspected_lines.specs.machine.State.{fresh_on}
-use Rattle.inspected_lines.specs.machine.Log.{feed, lines, run}
-use Rattle.inspected_lines.specs.display.Display.{NUMBERS}
-use Rattle.slow_line.specs.starting.Starting.{Fits, Started}
+use Rattle.machine.specs.State.{fresh_on}
+use Rattle.machine.specs.Log.{feed, lines, run}
+use Rattle.display.specs.Display.{NUMBERS}
+use Rattle.starting.specs.Starting.{Fits, Started}
 use Rattle.port.specs.Port.{started_in}
-use Rattle.slow_line.specs.hearing.Hearing.{held_in}
-use Rattle.slow_line.specs.whole_log.Whole.{joined}
+use Rattle.hearing.specs.Hearing.{held_in}
+use Rattle.whole_log.specs.Whole.{joined}
 use Rattle.slow_line.specs.Slow.{Ran}
-use Rattle.inspected_lines.specs.nothing_left.NothingLeft.{NothingLeft}
-use Rattle.inspected_lines.specs.slipped.Slipped.{settles_one}
+use Rattle.nothing_left.specs.NothingLeft.{NothingLeft}
+use Rattle.slipped.specs.Slipped.{settles_one}
 use Rattle.inspected_lines.specs.Lines.{call_in, calls_in, slips_by}
 
 pub record Fed (w : ℕ) (ls : List (List ℕ)) (out st tb dp : List ℕ) : Type 0 where

@@ -7,8 +7,8 @@ use native.Mathlib.Omega.{arith}
 use borrow.Author.Tests.{eqb-true, eqb-false}
 use lib.Dec.{eqb}
 use lib.ListN.{length}
-use Rattle.saving.specs.board.declared.Board.{Board}
-use Rattle.saving.specs.board.Board.{Held}
+use Rattle.board.specs.declared.Board.{Board}
+use Rattle.board.specs.Board.{Held}
 use Rattle.saving.proofs.Laws.{text_fits, page-within}
 use Rattle.keeping.specs.Keeping.{Kept}
 

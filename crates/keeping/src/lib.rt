@@ -2,12 +2,10 @@
 #![tactic(auto)]
 
 ghost use Rattle.std.specs.Prelude.{◌≡◌, length};
-ghost use Rattle.saving.specs.board.Board.{Held};
+ghost use Rattle.board.specs.Board.{Held};
 ghost use Rattle.keeping.specs.Keeping.{Kept};
 
-pub use saving;
-use saving::board::Board;
-pub use saving::{audio, board, decoding, image};
+use board::Board;
 
 // The text of four channels, in front of the page; how long it is. Eight have none: 0, and nothing is written.
 pub fn first_form(b: Board, table: &[u8], page: &mut [u8]) -> usize

@@ -12,12 +12,12 @@ use lib.Dec.{T, eqb, ltb}
 use lib.ListN.{length, take, drop, get_or, drop_of_length-le}
 use lib.Seq.{drop-cons}
 use Rattle.std.specs.Prelude.{if◌then◌else◌}
-use Rattle.display.specs.machine.Lists.{any, keep}
-use Rattle.display.specs.machine.State.{Request}
-use Rattle.display.specs.machine.Maps.{odd}
-use Rattle.display.specs.machine.Allocating.{enqueue}
-use Rattle.display.proofs.machine.Tests.{if_elim}
-use Rattle.display.specs.machine_laws.Lists.{Sub, end, skip, take as both}
+use Rattle.machine.specs.Lists.{any, keep}
+use Rattle.machine.specs.State.{Request}
+use Rattle.machine.specs.Maps.{odd}
+use Rattle.machine.specs.Allocating.{enqueue}
+use Rattle.machine.proofs.Tests.{if_elim}
+use Rattle.machine_laws.specs.Lists.{Sub, end, skip, take as both}
 use Rattle.display.specs.Display.{names}
 use Rattle.words.specs.Words.{number}
 use Rattle.words.proofs.Laws.{Bytes, number_step, number-drop, number_keep}

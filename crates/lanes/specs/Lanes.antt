@@ -9,9 +9,9 @@
 --   Balanced vs ts l j   the waiting requests vs became ts: the words of those who joined, 64 at most, add up to j, and the
 --                        words of those who left to l
 use Rattle.std.specs.Prelude.{ℕ, ◌+◌, ◌/◌, ◌%◌, ◌^◌, ◌≤◌, ◌≡◌, List, [], ◌∷◌, length, if◌then◌else◌}
-use Rattle.display.specs.machine.Lists.{any, keep}
-use Rattle.display.specs.machine.State.{Request}
-use Rattle.display.specs.machine.Maps.{odd}
+use Rattle.machine.specs.Lists.{any, keep}
+use Rattle.machine.specs.State.{Request}
+use Rattle.machine.specs.Maps.{odd}
 use Rattle.display.specs.Display.{names}
 use Rattle.words.specs.Words.{number}
 

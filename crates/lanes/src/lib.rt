@@ -3,13 +3,10 @@
 #![tactic(auto)]
 
 ghost use Rattle.std.specs.Prelude.{◌≡◌, ℕ, ◌/◌, ◌%◌, ◌^◌};
-ghost use Rattle.display.specs.machine.Lists.{any};
-ghost use Rattle.display.specs.machine.Maps.{odd};
+ghost use Rattle.machine.specs.Lists.{any};
+ghost use Rattle.machine.specs.Maps.{odd};
 ghost use Rattle.words.specs.Words.{number};
 ghost use Rattle.lanes.specs.Lanes.{lanes, word_of};
-
-pub use display;
-pub use display::{machine, machine_laws};
 
 // The channels that one of the combinations names.
 fn named_by(combos: &[u8]) -> u8

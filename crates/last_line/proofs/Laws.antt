@@ -3,9 +3,9 @@ use Prim.Native.Nat.{ℕ}
 use mathlib.Core.Path.{◌≡◌, refl, ap, sym, ◌∙◌}
 use mathlib.Core.List.{List, ◌∷◌}
 use borrow.Author.Tests.{eq-eqb, ne_eqb}
-use Rattle.telling.specs.port.Port.{started_in, line_in, port_of}
-use Rattle.telling.specs.admitting.Admitting.{Proper}
-use Rattle.telling.proofs.admitting.Laws.{port_again}
+use Rattle.port.specs.Port.{started_in, line_in, port_of}
+use Rattle.admitting.specs.Admitting.{Proper}
+use Rattle.admitting.proofs.Laws.{port_again}
 use Rattle.telling.specs.Telling.{Says, Moves, SameCall}
 use Rattle.telling.proofs.Laws.{cons_cons, one_porting}
 use Rattle.last_line.specs.LastLine.{line_last, port_last, Ends}

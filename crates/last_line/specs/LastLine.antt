@@ -5,7 +5,7 @@
 --   Ends                          the promise of `feed_end`
 use Rattle.std.specs.Prelude.{ℕ, List, eqb, take, if◌then◌else◌}
 use Rattle.std.proofs.Math.Option.{Option, none, some}
-use Rattle.telling.specs.port.Port.{started_in, line_in, port_of}
+use Rattle.port.specs.Port.{started_in, line_in, port_of}
 use Rattle.telling.specs.Telling.{Ported}
 
 -- "a last line without LF"

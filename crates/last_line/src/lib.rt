@@ -4,8 +4,6 @@
 
 ghost use Rattle.last_line.specs.LastLine.{Ends};
 
-use telling::{admitting, port};
-
 // The refusal, or 0; how much output stands in front of the room.
 #[derive(Clone, Copy)]
 pub struct Ended {

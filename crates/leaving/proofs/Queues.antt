@@ -7,24 +7,24 @@ use mathlib.Core.List.{List, [], ◌∷◌, ◌++◌, map}
 use native.Mathlib.Omega.{arith}
 use lib.Dec.{T, T_not, not_T, eqb, eqb→eq}
 use lib.ListN.{length, get_or, take, drop, set, length-append}
-use Rattle.granting.specs.queue.declared.Queue.{Queue}
-use Rattle.granting.specs.queue.Queue.{queue_of, list_of, index_of, removed}
-use Rattle.granting.proofs.queue.Laws.{list_of_queue_of, removed_of}
-use Rattle.granting.specs.channel.declared.Channel.{Channel}
-use Rattle.granting.specs.channel.Channel.{channel_of}
+use Rattle.queue.specs.declared.Queue.{Queue}
+use Rattle.queue.specs.Queue.{queue_of, list_of, index_of, removed}
+use Rattle.queue.proofs.Laws.{list_of_queue_of, removed_of}
+use Rattle.channel.specs.declared.Channel.{Channel}
+use Rattle.channel.specs.Channel.{channel_of}
 use Rattle.std.specs.Prelude.{if◌then◌else◌}
-use Rattle.granting.specs.machine.Lists.{any, among, keep, distinct}
-use Rattle.granting.specs.machine.State.{Write, Channel as ChannelM, Lock, Request as RequestM, State as StateM}
-use Rattle.granting.specs.machine.Sound.{writes_of, ids}
-use Rattle.granting.specs.machine.Commands.{without, leaving as leaving_m}
-use Rattle.granting.proofs.machine.Tests.{by_test, test_true, test_false, eqb_flip, nor_left, nor_right, and_left, and_right}
-use Rattle.granting.specs.machine_laws.Lists.{Sub}
-use Rattle.granting.proofs.machine_laws.Lists.{sub_refl, sub_nil, sub_append, sub_distinct}
-use Rattle.granting.specs.machine_laws.Sound.{Parts}
-use Rattle.granting.proofs.machine_laws.Sound.{ids_few}
-use Rattle.granting.specs.store.declared.State.{State}
-use Rattle.granting.specs.store.Store.{struct_of, state_in, lock_in, request_in, Held, Each}
-use Rattle.granting.proofs.store.Store.{held_parts, held_waiters, held_waiting, waiters-count, waiting-count, held_opens}
+use Rattle.machine.specs.Lists.{any, among, keep, distinct}
+use Rattle.machine.specs.State.{Write, Channel as ChannelM, Lock, Request as RequestM, State as StateM}
+use Rattle.machine.specs.Sound.{writes_of, ids}
+use Rattle.machine.specs.Commands.{without, leaving as leaving_m}
+use Rattle.machine.proofs.Tests.{by_test, test_true, test_false, eqb_flip, nor_left, nor_right, and_left, and_right}
+use Rattle.machine_laws.specs.Lists.{Sub}
+use Rattle.machine_laws.proofs.Lists.{sub_refl, sub_nil, sub_append, sub_distinct}
+use Rattle.machine_laws.specs.Sound.{Parts}
+use Rattle.machine_laws.proofs.Sound.{ids_few}
+use Rattle.store.specs.declared.State.{State}
+use Rattle.store.specs.Store.{struct_of, state_in, lock_in, request_in, Held, Each}
+use Rattle.store.proofs.Store.{held_parts, held_waiters, held_waiting, waiters-count, waiting-count, held_opens}
 use Rattle.granting.proofs.Laws.{held_channels}
 use Rattle.leaving.specs.Leaving.{others, Tidy, struck, cleaned, leaving}
 
@@ -110,7 +110,7 @@ done_end f (c ∷ cs) (suc k) h = ap (λ (l : List Channel). c ∷ l) (done_end 
 
 pub sub_left : (xs ys : List ℕ) → Sub xs (xs ++ ys)
 sub_left [] ys = sub_nil ys
-sub_left (x ∷ xs) ys = Rattle.granting.specs.machine_laws.Lists.take (sub_left xs ys)
+sub_left (x ∷ xs) ys = Rattle.machine_laws.specs.Lists.take (sub_left xs ys)
 
 pub sub_right : (xs ys : List ℕ) → Sub ys (xs ++ ys)
 sub_right xs ys = sub_append (sub_nil xs) (sub_refl ys)

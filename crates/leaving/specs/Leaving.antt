@@ -7,12 +7,12 @@
 --   cleaned i c     the channel without the write of an id
 --   leaving i s     the struct without a write, a WAITCYCLE or a waiting request of an id: of the machine's state of that name
 use Rattle.std.specs.Prelude.{ℕ, ◌≤◌, ◌≡◌, not, List, map, T, eqb}
-use Rattle.granting.specs.machine.Lists.{keep, distinct}
-use Rattle.granting.specs.queue.declared.Queue.{Queue}
-use Rattle.granting.specs.queue.Queue.{queue_of, list_of}
-use Rattle.granting.specs.channel.declared.Channel.{Channel}
-use Rattle.granting.specs.channel.Channel.{with_writes}
-use Rattle.granting.specs.store.declared.State.{State}
+use Rattle.machine.specs.Lists.{keep, distinct}
+use Rattle.queue.specs.declared.Queue.{Queue}
+use Rattle.queue.specs.Queue.{queue_of, list_of}
+use Rattle.channel.specs.declared.Channel.{Channel}
+use Rattle.channel.specs.Channel.{with_writes}
+use Rattle.store.specs.declared.State.{State}
 
 abbrev pub others : ℕ → List ℕ → List ℕ
 others i l = keep (λ j. not (eqb i j)) l

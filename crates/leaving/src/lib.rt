@@ -2,14 +2,12 @@
 #![tactic(auto)]
 
 ghost use Rattle.std.specs.Prelude.{◌≡◌, map as each, ◌<◌};
-ghost use Rattle.granting.specs.store.Store.{Each};
+ghost use Rattle.store.specs.Store.{Each};
 ghost use Rattle.leaving.specs.Leaving.{Tidy, struck, cleaned, leaving};
 
-pub use granting;
-use granting::channel::Channel;
-use granting::queue::Queue;
-use granting::store::State;
-pub use granting::{fates, locks};
+use channel::Channel;
+use queue::Queue;
+use store::State;
 
 // A queue without an id: no id stands twice, so its first place is its only one.
 fn strike(q: Queue, id: u8) -> Queue

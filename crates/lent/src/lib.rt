@@ -7,11 +7,6 @@ ghost use Rattle.std.specs.Prelude.{◌≡◌, ◌+◌, ◌*◌, ◌<◌, length
 ghost use Rattle.image.specs.Image.{state_of};
 ghost use Rattle.lent.specs.Lent.{PutLast, PutFresh};
 
-pub use answers::{channel, machine, machine_laws, memory, open_keys, queue, store};
-pub use audio;
-pub use image;
-pub use image::{board, widening};
-
 // The places, as the header has them.
 
 pub const LOCKS: usize = 560;

@@ -8,16 +8,16 @@ use lib.Dec.{T, eqb, eqb→eq}
 use lib.ListN.{length, get_or, take, drop, set, replicate, length-append, length-take, length-drop, take-append-drop}
 use lib.Seq.{drop-drop, length-take-le}
 use borrow.Author.Tests.{eq-eqb, ne_eqb}
-use Rattle.lent.specs.memory.Splice.{splice}
-use Rattle.lent.proofs.memory.Splice.{splice_snoc, splice_then, behind, length-splice}
+use Rattle.memory.specs.Splice.{splice}
+use Rattle.memory.proofs.Splice.{splice_snoc, splice_then, behind, length-splice}
 use Rattle.std.specs.Prelude.{if◌then◌else◌}
-use Rattle.lent.specs.queue.declared.Queue.{Queue}
-use Rattle.lent.specs.queue.Queue.{queue_of, list_of}
-use Rattle.lent.specs.channel.declared.Channel.{Channel}
-use Rattle.lent.specs.channel.Channel.{channel_of, reset_of, prec_of, flush_of, stop_of, lock_of, taken_of}
-use Rattle.lent.specs.machine.State.{free}
-use Rattle.lent.specs.machine.InBytes.{mark_of, two_bytes}
-use Rattle.lent.specs.image.Image.{queue_bytes, channel_bytes, channel_at, channels_at, queue_at, state_of, Whole, all_marks, Filled}
+use Rattle.queue.specs.declared.Queue.{Queue}
+use Rattle.queue.specs.Queue.{queue_of, list_of}
+use Rattle.channel.specs.declared.Channel.{Channel}
+use Rattle.channel.specs.Channel.{channel_of, reset_of, prec_of, flush_of, stop_of, lock_of, taken_of}
+use Rattle.machine.specs.State.{free}
+use Rattle.machine.specs.InBytes.{mark_of, two_bytes}
+use Rattle.image.specs.Image.{queue_bytes, channel_bytes, channel_at, channels_at, queue_at, state_of, Whole, all_marks, Filled}
 use Rattle.lent_channels.specs.declared.Channel.{Channel as Head}
 use Rattle.lent.specs.Lent.{Tidy, with_channel}
 use Rattle.lent_channels.specs.Heads.{head_in, unused_head, reset_head, prec_head, flush_head, stop_head, lock_head, taken_head, kept, stored, PutHead}

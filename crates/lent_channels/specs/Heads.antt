@@ -6,13 +6,13 @@
 --   stored h c              the channel when its head is stored again
 --   PutHead l i h l'        the head of channel i became h, and every other byte is as before
 use Rattle.std.specs.Prelude.{ℕ, ◌*◌, ◌≡◌, Bool, true, false, List, [], eqb, length, if◌then◌else◌}
-use Rattle.lent.specs.memory.Splice.{splice}
-use Rattle.lent.specs.machine.State.{free}
-use Rattle.lent.specs.queue.declared.Queue.{Queue}
-use Rattle.lent.specs.queue.Queue.{queue_of}
-use Rattle.lent.specs.channel.declared.Channel.{Channel}
-use Rattle.lent.specs.channel.Channel.{channel_of}
-use Rattle.lent.specs.image.Image.{channel_bytes, channel_at, state_of, Whole}
+use Rattle.memory.specs.Splice.{splice}
+use Rattle.machine.specs.State.{free}
+use Rattle.queue.specs.declared.Queue.{Queue}
+use Rattle.queue.specs.Queue.{queue_of}
+use Rattle.channel.specs.declared.Channel.{Channel}
+use Rattle.channel.specs.Channel.{channel_of}
+use Rattle.image.specs.Image.{channel_bytes, channel_at, state_of, Whole}
 use Rattle.lent.specs.Lent.{channel_on, with_channel, Holds}
 use Rattle.lent_channels.specs.declared.Channel.{Channel as Head}
 

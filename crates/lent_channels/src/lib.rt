@@ -4,14 +4,10 @@
 #![tactic(auto)]
 
 ghost use Rattle.std.specs.Prelude.{◌≡◌, ◌<◌, length};
-ghost use Rattle.lent.specs.machine.InBytes.{mark_of};
-ghost use Rattle.lent.specs.image.Image.{state_of};
+ghost use Rattle.machine.specs.InBytes.{mark_of};
+ghost use Rattle.image.specs.Image.{state_of};
 ghost use Rattle.lent.specs.Lent.{channel_on};
 ghost use Rattle.lent_channels.specs.Heads.{head_in, unused_head, reset_head, prec_head, flush_head, stop_head, lock_head, taken_head, PutHead};
-
-pub use lent;
-use lent::{audio, memory};
-pub use lent::{board, channel, image, machine};
 
 // A channel by value: all of it but the ids of its writes, which stay in the lent bytes. `writes` is how many they are; a channel stored
 // with 0 has none.

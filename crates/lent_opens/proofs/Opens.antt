@@ -7,21 +7,21 @@ use native.Mathlib.Nat.{div-add-mod'}
 use lib.Dec.{T}
 use lib.ListN.{length, get_or, take, drop, set, replicate, length-append, length-take, length-drop, replicate-append-replicate}
 use lib.Seq.{drop-cons, length-take-le, take-append_seam, drop-append_seam, drop-append-add, take_at, drop_at, drop-append-le, drop-drop, get_or-take}
-use Rattle.lent_queues.specs.memory.Splice.{splice}
-use Rattle.lent_queues.proofs.memory.Splice.{length-splice}
-use Rattle.lent_queues.specs.machine.Commands.{closed}
-use Rattle.lent_queues.specs.machine.InBytes.{two_bytes}
-use Rattle.lent_queues.specs.queue.Queue.{remove_at}
-use Rattle.lent_queues.specs.open_keys.declared.Keys.{Keys}
-use Rattle.lent_queues.specs.open_keys.OpenKeys.{pad, keys_of, keys_in, Tidy, index_of}
-use Rattle.lent_queues.proofs.open_keys.Laws.{length-pad, index_closed, index_absent}
-use Rattle.lent_queues.specs.image.Image.{keys_bytes, open_bytes, key_at, keys_from, open_at, queue_at, state_of, all_marks}
-use Rattle.lent_queues.proofs.image.Round.{keys_part}
-use Rattle.lent_queues.specs.lent.Lent.{with_opens, PutOpens}
+use Rattle.memory.specs.Splice.{splice}
+use Rattle.memory.proofs.Splice.{length-splice}
+use Rattle.machine.specs.Commands.{closed}
+use Rattle.machine.specs.InBytes.{two_bytes}
+use Rattle.queue.specs.Queue.{remove_at}
+use Rattle.open_keys.specs.declared.Keys.{Keys}
+use Rattle.open_keys.specs.OpenKeys.{pad, keys_of, keys_in, Tidy, index_of}
+use Rattle.open_keys.proofs.Laws.{length-pad, index_closed, index_absent}
+use Rattle.image.specs.Image.{keys_bytes, open_bytes, key_at, keys_from, open_at, queue_at, state_of, all_marks}
+use Rattle.image.proofs.Round.{keys_part}
+use Rattle.lent.specs.Lent.{with_opens, PutOpens}
 use Rattle.lent_queues.specs.Moves.{shut}
-use Rattle.lent_queues.proofs.lent.Bytes.{Bytes, bytes_more, bytes-append, bytes_take, bytes_drop, bytes-zeros, bytes-splice}
-use Rattle.lent_queues.proofs.lent.Frames.{byte_behind, byte_inside, key_behind, queue_before, channels_before, marks_kept}
-use Rattle.lent_queues.proofs.lent.Puts.{whole_marks, whole_bytes, is_whole_lem, filled_at}
+use Rattle.lent.proofs.Bytes.{Bytes, bytes_more, bytes-append, bytes_take, bytes_drop, bytes-zeros, bytes-splice}
+use Rattle.lent.proofs.Frames.{byte_behind, byte_inside, key_behind, queue_before, channels_before, marks_kept}
+use Rattle.lent.proofs.Puts.{whole_marks, whole_bytes, is_whole_lem, filled_at}
 use Rattle.lent_queues.proofs.Moves.{shut_behind, shut_before, cut, counted, long, L, D}
 
 -- ---- keys and their bytes

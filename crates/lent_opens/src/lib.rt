@@ -3,14 +3,14 @@
 #![tactic(auto)]
 
 ghost use Rattle.std.specs.Prelude.{◌≡◌, [], ◌∷◌, ◌++◌, ◌≤◌, ◌<◌, length, get_or};
-ghost use Rattle.lent_queues.specs.machine.Lists.{among};
-ghost use Rattle.lent_queues.specs.machine.Commands.{closed};
-ghost use Rattle.lent_queues.specs.open_keys.OpenKeys.{keys_of, keys_in, Tidy as TidyKeys, index_of as key_place};
-ghost use Rattle.lent_queues.specs.image.Image.{open_at, state_of};
-ghost use Rattle.lent_queues.specs.lent.Lent.{PutOpens};
+ghost use Rattle.machine.specs.Lists.{among};
+ghost use Rattle.machine.specs.Commands.{closed};
+ghost use Rattle.open_keys.specs.OpenKeys.{keys_of, keys_in, Tidy as TidyKeys, index_of as key_place};
+ghost use Rattle.image.specs.Image.{open_at, state_of};
+ghost use Rattle.lent.specs.Lent.{PutOpens};
 
-use lent_queues::lent::{OPEN_KEYS, OPENS, wide};
-use lent_queues::{close_up, memory};
+use lent::{OPEN_KEYS, OPENS, wide};
+use lent_queues::close_up;
 
 // Where a key first stands among the open ones; their number where it stands nowhere.
 fn open_place(state: &[u8], key: u16) -> usize

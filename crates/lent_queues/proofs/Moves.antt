@@ -8,11 +8,11 @@ use native.Mathlib.Numerals.{add-one}
 use lib.ListN.{length, get_or, take, drop, set, replicate, length-append, length-take, length-drop, length-set, take-append-drop, replicate-append-replicate}
 use lib.Seq.{take-set-lt, drop-set-lt, get_or-take, take-append-add, drop-append-add, take-append-le, drop-append-le, take-append_seam, drop-append_seam, take_at, set_at, drop-drop, drop-cons, length-take-le, set_split, set-append_left, take-set-le, drop-set-add}
 use borrow.Author.Tests.{lt-ltb, le-ltb}
-use Rattle.lent.specs.memory.Splice.{splice}
-use Rattle.lent.specs.queue.declared.Queue.{Queue}
-use Rattle.lent.specs.queue.Queue.{pad, queue_of, list_of, insert_at, remove_at, pushed, inserted, removed, index_of}
-use Rattle.lent.proofs.queue.Laws.{shift_turn, shift_end, opened, open_turn, open_end, removed_of, inserted_of}
-use Rattle.lent.specs.image.Image.{queue_bytes, queue_at, Filled}
+use Rattle.memory.specs.Splice.{splice}
+use Rattle.queue.specs.declared.Queue.{Queue}
+use Rattle.queue.specs.Queue.{pad, queue_of, list_of, insert_at, remove_at, pushed, inserted, removed, index_of}
+use Rattle.queue.proofs.Laws.{shift_turn, shift_end, opened, open_turn, open_end, removed_of, inserted_of}
+use Rattle.image.specs.Image.{queue_bytes, queue_at, Filled}
 use Rattle.lent.specs.Lent.{Tidy, without, PutQueue}
 use Rattle.lent_queues.specs.Moves.{shut, spread}
 use Rattle.lent.proofs.Bytes.{Bytes, bytes_more, bytes-append, bytes_take, bytes_drop, bytes-set, bytes-zeros}

@@ -3,14 +3,12 @@
 #![tactic(auto)]
 
 ghost use Rattle.std.specs.Prelude.{◌≡◌, [], ◌+◌, ◌≤◌, ◌<◌, length, get_or};
-ghost use Rattle.lent.specs.queue.Queue.{queue_of, list_of, pushed, inserted, removed, index_of};
-ghost use Rattle.lent.specs.image.Image.{queue_at};
+ghost use Rattle.queue.specs.Queue.{queue_of, list_of, pushed, inserted, removed, index_of};
+ghost use Rattle.image.specs.Image.{queue_at};
 ghost use Rattle.lent.specs.Lent.{Tidy, without, PutQueue};
 ghost use Rattle.lent_queues.specs.Moves.{shut, spread};
 
-pub use lent;
-use lent::{audio, wide};
-pub use lent::{image, machine, memory, open_keys, queue};
+use lent::wide;
 
 // How many ids the queue at `at` has.
 pub fn count(state: &[u8], at: usize) -> usize

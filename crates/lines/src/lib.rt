@@ -3,15 +3,12 @@
 #![tactic(auto)]
 
 ghost use Rattle.std.specs.Prelude.{◌≡◌, ◌+◌, ◌*◌, ◌≤◌, length, if◌then◌else◌};
-ghost use Rattle.spelling.specs.memory.Splice.{splice, block};
-ghost use Rattle.spelling.specs.machine.Log.{answer_line};
+ghost use Rattle.memory.specs.Splice.{splice, block};
+ghost use Rattle.machine.specs.Log.{answer_line};
 ghost use Rattle.answers.specs.Answers.{answer_in};
 ghost use Rattle.lines.specs.Lines.{record_line, Tells};
 
 use answers::Answer;
-pub use board;
-pub use halves;
-pub use halves::audio;
 
 // The line of reply record i.
 fn put_record(out: &mut [u8], replies: &[u8], i: usize)

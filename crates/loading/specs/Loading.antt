@@ -7,14 +7,14 @@
 --   Loaded s ..              0, and the state s, its table, and its display counted once
 --   Loads w t st tb dp r ..  the promise of `load` for a board of w channels: 1 comes before 9
 use Rattle.std.specs.Prelude.{ℕ, ◌≡◌, List, length}
-use Rattle.encoding.specs.machine.Numbers.{UNSOUND}
-use Rattle.encoding.specs.machine.State.{State}
-use Rattle.recounting.specs.display.Display.{DISPLAY}
-use Rattle.encoding.specs.store.Store.{table_of}
-use Rattle.recounting.specs.board.Board.{struct_of}
-use Rattle.encoding.specs.image.Image.{STATE, Saved}
-use Rattle.accepting.specs.sizes.Sizes.{TABLE}
-use Rattle.accepting.specs.saved.Saved.{TextOf}
+use Rattle.machine.specs.Numbers.{UNSOUND}
+use Rattle.machine.specs.State.{State}
+use Rattle.display.specs.Display.{DISPLAY}
+use Rattle.store.specs.Store.{table_of}
+use Rattle.board.specs.Board.{struct_of}
+use Rattle.image.specs.Image.{STATE, Saved}
+use Rattle.sizes.specs.Sizes.{TABLE}
+use Rattle.saved.specs.Saved.{TextOf}
 use Rattle.recounting.specs.Recounting.{counted}
 
 abbrev pub BADTEXT : ℕ

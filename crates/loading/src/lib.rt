@@ -4,13 +4,7 @@
 
 ghost use Rattle.loading.specs.Loading.{Loads};
 
-pub use accepting;
-pub use accepting::{hex_lines, read_back, saved, saving, sizes, sound, waiting_list};
-pub use encoding;
-pub use encoding::{image, machine, machine_laws, memory, store};
-pub use recounting;
-use recounting::board::Board;
-pub use recounting::{board, display};
+use board::Board;
 
 // The state of a saved text, its table, and its display counted once: 0. Memory of another size: 1. A text that was not saved of a sound
 // state, or another board than that of four channels: 9. After a refusal nothing has moved.

@@ -8,24 +8,24 @@ use native.Mathlib.Omega.{arith}
 use lib.Dec.{T, T_not, eqb, eqb→eq}
 use lib.ListN.{length, get_or, take}
 use lib.Seq.{get_or-take}
-use Rattle.loading.specs.machine.State.{State}
-use Rattle.loading.specs.machine.Sound.{sound}
-use Rattle.loading.specs.machine.Log.{line, hex_digit}
-use Rattle.loading.proofs.machine.Tests.{by_test}
-use Rattle.loading.specs.store.Store.{table_of}
-use Rattle.loading.specs.board.declared.Board.{Board}
-use Rattle.loading.specs.board.Board.{sized, struct_of, state_in, Held}
-use Rattle.loading.specs.image.Image.{Saved}
-use Rattle.loading.proofs.image.Round.{one_image}
-use Rattle.loading.specs.recounting.Recounting.{counted}
-use Rattle.loading.specs.saved.Saved.{FIRST, TextOf}
-use Rattle.loading.specs.accepting.declared.Found.{Found}
+use Rattle.machine.specs.State.{State}
+use Rattle.machine.specs.Sound.{sound}
+use Rattle.machine.specs.Log.{line, hex_digit}
+use Rattle.machine.proofs.Tests.{by_test}
+use Rattle.store.specs.Store.{table_of}
+use Rattle.board.specs.declared.Board.{Board}
+use Rattle.board.specs.Board.{sized, struct_of, state_in, Held}
+use Rattle.image.specs.Image.{Saved}
+use Rattle.image.proofs.Round.{one_image}
+use Rattle.recounting.specs.Recounting.{counted}
+use Rattle.saved.specs.Saved.{FIRST, TextOf}
+use Rattle.accepting.specs.declared.Found.{Found}
 use Rattle.loading.specs.Loading.{Fits, Unmoved, Loaded, Loads}
-use Rattle.loading.specs.read_back.ReadBack.{Bytes}
-use Rattle.accepting2.specs.number_lines.NumberLines.{number_lines}
-use Rattle.accepting2.specs.saved2.Saved2.{SECOND, number_frames, TextOf2}
-use Rattle.accepting2.specs.read_back2.ReadBack2.{text_with}
-use Rattle.accepting2.proofs.read_back2.ReadBack2.{one_spelling2, numbers-counted, opens_first, opens-second}
+use Rattle.read_back.specs.ReadBack.{Bytes}
+use Rattle.number_lines.specs.NumberLines.{number_lines}
+use Rattle.saved2.specs.Saved2.{SECOND, number_frames, TextOf2}
+use Rattle.read_back2.specs.ReadBack2.{text_with}
+use Rattle.read_back2.proofs.ReadBack2.{one_spelling2, numbers-counted, opens_first, opens-second}
 use Rattle.accepting2.specs.Accepting2.{Yes2}
 use Rattle.accepting2.proofs.Accepting2.{saved2_or_not}
 use Rattle.loading2.specs.Loading2.{Loads2}

@@ -6,21 +6,21 @@ use mathlib.Core.List.{List}
 use native.Mathlib.Omega.{arith}
 use lib.Dec.{T, eqb}
 use lib.ListN.{length, take}
-use Rattle.loading.specs.memory.Splice.{splice}
-use Rattle.loading.specs.machine.State.{State}
-use Rattle.loading.proofs.machine_laws.Sound.{parts}
-use Rattle.loading.specs.board.declared.Board.{Board}
-use Rattle.loading.specs.board.Board.{sized, struct_of, state_in, Held}
-use Rattle.loading.proofs.board.Laws.{held_of, held_width, held_sized, state_in_of}
-use Rattle.loading.specs.image.Image.{state_of, image_of}
-use Rattle.loading.proofs.image.Round.{image_of_state_of, state_of_image_of}
-use Rattle.loading.specs.waiting_list.WaitingList.{Sound}
-use Rattle.loading.specs.recounting.Recounting.{counted}
-use Rattle.loading.specs.saving.Saving.{held_by}
+use Rattle.memory.specs.Splice.{splice}
+use Rattle.machine.specs.State.{State}
+use Rattle.machine_laws.proofs.Sound.{parts}
+use Rattle.board.specs.declared.Board.{Board}
+use Rattle.board.specs.Board.{sized, struct_of, state_in, Held}
+use Rattle.board.proofs.Laws.{held_of, held_width, held_sized, state_in_of}
+use Rattle.image.specs.Image.{state_of, image_of}
+use Rattle.image.proofs.Round.{image_of_state_of, state_of_image_of}
+use Rattle.waiting_list.specs.WaitingList.{Sound}
+use Rattle.recounting.specs.Recounting.{counted}
+use Rattle.saving.specs.Saving.{held_by}
 use Rattle.loading.specs.Loading.{Fits}
-use Rattle.accepting2.specs.saved2.Saved2.{text2, TextOf2}
-use Rattle.accepting2.specs.saving2.Saving2.{Agrees, Saves2}
-use Rattle.accepting2.proofs.saving2.Laws2.{counted-numbers, counted-long}
+use Rattle.saved2.specs.Saved2.{text2, TextOf2}
+use Rattle.saving2.specs.Saving2.{Agrees, Saves2}
+use Rattle.saving2.proofs.Laws2.{counted-numbers, counted-long}
 use Rattle.loading2.specs.Loading2.{Loads2}
 
 -- the text of a state that is held, loaded into any memory of the right sizes, is that state again to the byte; the display is its count

@@ -1,8 +1,1 @@
 pub mod Loading2
-pub use Rattle.loading.specs.display as display
-pub use Rattle.loading.specs.image as image
-pub use Rattle.loading.specs as loading
-pub use Rattle.loading.specs.saving as saving
-pub use Rattle.accepting2.specs.saving2 as saving2
-pub use Rattle.loading.specs.sizes as sizes
-pub use Rattle.loading.specs.waiting_list as waiting_list

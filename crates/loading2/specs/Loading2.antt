@@ -3,11 +3,11 @@
 --
 --   Loads2 w t st tb dp r ..  the promise of `load2` for a board of w channels: 1 comes before 9
 use Rattle.std.specs.Prelude.{ℕ, List, T}
-use Rattle.loading.specs.machine.Numbers.{UNSOUND}
-use Rattle.loading.specs.machine.State.{State}
-use Rattle.loading.specs.board.Board.{sized}
+use Rattle.machine.specs.Numbers.{UNSOUND}
+use Rattle.machine.specs.State.{State}
+use Rattle.board.specs.Board.{sized}
 use Rattle.loading.specs.Loading.{BADTEXT, Fits, Unmoved, Loaded}
-use Rattle.accepting2.specs.saved2.Saved2.{TextOf2}
+use Rattle.saved2.specs.Saved2.{TextOf2}
 
 -- "The saved text needs the number of channels": each board's loader accepts its own texts alone, "The new loader refuses D001 with 9"
 pub record Loads2 (w : ℕ) (t st tb dp : List ℕ) (r : ℕ) (st' tb' dp' : List ℕ) : Type 0 where

@@ -4,11 +4,7 @@
 
 ghost use Rattle.loading2.specs.Loading2.{Loads2};
 
-pub use accepting2::saving2;
-pub use loading;
-use loading::board::Board;
-pub use loading::{display, image, saving, sizes, waiting_list};
-use loading::{encoding, memory, recounting};
+use board::Board;
 
 // The state of a saved text, its table, and its display counted once: 0. Memory of another size: 1. A text that was not saved of a sound
 // state of that board, or no board of four or eight channels: 9. After a refusal nothing has moved.

@@ -4,9 +4,9 @@ use Prim.Native.Nat.{ℕ}
 use mathlib.Core.Path.{◌≡◌, refl, ap, sym, ◌∙◌}
 use mathlib.Core.List.{List, [], ◌∷◌, ◌++◌, append_assoc}
 use lib.Dec.{T}
-use Rattle.two_runs.specs.machine.State.{State, fresh_on}
-use Rattle.two_runs.specs.machine.Log.{feed, run}
-use Rattle.whole_log.specs.board.Board.{sized}
+use Rattle.machine.specs.State.{State, fresh_on}
+use Rattle.machine.specs.Log.{feed, run}
+use Rattle.board.specs.Board.{sized}
 use Rattle.whole_log.proofs.Whole.{whole_log}
 use Rattle.two_runs.specs.Logs.{Line, output, texts, joined_lines}
 use Rattle.two_runs.proofs.Logs.{k_reads_the_same, output-written, reads-output}

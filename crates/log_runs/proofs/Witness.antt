@@ -6,14 +6,14 @@ use mathlib.Core.Path.{◌≡◌, refl}
 use mathlib.Core.List.{List, [], ◌∷◌, ◌++◌}
 use native.Mathlib.Omega.{arith}
 use lib.ListN.{length, replicate, take, drop, length-replicate}
-use Rattle.two_runs.specs.machine.State.{fresh_on, frees}
-use Rattle.two_runs.specs.machine.Log.{lines}
-use Rattle.two_runs.specs.machine.Machine.{machine}
-use Rattle.two_runs.specs.machine.Text.{bytes, page}
-use Rattle.whole_log.specs.display.Display.{blank}
-use Rattle.whole_log.specs.store.Store.{table_of}
-use Rattle.whole_log.specs.board.Board.{struct_of}
-use Rattle.whole_log.specs.taking.Desk.{hidden}
+use Rattle.machine.specs.State.{fresh_on, frees}
+use Rattle.machine.specs.Log.{lines}
+use Rattle.machine.specs.Machine.{machine}
+use Rattle.machine.specs.Text.{bytes, page}
+use Rattle.display.specs.Display.{blank}
+use Rattle.store.specs.Store.{table_of}
+use Rattle.board.specs.Board.{struct_of}
+use Rattle.taking.specs.Desk.{hidden}
 use Rattle.whole_log.specs.Whole.{joined, Runs}
 use Rattle.whole_log.proofs.Runs.{run_exists}
 use Rattle.two_runs.specs.TwoRuns.{Keeps, Start, claim}

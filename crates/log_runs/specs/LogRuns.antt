@@ -10,13 +10,13 @@
 --                                 for its stretch; what K reads is a part of that, and the same in both
 --   Demand3Log                   two logs with the same calls of the K party show it the same
 use Rattle.std.specs.Prelude.{ℕ, ◌≡◌, List, ◌++◌, T}
-use Rattle.two_runs.specs.machine.State.{State, fresh_on}
-use Rattle.two_runs.specs.machine.Log.{lines, run}
-use Rattle.two_runs.specs.machine_laws.Lists.{Sub}
-use Rattle.whole_log.specs.display.Display.{blank}
-use Rattle.whole_log.specs.store.Store.{table_of}
-use Rattle.whole_log.specs.board.Board.{struct_of, sized}
-use Rattle.whole_log.specs.taking.Desk.{hidden}
+use Rattle.machine.specs.State.{State, fresh_on}
+use Rattle.machine.specs.Log.{lines, run}
+use Rattle.machine_laws.specs.Lists.{Sub}
+use Rattle.display.specs.Display.{blank}
+use Rattle.store.specs.Store.{table_of}
+use Rattle.board.specs.Board.{struct_of, sized}
+use Rattle.taking.specs.Desk.{hidden}
 use Rattle.whole_log.specs.Whole.{joined, Ran}
 use Rattle.two_runs.specs.TwoRuns.{Party, Start, Keeps, own}
 use Rattle.two_runs.specs.Logs.{Line, output, reads, steps, texts, joined_lines}

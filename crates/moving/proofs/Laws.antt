@@ -5,20 +5,20 @@ use mathlib.Core.List.{List}
 use native.Mathlib.Omega.{arith}
 use lib.Dec.{leb, leb→le, nleb→lt}
 use lib.ListN.{length, take}
-use Rattle.loading.specs.machine.State.{State}
-use Rattle.loading.proofs.machine.Tests.{by_test}
-use Rattle.loading.specs.board.Board.{state_in}
-use Rattle.loading.specs.hex_lines.HexLines.{Put}
-use Rattle.loading.specs.saved.Saved.{text, TextOf}
-use Rattle.loading.specs.accepting.declared.Found.{Found}
-use Rattle.loading.specs.accepting.Accepting.{Yes}
-use Rattle.loading.proofs.accepting.Accepting.{one_spelling, text_or_not}
-use Rattle.loading.specs.saving.Saving.{Unwritten}
-use Rattle.loading.proofs.saving.Laws.{page-within}
-use Rattle.accepting2.specs.saved2.Saved2.{text2, TextOf2}
-use Rattle.accepting2.specs.saving2.Saving2.{Fills}
-use Rattle.accepting2.proofs.saving2.Laws2.{taken_front, unwritten_same, fills_same}
-use Rattle.accepting2.proofs.read_back2.ReadBack2.{one_spelling2, one_width}
+use Rattle.machine.specs.State.{State}
+use Rattle.machine.proofs.Tests.{by_test}
+use Rattle.board.specs.Board.{state_in}
+use Rattle.hex_lines.specs.HexLines.{Put}
+use Rattle.saved.specs.Saved.{text, TextOf}
+use Rattle.accepting.specs.declared.Found.{Found}
+use Rattle.accepting.specs.Accepting.{Yes}
+use Rattle.accepting.proofs.Accepting.{one_spelling, text_or_not}
+use Rattle.saving.specs.Saving.{Unwritten}
+use Rattle.saving.proofs.Laws.{page-within}
+use Rattle.saved2.specs.Saved2.{text2, TextOf2}
+use Rattle.saving2.specs.Saving2.{Fills}
+use Rattle.saving2.proofs.Laws2.{taken_front, unwritten_same, fills_same}
+use Rattle.read_back2.proofs.ReadBack2.{one_spelling2, one_width}
 use Rattle.accepting2.specs.Accepting2.{Yes2}
 use Rattle.accepting2.proofs.Accepting2.{saved2_or_not}
 use Rattle.moving.specs.Moving.{MovesNew, MovesOld}

@@ -5,19 +5,19 @@ use mathlib.Core.List.{List}
 use native.Mathlib.Omega.{arith}
 use lib.Dec.{T, leb, leb→le, nleb→lt}
 use lib.ListN.{length, take}
-use Rattle.loading.specs.machine.State.{State}
-use Rattle.loading.specs.machine.Sound.{sound}
-use Rattle.loading.proofs.machine.Tests.{by_test}
-use Rattle.loading.specs.saved.Saved.{text, TextOf}
-use Rattle.loading.specs.saving.Saving.{Unwritten}
-use Rattle.loading.specs.read_back.ReadBack.{Bytes}
-use Rattle.loading.proofs.accepting.Accepting.{text_or_not}
-use Rattle.accepting2.specs.number_lines.NumberLines.{number_lines}
-use Rattle.accepting2.specs.saved2.Saved2.{number_frames, text2, TextOf2}
-use Rattle.accepting2.specs.saving2.Saving2.{Fills}
-use Rattle.accepting2.proofs.saving2.Laws2.{taken_front}
-use Rattle.accepting2.specs.read_back2.ReadBack2.{text_with}
-use Rattle.accepting2.proofs.read_back2.ReadBack2.{numbers-counted, one_form}
+use Rattle.machine.specs.State.{State}
+use Rattle.machine.specs.Sound.{sound}
+use Rattle.machine.proofs.Tests.{by_test}
+use Rattle.saved.specs.Saved.{text, TextOf}
+use Rattle.saving.specs.Saving.{Unwritten}
+use Rattle.read_back.specs.ReadBack.{Bytes}
+use Rattle.accepting.proofs.Accepting.{text_or_not}
+use Rattle.number_lines.specs.NumberLines.{number_lines}
+use Rattle.saved2.specs.Saved2.{number_frames, text2, TextOf2}
+use Rattle.saving2.specs.Saving2.{Fills}
+use Rattle.saving2.proofs.Laws2.{taken_front}
+use Rattle.read_back2.specs.ReadBack2.{text_with}
+use Rattle.read_back2.proofs.ReadBack2.{numbers-counted, one_form}
 use Rattle.accepting2.proofs.Accepting2.{saved2_or_not}
 use Rattle.moving.specs.Moving.{MovesNew, MovesOld}
 

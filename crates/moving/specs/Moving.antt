@@ -4,12 +4,12 @@
 --   MovesNew t l e n l'    the promise of `to_new`: 9 comes before 12
 --   MovesOld t l e n l'    the promise of `to_old`: 9 comes before 10, and 10 before 12
 use Rattle.std.specs.Prelude.{ℕ, List}
-use Rattle.loading.specs.machine.State.{State}
-use Rattle.loading.specs.saved.Saved.{text, TextOf}
-use Rattle.loading.specs.saving.Saving.{EIGHT, Unwritten}
+use Rattle.machine.specs.State.{State}
+use Rattle.saved.specs.Saved.{text, TextOf}
+use Rattle.saving.specs.Saving.{EIGHT, Unwritten}
 use Rattle.loading.specs.Loading.{BADTEXT}
-use Rattle.accepting2.specs.saved2.Saved2.{text2, TextOf2}
-use Rattle.accepting2.specs.saving2.Saving2.{Fills}
+use Rattle.saved2.specs.Saved2.{text2, TextOf2}
+use Rattle.saving2.specs.Saving2.{Fills}
 
 -- "Old texts move to the new form with four channels and the numbers counted."
 pub record MovesNew (t l : List ℕ) (e n : ℕ) (l' : List ℕ) : Type 0 where

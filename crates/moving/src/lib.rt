@@ -5,11 +5,8 @@
 
 ghost use Rattle.moving.specs.Moving.{MovesNew, MovesOld};
 
-pub use accepting2::saving2;
-use loading::accepting;
-use loading::board::Board;
-pub use loading::saving;
-use loading::saving::Written;
+use board::Board;
+use saving::Written;
 
 // The text of the first form in the second, with four channels and the numbers counted: 0. No text of the first form: 9. Room that is too
 // short: 12. After a refusal the length is 0, and nothing is written.

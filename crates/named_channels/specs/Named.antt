@@ -7,15 +7,15 @@
 --   Once how m i l l'   channel i is changed where the map names it
 --   Changed how m l l'  so is each
 use Rattle.std.specs.Prelude.{ℕ, ◌/◌, ◌^◌, ◌<◌, Bool, true, false, List, if◌then◌else◌}
-use Rattle.lent_channels.specs.machine.Maps.{odd}
-use Rattle.lent_channels.specs.channel.declared.Channel.{Channel}
-use Rattle.lent_channels.specs.channel.declared.Change.{Change}
-use Rattle.lent_channels.specs.channel.declared.Change.TheVariants.{Reset, Free, SetPrecedence, Flush, Stop, Lock, Take, FrontGone, FrontOnly, Nothing}
-use Rattle.lent_channels.specs.channel.Channel.{changed_of, change_each}
-use Rattle.lent_channels.specs.board.declared.Board.{Board}
-use Rattle.lent_channels.specs.image.Image.{state_of}
+use Rattle.machine.specs.Maps.{odd}
+use Rattle.channel.specs.declared.Channel.{Channel}
+use Rattle.channel.specs.declared.Change.{Change}
+use Rattle.channel.specs.declared.Change.TheVariants.{Reset, Free, SetPrecedence, Flush, Stop, Lock, Take, FrontGone, FrontOnly, Nothing}
+use Rattle.channel.specs.Channel.{changed_of, change_each}
+use Rattle.board.specs.declared.Board.{Board}
+use Rattle.image.specs.Image.{state_of}
 use Rattle.lent_channels.specs.declared.Channel.{Channel as Head}
-use Rattle.lent_channels.specs.lent.Lent.{Tidy, channel_on, with_channel, Holds}
+use Rattle.lent.specs.Lent.{Tidy, channel_on, with_channel, Holds}
 use Rattle.lent_channels.specs.Heads.{unused_head, reset_head, prec_head, flush_head, stop_head, lock_head, taken_head}
 
 abbrev pub by_head : Change → Bool

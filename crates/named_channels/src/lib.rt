@@ -2,13 +2,13 @@
 #![tactic(auto)]
 
 ghost use Rattle.std.specs.Prelude.{◌≡◌, ◌/◌, ◌^◌, ◌<◌, T, length};
-ghost use Rattle.lent_channels.specs.channel.Channel.{hits, matching_each};
-ghost use Rattle.lent_channels.specs.image.Image.{Whole, state_of};
-ghost use Rattle.lent_channels.specs.lent.Lent.{Tidy, channel_on};
+ghost use Rattle.channel.specs.Channel.{hits, matching_each};
+ghost use Rattle.image.specs.Image.{Whole, state_of};
+ghost use Rattle.lent.specs.Lent.{Tidy, channel_on};
 ghost use Rattle.named_channels.specs.Named.{by_head, changed_head, TidyAll, Once, Changed};
 
-use lent_channels::channel::Change;
-use lent_channels::{Channel, channel};
+use channel::Change;
+use lent_channels::Channel;
 
 // A change of a channel by value; one of its front write is not one of these.
 fn changed(c: Channel, how: Change) -> Channel

@@ -10,10 +10,10 @@
 use mathlib.Core.Path.{◌≡◌, refl}
 use mathlib.Core.Bool.{Bool, true, false}
 use mathlib.Core.List.{List, [], ◌∷◌, map}
-use Rattle.display.specs.machine.State.{State, Call, OPEN, CLOSE, ABORT, EVENT, CYCLE_ENDED, COMMAND, free}
-use Rattle.display.specs.machine.Machine.{machine}
-use Rattle.display.specs.machine.Sound.{sound}
-use Rattle.display.specs.machine.Walks.{chan, lock, wait, stands, asks, asks_from, unrested}
+use Rattle.machine.specs.State.{State, Call, OPEN, CLOSE, ABORT, EVENT, CYCLE_ENDED, COMMAND, free}
+use Rattle.machine.specs.Machine.{machine}
+use Rattle.machine.specs.Sound.{sound}
+use Rattle.machine.specs.Walks.{chan, lock, wait, stands, asks, asks_from, unrested}
 use Rattle.display.specs.Runs.{after_calls}
 use Rattle.nothing_left.specs.Settles.{opens, settles}
 use Rattle.nothing_left.specs.NothingLeft.{none_goes, none_fails, none_in_the_way, left}

@@ -6,14 +6,14 @@ use mathlib.Core.Bool.{Bool, true, false, not, ◌&&◌}
 use mathlib.Core.List.{List, [], ◌∷◌}
 use lib.Dec.{T}
 use lib.ListN.{length}
-use Rattle.display.specs.machine.Lists.{all}
-use Rattle.display.specs.machine.State.{Lock, Request, State, Call, fresh_on}
-use Rattle.display.specs.machine.Choosing.{Look, fails, held, grants, look}
-use Rattle.display.specs.machine.Call.{call}
-use Rattle.display.proofs.machine.Tests.{and_left, and_right, and_both}
-use Rattle.display.proofs.machine_laws.Lists.{all_any}
-use Rattle.display.specs.machine_laws.Settling.{Still, AllStill, AtRest}
-use Rattle.display.proofs.machine_laws.Resting.{call_rests}
+use Rattle.machine.specs.Lists.{all}
+use Rattle.machine.specs.State.{Lock, Request, State, Call, fresh_on}
+use Rattle.machine.specs.Choosing.{Look, fails, held, grants, look}
+use Rattle.machine.specs.Call.{call}
+use Rattle.machine.proofs.Tests.{and_left, and_right, and_both}
+use Rattle.machine_laws.proofs.Lists.{all_any}
+use Rattle.machine_laws.specs.Settling.{Still, AllStill, AtRest}
+use Rattle.machine_laws.proofs.Resting.{call_rests}
 use Rattle.display.specs.Runs.{after_calls}
 use Rattle.nothing_left.specs.Settles.{settles}
 use Rattle.nothing_left.specs.NothingLeft.{finds, would_go, would_fail, in_the_way, none_goes, none_fails, none_in_the_way, NothingLeft, NothingLeftStanding}

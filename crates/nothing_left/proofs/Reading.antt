@@ -8,13 +8,13 @@ use mathlib.Core.List.Memᴰ
 use mathlib.Core.List.{List, [], ◌∷◌, Memᴰ}
 use lib.Dec.{T, T_not}
 use lib.ListN.{length}
-use Rattle.display.specs.machine.Lists.{all}
-use Rattle.display.specs.machine.State.{Lock, Request, State, Call, fresh_on}
-use Rattle.display.specs.machine.Maps.{meets}
-use Rattle.display.specs.machine.Choosing.{Look, fails, held, grants}
-use Rattle.display.specs.machine.Rule.{Names}
-use Rattle.display.proofs.machine.Tests.{and_left, and_right, and_both, by_test}
-use Rattle.display.proofs.machine_laws.Maps.{meets_iff}
+use Rattle.machine.specs.Lists.{all}
+use Rattle.machine.specs.State.{Lock, Request, State, Call, fresh_on}
+use Rattle.machine.specs.Maps.{meets}
+use Rattle.machine.specs.Choosing.{Look, fails, held, grants}
+use Rattle.machine.specs.Rule.{Names}
+use Rattle.machine.proofs.Tests.{and_left, and_right, and_both, by_test}
+use Rattle.machine_laws.proofs.Maps.{meets_iff}
 use Rattle.display.specs.Runs.{after_calls}
 use Rattle.nothing_left.specs.NothingLeft.{finds, would_go, would_fail, in_the_way, none_goes, none_fails, none_in_the_way, NothingLeft, Standing}
 use Rattle.nothing_left.proofs.NothingLeft.{nothing_left_standing}

@@ -5,20 +5,20 @@ use mathlib.Core.Path.{◌≡◌, refl, ap, subst, sym, ◌∙◌}
 use mathlib.Core.Bool.{not, ◌&&◌}
 use mathlib.Core.List.{[], ◌∷◌}
 use lib.Dec.{T, T_not, eqb, eqb→eq}
-use Rattle.display.specs.machine.Numbers.{neg, ALLOCFAILED}
-use Rattle.display.specs.machine.Lists.{all, among, any}
-use Rattle.display.specs.machine.State.{State, Answer, Outcome, Call, Op, OPEN, CLOSE, ABORT, EVENT, COMMAND}
-use Rattle.display.specs.machine.Refusals.{Refusal, accepted, refused, refusal}
-use Rattle.display.specs.machine.Commands.{done, do_close, do_abort, do_event}
-use Rattle.display.specs.machine.Allocating.{do_open}
-use Rattle.display.specs.machine.Kinds.{kind}
-use Rattle.display.specs.machine.Call.{perform, settling, open_settling, accept, answering, call}
-use Rattle.display.proofs.machine.Tests.{if_elim, and_left, and_right, and_both, by_test}
-use Rattle.display.proofs.machine.Steps.{first_among}
-use Rattle.display.proofs.machine_laws.Lists.{among_all}
-use Rattle.display.proofs.machine_laws.Refusals.{refuse-answer, refused_same, open_failed_same}
-use Rattle.display.specs.machine_laws.Settling.{AtRest}
-use Rattle.display.proofs.machine_laws.Settling.{settle_rests}
+use Rattle.machine.specs.Numbers.{neg, ALLOCFAILED}
+use Rattle.machine.specs.Lists.{all, among, any}
+use Rattle.machine.specs.State.{State, Answer, Outcome, Call, Op, OPEN, CLOSE, ABORT, EVENT, COMMAND}
+use Rattle.machine.specs.Refusals.{Refusal, accepted, refused, refusal}
+use Rattle.machine.specs.Commands.{done, do_close, do_abort, do_event}
+use Rattle.machine.specs.Allocating.{do_open}
+use Rattle.machine.specs.Kinds.{kind}
+use Rattle.machine.specs.Call.{perform, settling, open_settling, accept, answering, call}
+use Rattle.machine.proofs.Tests.{if_elim, and_left, and_right, and_both, by_test}
+use Rattle.machine.proofs.Steps.{first_among}
+use Rattle.machine_laws.proofs.Lists.{among_all}
+use Rattle.machine_laws.proofs.Refusals.{refuse-answer, refused_same, open_failed_same}
+use Rattle.machine_laws.specs.Settling.{AtRest}
+use Rattle.machine_laws.proofs.Settling.{settle_rests}
 use Rattle.display.specs.Looks.{looks, acting, looked}
 use Rattle.display.proofs.Looks.{looked-settles}
 use Rattle.nothing_left.specs.Settles.{unsettled, opens, settles}

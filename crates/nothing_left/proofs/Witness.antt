@@ -9,14 +9,14 @@ use mathlib.Core.Path.{◌≡◌, refl}
 use mathlib.Core.Bool.{true, false}
 use mathlib.Core.List.{List, [], ◌∷◌, map}
 use lib.ListN.{take}
-use Rattle.display.specs.machine.State.{State, Call, OPEN, COMMAND, free, fresh_on, frees}
-use Rattle.display.specs.machine.Machine.{machine}
-use Rattle.display.specs.machine.Call.{call}
-use Rattle.display.specs.machine.Walks.{chan, lock, wait, stands, asks, reply}
+use Rattle.machine.specs.State.{State, Call, OPEN, COMMAND, free, fresh_on, frees}
+use Rattle.machine.specs.Machine.{machine}
+use Rattle.machine.specs.Call.{call}
+use Rattle.machine.specs.Walks.{chan, lock, wait, stands, asks, reply}
 use Rattle.display.specs.Runs.{after_calls}
 use Rattle.nothing_left.specs.NothingLeft.{finds, NothingLeft, left}
 use Rattle.nothing_left.proofs.NothingLeft.{nothing_left_standing}
-use Rattle.display.specs.machine.Choosing.{fails, held}
+use Rattle.machine.specs.Choosing.{fails, held}
 
 abbrev pub run : List Call
 run =

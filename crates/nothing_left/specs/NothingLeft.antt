@@ -17,12 +17,12 @@
 --   left                one name that unfolds these definitions
 use Rattle.std.specs.Prelude.{ℕ, ◌<◌, Bool, true, false, not, ◌&&◌, ◌≡◌, T, length}
 use mathlib.Core.List.{List, Memᴰ}
-use Rattle.display.specs.machine.Lists.{all}
-use Rattle.display.specs.machine.State.{Lock, Request, State, Call, fresh_on}
-use Rattle.display.specs.machine.Maps.{meets}
-use Rattle.display.specs.machine.Choosing.{Look, fails, held, grants, look}
+use Rattle.machine.specs.Lists.{all}
+use Rattle.machine.specs.State.{Lock, Request, State, Call, fresh_on}
+use Rattle.machine.specs.Maps.{meets}
+use Rattle.machine.specs.Choosing.{Look, fails, held, grants, look}
 use Rattle.display.specs.Runs.{after_calls}
-use Rattle.display.specs.machine.Rule.{Names}
+use Rattle.machine.specs.Rule.{Names}
 
 unfoldable pub finds : State → Request → Look
 finds s r = look r.prec r.combos s.channels

@@ -6,10 +6,10 @@
 --   opens o            the operation is OPEN
 --   settles s c        the call c in the state s settles
 use Rattle.std.specs.Prelude.{ℕ, Bool, true, false, not, ◌&&◌, List, [], ◌∷◌, eqb}
-use Rattle.display.specs.machine.Numbers.{neg, ALLOCFAILED}
-use Rattle.display.specs.machine.Lists.{among}
-use Rattle.display.specs.machine.State.{State, Call, Op, OPEN, CLOSE, ABORT, EVENT, COMMAND}
-use Rattle.display.specs.machine.Call.{call}
+use Rattle.machine.specs.Numbers.{neg, ALLOCFAILED}
+use Rattle.machine.specs.Lists.{among}
+use Rattle.machine.specs.State.{State, Call, Op, OPEN, CLOSE, ABORT, EVENT, COMMAND}
+use Rattle.machine.specs.Call.{call}
 
 abbrev pub unsettled : List ℕ
 unsettled = 1 ∷ 2 ∷ 3 ∷ 4 ∷ 5 ∷ 8 ∷ neg 1 ∷ neg 3 ∷ neg 4 ∷ neg 5 ∷ []

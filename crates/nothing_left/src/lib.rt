@@ -1,5 +1,2 @@
 // Nothing left standing (#113): a statement (specs/) and its proof (proofs/) over the machine. Assumes nothing.
 #![tactic(auto)]
-
-pub use display;
-pub use display::widening;

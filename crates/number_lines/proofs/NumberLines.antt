@@ -5,11 +5,11 @@ use mathlib.Core.List.{List, [], ◌∷◌, ◌++◌, append-nil}
 use native.Mathlib.Omega.{arith}
 use native.Mathlib.Numerals.{add-one}
 use lib.ListN.{length, get_or, length-append, get_or-append}
-use Rattle.saved2.specs.machine.State.{State}
-use Rattle.saved2.specs.machine.Log.{line}
-use Rattle.saved2.specs.display.Display.{number, numbers_from, numbers}
-use Rattle.saved2.proofs.display.Pinned.{number_even, number-odd, numbers_at}
-use Rattle.saved2.specs.saved.Saved.{spelt}
+use Rattle.machine.specs.State.{State}
+use Rattle.machine.specs.Log.{line}
+use Rattle.display.specs.Display.{number, numbers_from, numbers}
+use Rattle.display.proofs.Pinned.{number_even, number-odd, numbers_at}
+use Rattle.saved.specs.Saved.{spelt}
 use Rattle.frame_lines.proofs.FrameLines.{spelt-append}
 use Rattle.saved2.specs.Saved2.{number_frame, number_frames}
 use Rattle.number_lines.specs.NumberLines.{number_line, number_lines}

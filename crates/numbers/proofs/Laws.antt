@@ -10,10 +10,10 @@ use mathlib.Core.List.{List, [], ◌∷◌}
 use lib.ListN.{length, get_or, drop}
 use mathlib.Core.Option.{Option, none, some}
 use Rattle.std.specs.Prelude.{if◌then◌else◌}
-use Rattle.table.specs.machine.State.{Write}
-use Rattle.table.specs.machine.Sound.{sound_tone, sound_pervol, sound_write, no_pervol, forgets}
-use Rattle.table.proofs.machine.Tests.{by_test, test_true, test_false, and_left, and_right, and_both}
-use Rattle.table.specs.machine.Commands.{cycles_in, period_in, volume_in}
+use Rattle.machine.specs.State.{Write}
+use Rattle.machine.specs.Sound.{sound_tone, sound_pervol, sound_write, no_pervol, forgets}
+use Rattle.machine.proofs.Tests.{by_test, test_true, test_false, and_left, and_right, and_both}
+use Rattle.machine.specs.Commands.{cycles_in, period_in, volume_in}
 use Rattle.table.specs.Entry.{tone_bytes, pervol_bytes, number_bytes, tone_at, numbers_in}
 use Rattle.numbers.specs.Numbers.{carried, pervol_kept, sound_numbers, Bytes, Told}
 

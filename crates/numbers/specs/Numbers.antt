@@ -8,9 +8,9 @@
 --   Told i front b      the test passes exactly where the bytes are those of a sound write
 use Rattle.std.specs.Prelude.{ℕ, ◌<◌, Bool, false, ◌&&◌, ◌||◌, List, ◌≡◌, eqb, leb, T, get_or, if◌then◌else◌}
 use Rattle.std.proofs.Math.Option.{none}
-use Rattle.table.specs.machine.State.{Write}
-use Rattle.table.specs.machine.Commands.{cycles_in, period_in, volume_in}
-use Rattle.table.specs.machine.Sound.{sound_tone, sound_write, forgets}
+use Rattle.machine.specs.State.{Write}
+use Rattle.machine.specs.Commands.{cycles_in, period_in, volume_in}
+use Rattle.machine.specs.Sound.{sound_tone, sound_write, forgets}
 use Rattle.table.specs.Entry.{tone_at, number_bytes, numbers_in}
 
 abbrev pub carried : ℕ → List ℕ → Write

@@ -2,13 +2,11 @@
 #![tactic(auto)]
 
 ghost use Rattle.std.specs.Prelude.{◌≡◌, ◌⊎◌, ◌+◌, ◌*◌, ◌<◌, length, get_or};
-ghost use Rattle.table.specs.machine.Sound.{sound_tone};
+ghost use Rattle.machine.specs.Sound.{sound_tone};
 ghost use Rattle.table.specs.Entry.{tone_at, number_bytes};
 ghost use Rattle.numbers.specs.Numbers.{carried, pervol_kept, sound_numbers};
 
-pub use table;
 use table::Head;
-pub use table::{machine, memory};
 
 // The cast stands by itself, so that a caller has no fact of its own to show for it.
 fn wide(x: u8) -> u32

@@ -2,10 +2,10 @@
 use mathlib.Core.Path.{◌≡◌, refl, ap}
 use mathlib.Core.List.{List, [], ◌∷◌, map}
 use lib.Dec.{ltb}
-use Rattle.machine_laws.specs.machine.Numbers.{nowait, ALLOCFAILED, ADCMD_ALLOCATE, NONE}
-use Rattle.machine_laws.specs.machine.State.{Request, with_waiting}
-use Rattle.machine_laws.specs.machine.Commands.{done, pending, silent}
-use Rattle.machine_laws.specs.machine.Allocating.{enqueue, waits, allocating, do_allocate, opening, do_open}
+use Rattle.machine.specs.Numbers.{nowait, ALLOCFAILED, ADCMD_ALLOCATE, NONE}
+use Rattle.machine.specs.State.{Request, with_waiting}
+use Rattle.machine.specs.Commands.{done, pending, silent}
+use Rattle.machine.specs.Allocating.{enqueue, waits, allocating, do_allocate, opening, do_open}
 use Rattle.old_logs.specs.Old
 use Rattle.old_logs.specs.Now.{now_request, now, now_outcome, now_call}
 use Rattle.old_logs.proofs.Lists.{if_out, if_as}

@@ -9,18 +9,18 @@ use mathlib.Core.Option.{Option, none, some}
 use native.Mathlib.Omega.{arith}
 use lib.Dec.{T, T_not, eqb, leb, ltb}
 use lib.ListN.{length}
-use Rattle.machine_laws.specs.machine.Numbers.{NONE, NOALLOCATION, CMD_READ, OTHERDESK}
+use Rattle.machine.specs.Numbers.{NONE, NOALLOCATION, CMD_READ, OTHERDESK}
 use Rattle.std.specs.Prelude.{if◌then◌else◌}
-use Rattle.machine_laws.specs.machine.Lists.{all, keep}
-use Rattle.machine_laws.specs.machine.State.{State, Reply, Answer, Outcome, Call, fresh_on}
-use Rattle.machine_laws.specs.machine.Desks.{DESK_A, DESK_B, HALF, desk_of, front_for, replies_to, halves}
-use Rattle.machine_laws.specs.machine.Kinds.{READ, carries}
-use Rattle.machine_laws.specs.machine.Commands.{matches, done, silent, do_read}
-use Rattle.machine_laws.specs.machine.Answered.{LastByte}
-use Rattle.machine_laws.specs.machine.Call.{perform, accept, settling, open_settling, answering, call}
-use Rattle.machine_laws.specs.machine.Log.{Fed, lines, opened, digit, joined, unhex, hex_digit, line, reply_line, answer_line, reply_lines, told, outcome_of, feed, run, log}
-use Rattle.machine_laws.proofs.machine.Tests.{if_elim, by_test, test_true, test_false, and_left, and_right}
-use Rattle.machine_laws.proofs.machine.Answered.{perform-answered}
+use Rattle.machine.specs.Lists.{all, keep}
+use Rattle.machine.specs.State.{State, Reply, Answer, Outcome, Call, fresh_on}
+use Rattle.machine.specs.Desks.{DESK_A, DESK_B, HALF, desk_of, front_for, replies_to, halves}
+use Rattle.machine.specs.Kinds.{READ, carries}
+use Rattle.machine.specs.Commands.{matches, done, silent, do_read}
+use Rattle.machine.specs.Answered.{LastByte}
+use Rattle.machine.specs.Call.{perform, accept, settling, open_settling, answering, call}
+use Rattle.machine.specs.Log.{Fed, lines, opened, digit, joined, unhex, hex_digit, line, reply_line, answer_line, reply_lines, told, outcome_of, feed, run, log}
+use Rattle.machine.proofs.Tests.{if_elim, by_test, test_true, test_false, and_left, and_right}
+use Rattle.machine.proofs.Answered.{perform-answered}
 use Rattle.old_logs.specs.Old
 use Rattle.old_logs.specs.Now.{now_write, now, now_op, now_call, now_reply, now_answer, now_outcome, now_fed}
 use Rattle.old_logs.specs.OldLogs.{old_op, old_call, old_line, OldLog}

@@ -4,15 +4,15 @@ use mathlib.Core.Bool.{Bool, true, false, not}
 use mathlib.Core.List.{[], map-append}
 use Prim.Native.Nat.{ℕ}
 use lib.Dec.{T, eqb, eqb→eq, ltb}
-use Rattle.machine_laws.specs.machine.Numbers.{ALLOCFAILED, CMD_RESET, CMD_UPDATE, CMD_CLEAR, CMD_STOP, CMD_START, CMD_FLUSH, ADCMD_SETPREC}
-use Rattle.machine_laws.specs.machine.Commands.{done, silent, reset, same, set_stop, flushed, set_prec}
-use Rattle.machine_laws.specs.machine.State.{State, Call, COMMAND}
-use Rattle.machine_laws.specs.machine.Desks.{desk_of}
-use Rattle.machine_laws.specs.machine.Sound.{ids}
-use Rattle.machine_laws.specs.machine.Kinds.{carries}
-use Rattle.machine_laws.specs.machine.Refusals.{accepted, refusal}
-use Rattle.machine_laws.specs.machine.Call.{perform, settling, open_settling, accept, answering, call}
-use Rattle.machine_laws.proofs.machine.Steps.{first_none}
+use Rattle.machine.specs.Numbers.{ALLOCFAILED, CMD_RESET, CMD_UPDATE, CMD_CLEAR, CMD_STOP, CMD_START, CMD_FLUSH, ADCMD_SETPREC}
+use Rattle.machine.specs.Commands.{done, silent, reset, same, set_stop, flushed, set_prec}
+use Rattle.machine.specs.State.{State, Call, COMMAND}
+use Rattle.machine.specs.Desks.{desk_of}
+use Rattle.machine.specs.Sound.{ids}
+use Rattle.machine.specs.Kinds.{carries}
+use Rattle.machine.specs.Refusals.{accepted, refusal}
+use Rattle.machine.specs.Call.{perform, settling, open_settling, accept, answering, call}
+use Rattle.machine.proofs.Steps.{first_none}
 use Rattle.old_logs.specs.Old
 use Rattle.old_logs.specs.Now.{now, now_op, now_call, now_reply, now_outcome}
 use Rattle.old_logs.specs.OldLogs.{old_op, in_half, half_op}

@@ -4,9 +4,9 @@ use mathlib.Core.Path.{◌≡◌, refl, ap}
 use mathlib.Core.Bool.{not, ◌&&◌}
 use mathlib.Core.List.{List, [], ◌∷◌, map}
 use Rattle.std.specs.Prelude.{if◌then◌else◌}
-use Rattle.machine_laws.specs.machine.State.{is_free}
-use Rattle.machine_laws.specs.machine.Maps.{odd, half}
-use Rattle.machine_laws.specs.machine.Choosing.{Choice, none, chosen, Look, fails, held, grants, takeable, eligible, all_free, first_free, highest, stolen, costs_less, cheaper, cheapest, or_else, choose, standing, look}
+use Rattle.machine.specs.State.{is_free}
+use Rattle.machine.specs.Maps.{odd, half}
+use Rattle.machine.specs.Choosing.{Choice, none, chosen, Look, fails, held, grants, takeable, eligible, all_free, first_free, highest, stolen, costs_less, cheaper, cheapest, or_else, choose, standing, look}
 use Rattle.old_logs.specs.Old
 use Rattle.old_logs.specs.Now.{now_channel}
 use Rattle.old_logs.proofs.Lists.{if_out}

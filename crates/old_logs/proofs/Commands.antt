@@ -5,14 +5,14 @@ use mathlib.Core.Bool.{Bool, true, false, not, ◌&&◌}
 use mathlib.Core.List.{List, [], ◌∷◌, ◌++◌, map, map-map, map-append, append-nil}
 use lib.Dec.{T, eqb}
 use lib.ListN.{length, length-map}
-use Rattle.machine_laws.specs.machine.Numbers.{quick, NONE, NOALLOCATION, CMD_READ, CMD_WRITE, ADCMD_LOCK, ADCMD_FREE}
+use Rattle.machine.specs.Numbers.{quick, NONE, NOALLOCATION, CMD_READ, CMD_WRITE, ADCMD_LOCK, ADCMD_FREE}
 use Rattle.std.specs.Prelude.{if◌then◌else◌}
-use Rattle.machine_laws.specs.machine.Lists.{keep}
-use Rattle.machine_laws.specs.machine.State.{Write, Channel, Reply, CYCLE_ENDED, with_channels}
-use Rattle.machine_laws.specs.machine.Sound.{ids}
-use Rattle.machine_laws.specs.machine.Maps.{odd, half, bit, minus, lowest, change, at}
-use Rattle.machine_laws.specs.machine.Commands.{matches, matching, mismatch, done, pending, finished, silent, freed, set_lock, set_writes, cleared, is_empty, ended, freeing, freeing_replies, each, each_change, do_free, do_lock, front, playing, do_read, cycles_in, period_in, volume_in, write_of, do_write, is_last, last_replies, cycled, front_cycled, event_replies, happened, do_event, closed, owned, do_close, aborted_writes, aborted_waits, without, aborted_by, leaving, led_by, do_abort}
-use Rattle.machine_laws.proofs.machine.Tests.{and_right}
+use Rattle.machine.specs.Lists.{keep}
+use Rattle.machine.specs.State.{Write, Channel, Reply, CYCLE_ENDED, with_channels}
+use Rattle.machine.specs.Sound.{ids}
+use Rattle.machine.specs.Maps.{odd, half, bit, minus, lowest, change, at}
+use Rattle.machine.specs.Commands.{matches, matching, mismatch, done, pending, finished, silent, freed, set_lock, set_writes, cleared, is_empty, ended, freeing, freeing_replies, each, each_change, do_free, do_lock, front, playing, do_read, cycles_in, period_in, volume_in, write_of, do_write, is_last, last_replies, cycled, front_cycled, event_replies, happened, do_event, closed, owned, do_close, aborted_writes, aborted_waits, without, aborted_by, leaving, led_by, do_abort}
+use Rattle.machine.proofs.Tests.{and_right}
 use Rattle.machine_laws.proofs.Maps.{odd-bit, half-bit}
 use Rattle.machine_laws.proofs.KeepingCalls.{change_zero}
 use Rattle.old_logs.specs.Old

@@ -4,10 +4,10 @@ use mathlib.Core.Path.{◌≡◌, refl, ap, ap₂, sym, ◌∙◌}
 use mathlib.Core.List.{List, [], ◌∷◌, ◌++◌, map, map-map, map-append, append-nil}
 use lib.ListN.{length}
 use Rattle.std.specs.Prelude.{if◌then◌else◌}
-use Rattle.machine_laws.specs.machine.Lists.{keep}
-use Rattle.machine_laws.specs.machine.State.{Channel, Request, Reply}
-use Rattle.machine_laws.specs.machine.Maps.{odd, half}
-use Rattle.machine_laws.specs.machine.Granting.{after, in_use, first_unused, new_key, key_for, last_for, aborted, aborted_in, cut, cut_replies, dropped, taken, granted}
+use Rattle.machine.specs.Lists.{keep}
+use Rattle.machine.specs.State.{Channel, Request, Reply}
+use Rattle.machine.specs.Maps.{odd, half}
+use Rattle.machine.specs.Granting.{after, in_use, first_unused, new_key, key_for, last_for, aborted, aborted_in, cut, cut_replies, dropped, taken, granted}
 use Rattle.old_logs.specs.Old
 use Rattle.old_logs.specs.Now.{now_write, now_channel, now_request, now_reply, now}
 use Rattle.old_logs.proofs.Lists.{if_out}

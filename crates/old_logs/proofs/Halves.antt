@@ -6,17 +6,17 @@ use mathlib.Core.Bool.{Bool, true, false, not, ◌||◌}
 use mathlib.Core.List.{List, [], ◌∷◌, ◌++◌, map, append-nil}
 use native.Mathlib.Omega.{arith}
 use lib.Dec.{T, T_not, eqb, eqb→eq, eqb_refl, leb, ltb}
-use Rattle.machine_laws.specs.machine.Numbers.{UNSOUND, BADID, NOROOM, REQUESTS}
+use Rattle.machine.specs.Numbers.{UNSOUND, BADID, NOROOM, REQUESTS}
 use Rattle.std.specs.Prelude.{if◌then◌else◌}
-use Rattle.machine_laws.specs.machine.Lists.{all, keep}
-use Rattle.machine_laws.specs.machine.State.{Write, Channel, State, Reply, Outcome, Call, Op, OPEN, CLOSE, ABORT, EVENT, COMMAND}
-use Rattle.machine_laws.specs.machine.Desks.{HALF, desk_of, front_for, replies_to, halves}
-use Rattle.machine_laws.specs.machine.Maps.{odd, half, at}
-use Rattle.machine_laws.specs.machine.Commands.{front}
-use Rattle.machine_laws.specs.machine.Sound.{sound, ids, writes_of}
-use Rattle.machine_laws.specs.machine.Refusals.{Refusal, refused, first, refusal, refuse}
-use Rattle.machine_laws.specs.machine.Call.{answering, call}
-use Rattle.machine_laws.proofs.machine.Tests.{and_both, and_left, and_right, if_elim, by_test, test_true, test_false, eqb_false, eqb_flip}
+use Rattle.machine.specs.Lists.{all, keep}
+use Rattle.machine.specs.State.{Write, Channel, State, Reply, Outcome, Call, Op, OPEN, CLOSE, ABORT, EVENT, COMMAND}
+use Rattle.machine.specs.Desks.{HALF, desk_of, front_for, replies_to, halves}
+use Rattle.machine.specs.Maps.{odd, half, at}
+use Rattle.machine.specs.Commands.{front}
+use Rattle.machine.specs.Sound.{sound, ids, writes_of}
+use Rattle.machine.specs.Refusals.{Refusal, refused, first, refusal, refuse}
+use Rattle.machine.specs.Call.{answering, call}
+use Rattle.machine.proofs.Tests.{and_both, and_left, and_right, if_elim, by_test, test_true, test_false, eqb_false, eqb_flip}
 use Rattle.machine_laws.proofs.Lists.{keep_none, keep_each, all_mono}
 use Rattle.machine_laws.specs.Lists.{count}
 use Rattle.machine_laws.proofs.Counting.{count_cons}

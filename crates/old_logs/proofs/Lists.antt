@@ -4,7 +4,7 @@ use mathlib.Core.Bool.{Bool, true, false, not, ◌&&◌}
 use mathlib.Core.List.{List, [], ◌∷◌, map}
 use lib.Dec.{T}
 use Rattle.std.specs.Prelude.{cond}
-use Rattle.machine_laws.specs.machine.Lists.{all, keep}
+use Rattle.machine.specs.Lists.{all, keep}
 
 pub if_out {ℓ κ} : {A : Type ℓ} {B : Type κ} (f : A → B) (b : Bool) (x y : A) → cond b (f x) (f y) ≡ f (cond b x y)
 if_out f true x y = refl

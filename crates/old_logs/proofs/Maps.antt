@@ -5,8 +5,8 @@ use mathlib.Core.Bool.{Bool, not, ◌&&◌, ◌||◌}
 use mathlib.Core.List.{List, [], ◌∷◌, map}
 use lib.ListN.{length, length-map}
 use Rattle.std.specs.Prelude.{if◌then◌else◌}
-use Rattle.machine_laws.specs.machine.State.{Channel}
-use Rattle.machine_laws.specs.machine.Maps.{odd, half, bit, lowest, named, change, at}
+use Rattle.machine.specs.State.{Channel}
+use Rattle.machine.specs.Maps.{odd, half, bit, lowest, named, change, at}
 use Rattle.old_logs.specs.Old
 use Rattle.old_logs.specs.Now.{now_channel}
 use Rattle.old_logs.proofs.Lists.{if_out}

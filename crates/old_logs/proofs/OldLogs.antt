@@ -9,13 +9,13 @@ use mathlib.Core.Option.{Option, none, some}
 use lib.Dec.{T, eqb, leb}
 use lib.ListN.{length, get_or, drop}
 use Rattle.std.specs.Prelude.{if◌then◌else◌}
-use Rattle.machine_laws.specs.machine.Lists.{all}
-use Rattle.machine_laws.specs.machine.State.{Channel, Call, Op, OPEN, CLOSE, ABORT, EVENT, CYCLE_ENDED, GAVE_UP, COMMAND, free, frees, fresh_on}
-use Rattle.machine_laws.specs.machine.Commands.{done, silent}
-use Rattle.machine_laws.specs.machine.Log.{Fed, opened, lines, digit, joined, unhex, op_of, call_of, frame, hex_digit, line, reply_line, answer_line, reply_lines, told, outcome_of, feed, run, log}
-use Rattle.machine_laws.specs.machine.Sound.{ids, writes_of}
+use Rattle.machine.specs.Lists.{all}
+use Rattle.machine.specs.State.{Channel, Call, Op, OPEN, CLOSE, ABORT, EVENT, CYCLE_ENDED, GAVE_UP, COMMAND, free, frees, fresh_on}
+use Rattle.machine.specs.Commands.{done, silent}
+use Rattle.machine.specs.Log.{Fed, opened, lines, digit, joined, unhex, op_of, call_of, frame, hex_digit, line, reply_line, answer_line, reply_lines, told, outcome_of, feed, run, log}
+use Rattle.machine.specs.Sound.{ids, writes_of}
 use Rattle.machine_laws.specs.Replies.{heard}
-use Rattle.machine_laws.proofs.machine.Tests.{and_left, and_right}
+use Rattle.machine.proofs.Tests.{and_left, and_right}
 use Rattle.old_logs.specs.Old
 use Rattle.old_logs.specs.Now.{now_channel, now, now_op, now_call, now_reply, now_outcome, now_fed}
 use Rattle.old_logs.specs.OldLogs.{old_op, old_call, old_line, OldLog, half_call, half_line, OneHalf}

@@ -6,14 +6,14 @@ use mathlib.Core.Bool.{Bool, true, false, not, ◌&&◌, cond}
 use mathlib.Core.List.{List, [], ◌∷◌}
 use lib.Dec.{T, eqb, eqb→eq, eqb_refl, leb}
 use lib.ListN.{length}
-use Rattle.machine_laws.specs.machine.Numbers.{NOROOM, OTHERDESK, NONE, CMD_WRITE, ADCMD_FINISH, ADCMD_PERVOL, ADCMD_WAITCYCLE}
+use Rattle.machine.specs.Numbers.{NOROOM, OTHERDESK, NONE, CMD_WRITE, ADCMD_FINISH, ADCMD_PERVOL, ADCMD_WAITCYCLE}
 use Rattle.std.specs.Prelude.{if◌then◌else◌}
-use Rattle.machine_laws.specs.machine.State.{ABORT, COMMAND}
-use Rattle.machine_laws.specs.machine.Desks.{desk_of, foreign}
-use Rattle.machine_laws.specs.machine.Commands.{done, silent, period_in, volume_in}
-use Rattle.machine_laws.specs.machine.Kinds.{Kind, RESET, READ, WRITE, UPDATE, CLEAR, STOP, START, FLUSH, FREE, SETPREC, LOCK, ALLOCATE, UNKNOWN, kind, unknown, allocates, carries}
-use Rattle.machine_laws.specs.machine.Refusals.{Refusal, accepted, refused, first, bad_list, bad_maps, bad_map, bad_numbers, refusal, refuse}
-use Rattle.machine_laws.proofs.machine.Tests.{by_test, test_true, test_false, eqb_false}
+use Rattle.machine.specs.State.{ABORT, COMMAND}
+use Rattle.machine.specs.Desks.{desk_of, foreign}
+use Rattle.machine.specs.Commands.{done, silent, period_in, volume_in}
+use Rattle.machine.specs.Kinds.{Kind, RESET, READ, WRITE, UPDATE, CLEAR, STOP, START, FLUSH, FREE, SETPREC, LOCK, ALLOCATE, UNKNOWN, kind, unknown, allocates, carries}
+use Rattle.machine.specs.Refusals.{Refusal, accepted, refused, first, bad_list, bad_maps, bad_map, bad_numbers, refusal, refuse}
+use Rattle.machine.proofs.Tests.{by_test, test_true, test_false, eqb_false}
 use Rattle.old_logs.specs.Old
 use Rattle.old_logs.specs.Now.{now, now_op, now_call, now_outcome}
 use Rattle.old_logs.specs.OldLogs.{old_command, old_op}

@@ -4,11 +4,11 @@ use mathlib.Core.Path.{◌≡◌, refl}
 use mathlib.Core.Bool.{not}
 use mathlib.Core.List.{List, [], ◌∷◌, ◌++◌, map, map-append}
 use lib.ListN.{length, length-map}
-use Rattle.machine_laws.specs.machine.Numbers.{ALLOCFAILED, CHANNELSTOLEN}
-use Rattle.machine_laws.specs.machine.Lists.{keep}
-use Rattle.machine_laws.specs.machine.State.{Lock, State}
-use Rattle.machine_laws.specs.machine.Maps.{odd, half, meets}
-use Rattle.machine_laws.specs.machine.Settling.{Found, nobody, somebody, Walk, Settled, replied, staying, saying, on_look, walk, walked, go_on, rounds, settle}
+use Rattle.machine.specs.Numbers.{ALLOCFAILED, CHANNELSTOLEN}
+use Rattle.machine.specs.Lists.{keep}
+use Rattle.machine.specs.State.{Lock, State}
+use Rattle.machine.specs.Maps.{odd, half, meets}
+use Rattle.machine.specs.Settling.{Found, nobody, somebody, Walk, Settled, replied, staying, saying, on_look, walk, walked, go_on, rounds, settle}
 use Rattle.old_logs.specs.Old
 use Rattle.old_logs.specs.Now.{now_channel, now_lock, now_request, now, now_reply}
 use Rattle.old_logs.proofs.Lists.{if_as, keep_map}

@@ -5,10 +5,10 @@ use mathlib.Core.Bool.{true, ◌&&◌}
 use mathlib.Core.List.{List, [], ◌∷◌, map, map-map, map-id, append-nil}
 use lib.Dec.{eqb, leb}
 use lib.ListN.{length-map}
-use Rattle.machine_laws.specs.machine.Numbers.{KEYS}
-use Rattle.machine_laws.specs.machine.Lists.{all}
-use Rattle.machine_laws.specs.machine.State.{Write, Channel, Lock, Request}
-use Rattle.machine_laws.specs.machine.Sound.{sound_tone, sound_pervol, sound_write, no_pervol, forgets, sound_writes, sound_channel, sound_lock, sound_waiter, sound_request, in_order, writes_of, ids, sound_opens, sound}
+use Rattle.machine.specs.Numbers.{KEYS}
+use Rattle.machine.specs.Lists.{all}
+use Rattle.machine.specs.State.{Write, Channel, Lock, Request}
+use Rattle.machine.specs.Sound.{sound_tone, sound_pervol, sound_write, no_pervol, forgets, sound_writes, sound_channel, sound_lock, sound_waiter, sound_request, in_order, writes_of, ids, sound_opens, sound}
 use Rattle.old_logs.specs.Old
 use Rattle.old_logs.specs.Now.{now_write, now_channel, now_lock, now_request, now}
 use Rattle.old_logs.proofs.Lists.{and_yes, all_map, all_as}

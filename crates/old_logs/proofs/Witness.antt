@@ -7,13 +7,13 @@ use Prim.Native.String.{String}
 use mathlib.Core.Path.{◌≡◌, refl, ◌∙◌}
 use mathlib.Core.Bool.{true, false}
 use mathlib.Core.List.{List, [], ◌∷◌, ◌++◌, map}
-use Rattle.machine_laws.specs.machine.Lists.{all}
-use Rattle.machine_laws.specs.machine.State.{fresh_on}
-use Rattle.machine_laws.specs.machine.Desks.{DESK_A, DESK_B}
-use Rattle.machine_laws.specs.machine.Log.{lines, run, log}
-use Rattle.machine_laws.specs.machine.Machine.{machine}
-use Rattle.machine_laws.specs.machine.Text.{bytes, page}
-use Rattle.machine_laws.specs.machine.Drawn.{Talk, given, written, begun}
+use Rattle.machine.specs.Lists.{all}
+use Rattle.machine.specs.State.{fresh_on}
+use Rattle.machine.specs.Desks.{DESK_A, DESK_B}
+use Rattle.machine.specs.Log.{lines, run, log}
+use Rattle.machine.specs.Machine.{machine}
+use Rattle.machine.specs.Text.{bytes, page}
+use Rattle.machine.specs.Drawn.{Talk, given, written, begun}
 use Rattle.old_logs.specs.Old
 use Rattle.old_logs.specs.OldLogs.{old_command, old_op, old_call, old_line, OldLog, in_half, half_op, half_call, half_line, OneHalf}
 use Rattle.old_logs.specs.Both.{in_halves, hidden, hides, both_told, both_run}

@@ -9,9 +9,9 @@
 --   both_run s ls      the output of lines in order, and the state after them
 use Rattle.std.specs.Prelude.{ℕ, not, List, [], ◌∷◌, ◌++◌, eqb, ltb, if◌then◌else◌}
 use Rattle.std.proofs.Math.Option.{Option, none, some}
-use Rattle.machine_laws.specs.machine.Numbers.{NONE}
-use Rattle.machine_laws.specs.machine.Lists.{keep}
-use Rattle.machine_laws.specs.machine.Desks.{HALF, desk_of}
+use Rattle.machine.specs.Numbers.{NONE}
+use Rattle.machine.specs.Lists.{keep}
+use Rattle.machine.specs.Desks.{HALF, desk_of}
 use Rattle.old_logs.specs.Old
 
 unfoldable pub in_halves : List Old.Reply → List Old.Reply

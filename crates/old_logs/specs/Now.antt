@@ -8,10 +8,10 @@
 --   now_answer a, now_outcome o, now_fed f   an answer, an outcome and what a line comes to
 use Rattle.std.specs.Prelude.{ℕ, false, [], map}
 use Rattle.std.proofs.Math.Option.{none}
-use Rattle.machine_laws.specs.machine.Numbers.{PERIOD_LEAST, VOLUME_MOST}
-use Rattle.machine_laws.specs.machine.State.{Write, Channel, Lock, Request, State, Reply, Answer, Outcome, Call, Op, OPEN, CLOSE, ABORT, EVENT, CYCLE_ENDED, COMMAND}
-use Rattle.machine_laws.specs.machine.Desks.{desk_of}
-use Rattle.machine_laws.specs.machine.Log.{Fed}
+use Rattle.machine.specs.Numbers.{PERIOD_LEAST, VOLUME_MOST}
+use Rattle.machine.specs.State.{Write, Channel, Lock, Request, State, Reply, Answer, Outcome, Call, Op, OPEN, CLOSE, ABORT, EVENT, CYCLE_ENDED, COMMAND}
+use Rattle.machine.specs.Desks.{desk_of}
+use Rattle.machine.specs.Log.{Fed}
 use Rattle.old_logs.specs.Old
 
 -- #101: "n 0 means 1, 124 and 64"

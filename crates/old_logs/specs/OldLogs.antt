@@ -12,11 +12,11 @@
 --   OneHalf d bs      each line of the log is such a line
 use Rattle.std.specs.Prelude.{ℕ, Bool, true, false, not, ◌&&◌, ◌||◌, List, T, eqb, ltb, length}
 use Rattle.std.proofs.Math.Option.{Option, none, some}
-use Rattle.machine_laws.specs.machine.Desks.{desk_of}
-use Rattle.machine_laws.specs.machine.Numbers.{CMD_WRITE, ADCMD_FINISH, ADCMD_PERVOL, ADCMD_WAITCYCLE}
-use Rattle.machine_laws.specs.machine.Lists.{all}
-use Rattle.machine_laws.specs.machine.State.{Call, Op, OPEN, CLOSE, ABORT, EVENT, CYCLE_ENDED, GAVE_UP, COMMAND}
-use Rattle.machine_laws.specs.machine.Log.{lines, unhex, frame}
+use Rattle.machine.specs.Desks.{desk_of}
+use Rattle.machine.specs.Numbers.{CMD_WRITE, ADCMD_FINISH, ADCMD_PERVOL, ADCMD_WAITCYCLE}
+use Rattle.machine.specs.Lists.{all}
+use Rattle.machine.specs.State.{Call, Op, OPEN, CLOSE, ABORT, EVENT, CYCLE_ENDED, GAVE_UP, COMMAND}
+use Rattle.machine.specs.Log.{lines, unhex, frame}
 
 -- "commands 11, 12 and 14"; "whose writes all have n 0"
 unfoldable pub old_command : ℕ → List ℕ → Bool

@@ -1,5 +1,2 @@
 // One desk hears nothing of the other (#109): a statement (specs/) and its proof (proofs/). Assumes nothing.
 #![tactic(auto)]
-
-pub use machine_laws;
-pub use machine_laws::machine;

@@ -6,15 +6,15 @@ use native.Mathlib.Omega.{arith}
 use borrow.Author.Tests.{leb-true, leb-false, le-leb, lt-leb}
 use lib.Dec.{leb}
 use lib.ListN.{length}
-use Rattle.putting.proofs.machine.Tests.{by_test, test_true, test_false}
-use Rattle.putting.specs.memory.Splice.{splice}
-use Rattle.putting.specs.board.declared.Board.{Board}
-use Rattle.putting.specs.board.Board.{state_in, Held}
-use Rattle.putting.specs.gathering.Lumps.{ended, used, kept}
-use Rattle.putting.specs.taking.declared.Show.{Show}
-use Rattle.putting.specs.taking.Desk.{Taken, hidden, desk_of, Leaves, Takes}
-use Rattle.putting.proofs.taking.Kept.{held_fine, taken_fine, leaves_held}
-use Rattle.putting.proofs.taking.Laws.{taken_open, taken-ended}
+use Rattle.machine.proofs.Tests.{by_test, test_true, test_false}
+use Rattle.memory.specs.Splice.{splice}
+use Rattle.board.specs.declared.Board.{Board}
+use Rattle.board.specs.Board.{state_in, Held}
+use Rattle.gathering.specs.Lumps.{ended, used, kept}
+use Rattle.taking.specs.declared.Show.{Show}
+use Rattle.taking.specs.Desk.{Taken, hidden, desk_of, Leaves, Takes}
+use Rattle.taking.proofs.Kept.{held_fine, taken_fine, leaves_held}
+use Rattle.taking.proofs.Laws.{taken_open, taken-ended}
 use Rattle.putting.specs.Putting.{Puts}
 use Rattle.putting.proofs.Laws.{nothing_put, answered_few, answered-size, answer-put}
 use Rattle.one_line.specs.OneLine.{Turns}

@@ -3,18 +3,13 @@
 #![tactic(auto)]
 
 ghost use Rattle.std.specs.Prelude.{◌+◌, ◌≤◌, ◌≡◌, leb, length};
-ghost use Rattle.putting.specs.board.Board.{Held};
-ghost use Rattle.putting.specs.gathering.Lumps.{LINE};
-ghost use Rattle.putting.specs.image.Image.{state_of, Whole};
-ghost use Rattle.putting.specs.taking.Desk.{taken_in, needed};
+ghost use Rattle.board.specs.Board.{Held};
+ghost use Rattle.gathering.specs.Lumps.{LINE};
+ghost use Rattle.image.specs.Image.{state_of, Whole};
+ghost use Rattle.taking.specs.Desk.{taken_in, needed};
 ghost use Rattle.one_line.specs.OneLine.{Turns};
 
-pub use putting;
-use putting::taking::{Left, Show};
-pub use putting::{
-    audio, board, channel, channel_lines, display, display_lines, encoding, gathering, image,
-    machine, machine_laws, memory, serving, store, taking, widening,
-};
+use taking::{Left, Show};
 
 // The room that the output of one line may take: 64 replies and an answer, and what is shown.
 fn need(show: Show) -> usize

@@ -4,17 +4,17 @@ use mathlib.Core.Path.{◌≡◌, ap, sym, ◌∙◌}
 use mathlib.Core.List.{List, ◌++◌, map, append_assoc}
 use native.Mathlib.Omega.{arith}
 use lib.ListN.{length, drop, length-set}
-use Rattle.granting.specs.queue.Queue.{queue_of}
-use Rattle.granting.specs.reply.Replies.{sent}
-use Rattle.granting.specs.machine.State.{Lock, Reply, with_locks}
-use Rattle.waiting.specs.store.declared.State.{State}
-use Rattle.waiting.specs.store.Store.{lock_item, waiter_item, wait_item, write_items, items, entries, table_of, state_in, Held}
-use Rattle.waiting.specs.store.Work.{Did}
-use Rattle.waiting.proofs.store.Store.{held_parts, held_eight, held_opens}
-use Rattle.granting.specs.fates.declared.End.TheVariants.{Stolen}
-use Rattle.granting.specs.locks.declared.Sifted.{Sifted}
-use Rattle.granting.specs.locks.Locks.{lefts, ending, Sifting, Sieved}
-use Rattle.granting.proofs.locks.Laws.{lefts-stolen, ending-stolen, locked_of}
+use Rattle.queue.specs.Queue.{queue_of}
+use Rattle.reply.specs.Replies.{sent}
+use Rattle.machine.specs.State.{Lock, Reply, with_locks}
+use Rattle.store.specs.declared.State.{State}
+use Rattle.store.specs.Store.{lock_item, waiter_item, wait_item, write_items, items, entries, table_of, state_in, Held}
+use Rattle.store.specs.Work.{Did}
+use Rattle.store.proofs.Store.{held_parts, held_eight, held_opens}
+use Rattle.fates.specs.declared.End.TheVariants.{Stolen}
+use Rattle.locks.specs.declared.Sifted.{Sifted}
+use Rattle.locks.specs.Locks.{lefts, ending, Sifting, Sieved}
+use Rattle.locks.proofs.Laws.{lefts-stolen, ending-stolen, locked_of}
 use Rattle.one_request.specs.OneRequest.{stolen, without_locks}
 
 module _ {st : State} {tb : List ℕ} (h : Held st tb) (m : ℕ) where

@@ -5,21 +5,21 @@ use mathlib.Core.List.{List, [], ◌∷◌, ◌++◌, map}
 use native.Mathlib.Omega.{arith}
 use lib.ListN.{length, take, drop, get_or}
 use lib.Seq.{split_at}
-use Rattle.granting.specs.memory.Splice.{splice}
-use Rattle.granting.specs.queue.declared.Queue.{Queue}
-use Rattle.granting.specs.queue.Queue.{queue_of, list_of, removed}
-use Rattle.granting.proofs.queue.Laws.{removed_of}
-use Rattle.granting.specs.table.Entry.{idle}
-use Rattle.granting.specs.machine.State.{Request, State as StateM}
-use Rattle.granting.specs.machine.Sound.{ids, writes_of}
-use Rattle.granting.specs.machine_laws.Lists.{Sub, skip}
-use Rattle.granting.proofs.machine_laws.Lists.{sub_refl, sub_append, sub_map}
-use Rattle.granting.proofs.machine_laws.Keeping.{parts_sub}
-use Rattle.granting.specs.machine_laws.Sound.{Parts}
-use Rattle.waiting.specs.store.declared.State.{State}
-use Rattle.waiting.specs.store.Store.{Item, wait_item, lock_item, waiter_item, write_items, items, struct_of, table_of, state_in, request_in, Held}
-use Rattle.waiting.proofs.store.Entries.{Ins, ins_left, ins_at, entry-removed}
-use Rattle.waiting.proofs.store.Store.{held_parts, held_waiting, waiting-count, good_of, held_opens}
+use Rattle.memory.specs.Splice.{splice}
+use Rattle.queue.specs.declared.Queue.{Queue}
+use Rattle.queue.specs.Queue.{queue_of, list_of, removed}
+use Rattle.queue.proofs.Laws.{removed_of}
+use Rattle.table.specs.Entry.{idle}
+use Rattle.machine.specs.State.{Request, State as StateM}
+use Rattle.machine.specs.Sound.{ids, writes_of}
+use Rattle.machine_laws.specs.Lists.{Sub, skip}
+use Rattle.machine_laws.proofs.Lists.{sub_refl, sub_append, sub_map}
+use Rattle.machine_laws.proofs.Keeping.{parts_sub}
+use Rattle.machine_laws.specs.Sound.{Parts}
+use Rattle.store.specs.declared.State.{State}
+use Rattle.store.specs.Store.{Item, wait_item, lock_item, waiter_item, write_items, items, struct_of, table_of, state_in, request_in, Held}
+use Rattle.store.proofs.Entries.{Ins, ins_left, ins_at, entry-removed}
+use Rattle.store.proofs.Store.{held_parts, held_waiting, waiting-count, good_of, held_opens}
 use Rattle.waiting.specs.Waiting.{nobody, waiter}
 use Rattle.waiting.proofs.Waiting.{inside, waiter_is, waiter_in}
 use Rattle.one_request.specs.OneRequest.{out_at}
@@ -49,7 +49,7 @@ out_sub {ℓ} : {A : Type ℓ} (i : ℕ) (xs : List A) → Sub (take i xs ++ dro
 out_sub zero [] = sub_refl []
 out_sub zero (x ∷ xs) = skip (sub_refl xs)
 out_sub (suc i) [] = sub_refl []
-out_sub (suc i) (x ∷ xs) = Rattle.granting.specs.machine_laws.Lists.take (out_sub i xs)
+out_sub (suc i) (x ∷ xs) = Rattle.machine_laws.specs.Lists.take (out_sub i xs)
 
 pub out_sound : (i : ℕ) (s : StateM) → Parts s → Parts (out_at i s)
 unfolding ids

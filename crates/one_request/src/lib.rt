@@ -3,18 +3,14 @@
 #![tactic(auto)]
 
 ghost use Rattle.std.specs.Prelude.{◌+◌, ◌<◌, length};
-ghost use Rattle.granting.specs.machine.Granting.{dropped};
-ghost use Rattle.waiting.specs.store.Store.{state_in, Held};
-ghost use Rattle.waiting.specs.store.Work.{Stands, Ready};
+ghost use Rattle.machine.specs.Granting.{dropped};
+ghost use Rattle.store.specs.Store.{state_in, Held};
+ghost use Rattle.store.specs.Work.{Stands, Ready};
 ghost use Rattle.one_request.specs.OneRequest.{out_at, dropped_replies, granted_at, granted_replies, stolen, without_locks, Makes};
 
-use granting::fates::End;
-use granting::locks;
-use granting::reply::Reply;
-pub use granting::{memory, reply, table};
-pub use waiting;
-use waiting::store::State;
-pub use waiting::{choosing, standing, store};
+use fates::End;
+use reply::Reply;
+use store::State;
 
 #[derive(Clone, Copy)]
 pub struct Settled {

@@ -2,11 +2,10 @@
 #![tactic(auto)]
 
 ghost use Rattle.std.specs.Prelude.{◌≡◌, ◌≤◌, take, drop};
-ghost use Rattle.open_keys.specs.machine.Lists.{all};
+ghost use Rattle.machine.specs.Lists.{all};
 ghost use Rattle.open_shape.specs.OpenShape.{is_key, is_none, sound_keys};
 
 use open_keys::Keys;
-pub use open_keys::{machine, queue};
 
 // From `from` on every place is 0. All are gathered in one number, which is looked at once: so the compiler reads many at a time.
 fn zeros(keys: [u16; Keys::ROOM], from: usize) -> bool

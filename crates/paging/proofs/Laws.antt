@@ -9,14 +9,14 @@ use lib.Dec.{leb}
 use lib.ListN.{length, take, drop, length-drop, drop_of_length-le}
 use lib.Seq.{take_all, drop-drop}
 use Rattle.std.specs.Prelude.{if◌then◌else◌}
-use Rattle.one_line.specs.board.declared.Board.{Board}
-use Rattle.one_line.specs.board.Board.{state_in, Held}
-use Rattle.one_line.specs.gathering.Lumps.{LINE, ended, used}
-use Rattle.one_line.proofs.gathering.Lumps.{used-within}
-use Rattle.one_line.specs.taking.declared.Show.{Show}
-use Rattle.one_line.specs.taking.Desk.{Taken, Desk, desk_of, gathered, answered, taken, needed, fits, takes, filled, Leaves, Same}
-use Rattle.one_line.proofs.taking.Kept.{Fine, held_fine, taken_fine, leaves_held, leaves-state}
-use Rattle.one_line.proofs.taking.Laws.{taken-within, taken-used, used_some, one_leaving}
+use Rattle.board.specs.declared.Board.{Board}
+use Rattle.board.specs.Board.{state_in, Held}
+use Rattle.gathering.specs.Lumps.{LINE, ended, used}
+use Rattle.gathering.proofs.Lumps.{used-within}
+use Rattle.taking.specs.declared.Show.{Show}
+use Rattle.taking.specs.Desk.{Taken, Desk, desk_of, gathered, answered, taken, needed, fits, takes, filled, Leaves, Same}
+use Rattle.taking.proofs.Kept.{Fine, held_fine, taken_fine, leaves_held, leaves-state}
+use Rattle.taking.proofs.Laws.{taken-within, taken-used, used_some, one_leaving}
 use Rattle.one_line.specs.OneLine.{Turns}
 use Rattle.one_line.proofs.Laws.{stays}
 use Rattle.paging.specs.Paging.{Fills}

@@ -3,14 +3,13 @@
 #![tactic(auto)]
 
 ghost use Rattle.std.specs.Prelude.{◌≤◌};
-ghost use Rattle.one_line.specs.board.Board.{Held};
-ghost use Rattle.one_line.specs.gathering.Lumps.{LINE};
-ghost use Rattle.one_line.specs.image.Image.{state_of, Whole};
-ghost use Rattle.one_line.specs.taking.Desk.{taken_in};
+ghost use Rattle.board.specs.Board.{Held};
+ghost use Rattle.gathering.specs.Lumps.{LINE};
+ghost use Rattle.image.specs.Image.{state_of, Whole};
+ghost use Rattle.taking.specs.Desk.{taken_in};
 ghost use Rattle.paging.specs.Paging.{Fills};
 
-use one_line::audio;
-use one_line::taking::{Left, Show};
+use taking::{Left, Show};
 
 // A lump, as far as the page has room for one more line's output.
 pub fn fill(

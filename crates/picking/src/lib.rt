@@ -2,13 +2,12 @@
 #![tactic(auto)]
 
 ghost use Rattle.std.specs.Prelude.{◌≡◌, List};
-ghost use Rattle.pricing.specs.machine.State.{Channel as ChannelM};
-ghost use Rattle.pricing.specs.machine.Choosing.{choose as choose_m};
-ghost use Rattle.pricing.specs.standing.Standing.{Stood};
+ghost use Rattle.machine.specs.State.{Channel as ChannelM};
+ghost use Rattle.machine.specs.Choosing.{choose as choose_m};
+ghost use Rattle.standing.specs.Standing.{Stood};
 ghost use Rattle.picking.specs.Picking.{choice_of, Beaten};
 
-use pricing::standing::Standing;
-pub use pricing::{channel, machine, machine_laws, queue, standing};
+use standing::Standing;
 
 #[derive(Clone, Copy)]
 pub enum Choice {

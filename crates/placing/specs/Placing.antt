@@ -7,10 +7,10 @@
 --   kind_test k         what the place of an id asks of its entry; a write is in front where it is the channel's first
 --   placed_writes, placed_all   the walks over the writes, and over all places
 use Rattle.std.specs.Prelude.{ℕ, ◌+◌, Bool, true, false, ◌&&◌, List, [], ◌∷◌, eqb, ltb, get_or, set, replicate, if◌then◌else◌}
-use Rattle.wait_entries.specs.queue.Queue.{list_of}
-use Rattle.wait_entries.specs.channel.declared.Channel.{Channel}
-use Rattle.wait_entries.specs.store.declared.State.{State}
-use Rattle.wait_entries.specs.entries.Entries.{write_test, lock_test, waiter_test, wait_test}
+use Rattle.queue.specs.Queue.{list_of}
+use Rattle.channel.specs.declared.Channel.{Channel}
+use Rattle.store.specs.declared.State.{State}
+use Rattle.entries.specs.Entries.{write_test, lock_test, waiter_test, wait_test}
 use Rattle.placing.specs.declared.Marks.{Marks}
 use Rattle.placing.specs.declared.Kind.{Kind}
 use Rattle.placing.specs.declared.Kind.TheVariants.{Write, Lock, Cycle, Wait}

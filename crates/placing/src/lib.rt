@@ -3,16 +3,14 @@
 #![tactic(auto)]
 
 ghost use Rattle.std.specs.Prelude.{◌≡◌, ◌&&◌, ◌+◌, ◌≤◌, ◌<◌, T, eqb, length, replicate};
-ghost use Rattle.wait_entries.specs.queue.Queue.{list_of};
-ghost use Rattle.wait_entries.specs.machine.Lists.{all};
-ghost use Rattle.span_entries.specs.shapes.Shapes.{good as goodM, shaped as shaped_m};
+ghost use Rattle.queue.specs.Queue.{list_of};
+ghost use Rattle.machine.specs.Lists.{all};
+ghost use Rattle.shapes.specs.Shapes.{good as goodM, shaped as shaped_m};
 ghost use Rattle.placing.specs.Placing.{placed, kind_test, placed_writes, placed_all};
 
-pub use span_entries::shapes;
-use wait_entries::channel::Channel;
-use wait_entries::queue::Queue;
-use wait_entries::store::State;
-pub use wait_entries::{entries, machine, memory, queue, store, table};
+use channel::Channel;
+use queue::Queue;
+use store::State;
 
 // Whether a walk found all in order, and the ids seen so far: 1 at each.
 #[derive(Clone, Copy)]

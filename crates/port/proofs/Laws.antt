@@ -6,10 +6,10 @@ use native.Mathlib.Omega.{arith}
 use native.Mathlib.Nat.{div-add-mod'}
 use lib.ListN.{length, take, drop, length-drop}
 use lib.Seq.{take_all}
-use Rattle.gathering.specs.machine.InBytes.{two_bytes}
-use Rattle.gathering.specs.memory.Splice.{splice}
-use Rattle.gathering.proofs.memory.Splice.{splice_then}
-use Rattle.sizes.proofs.image.Laws.{splice_whole}
+use Rattle.machine.specs.InBytes.{two_bytes}
+use Rattle.memory.specs.Splice.{splice}
+use Rattle.memory.proofs.Splice.{splice_then}
+use Rattle.image.proofs.Laws.{splice_whole}
 use Rattle.gathering.specs.Lumps.{LINE}
 use Rattle.sizes.specs.Sizes.{PORT}
 use Rattle.port.specs.Port.{started_in, line_in, port_of}

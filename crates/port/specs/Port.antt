@@ -5,8 +5,8 @@
 --   line_in p           the bytes of the line, those that do not stand included: the other 527
 --   port_of n l         the port of a line of which n bytes stand
 use Rattle.std.specs.Prelude.{ℕ, List, ◌++◌, drop}
-use Rattle.gathering.specs.machine.InBytes.{two_bytes}
-use Rattle.sizes.specs.image.Image.{key_at}
+use Rattle.machine.specs.InBytes.{two_bytes}
+use Rattle.image.specs.Image.{key_at}
 
 abbrev pub started_in : List ℕ → ℕ
 started_in p = key_at p 0

@@ -6,11 +6,6 @@ ghost use Rattle.gathering.specs.Lumps.{LINE};
 ghost use Rattle.sizes.specs.Sizes.{PORT};
 ghost use Rattle.port.specs.Port.{started_in, line_in, port_of};
 
-pub use gathering;
-pub use gathering::{digits, machine, memory};
-pub use sizes;
-pub use sizes::{board, display, image, store};
-
 // The cast stands by itself, so that a caller has no fact of its own to show for it.
 fn count(x: u16) -> usize
     ensures { result ≡ x }

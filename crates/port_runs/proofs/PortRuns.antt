@@ -3,8 +3,8 @@
 use Prim.Native.Nat.{ℕ}
 use mathlib.Core.Path.{◌≡◌, sym, subst, ◌∙◌}
 use mathlib.Core.List.{List, []}
-use Rattle.slow_line.specs.port.Port.{started_in}
-use Rattle.slow_line.specs.hearing.Hearing.{Kept, held_in}
+use Rattle.port.specs.Port.{started_in}
+use Rattle.hearing.specs.Hearing.{Kept, held_in}
 use Rattle.slow_line.specs.Slow.{Came}
 use Rattle.slow_line.proofs.Whole.{begun_none}
 use Rattle.slow_line.proofs.Log.{slow_run}

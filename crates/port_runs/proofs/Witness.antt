@@ -9,23 +9,23 @@ use mathlib.Core.Path.{◌≡◌, refl, subst}
 use mathlib.Core.List.{List, [], ◌∷◌, ◌++◌, map}
 use lib.Dec.{T}
 use lib.ListN.{length, replicate, take, drop}
-use Rattle.two_runs.specs.machine.Lists.{all}
-use Rattle.two_runs.specs.machine.State.{State}
-use Rattle.two_runs.specs.machine.Log.{lines}
-use Rattle.two_runs.specs.machine.Machine.{machine}
-use Rattle.two_runs.specs.machine.Text.{bytes, page}
-use Rattle.two_runs.specs.machine_laws.Sound.{Parts}
-use Rattle.two_runs.proofs.machine_laws.Sound.{parts}
-use Rattle.slow_line.specs.display.Display.{blank}
-use Rattle.slow_line.specs.store.Store.{table_of}
-use Rattle.slow_line.specs.board.Board.{struct_of, Held}
-use Rattle.slow_line.proofs.board.Laws.{held_next}
-use Rattle.slow_line.specs.image.Image.{image_of, state_of, is_byte}
-use Rattle.slow_line.proofs.image.Round.{state_of_image_of}
-use Rattle.slow_line.proofs.images.Images.{saved_of, sized_of}
-use Rattle.slow_line.specs.hearing.Hearing.{Kept, held_in}
-use Rattle.slow_line.specs.sizes.Sizes.{PORT}
-use Rattle.slow_line.specs.whole_log.Whole.{joined}
+use Rattle.machine.specs.Lists.{all}
+use Rattle.machine.specs.State.{State}
+use Rattle.machine.specs.Log.{lines}
+use Rattle.machine.specs.Machine.{machine}
+use Rattle.machine.specs.Text.{bytes, page}
+use Rattle.machine_laws.specs.Sound.{Parts}
+use Rattle.machine_laws.proofs.Sound.{parts}
+use Rattle.display.specs.Display.{blank}
+use Rattle.store.specs.Store.{table_of}
+use Rattle.board.specs.Board.{struct_of, Held}
+use Rattle.board.proofs.Laws.{held_next}
+use Rattle.image.specs.Image.{image_of, state_of, is_byte}
+use Rattle.image.proofs.Round.{state_of_image_of}
+use Rattle.images.proofs.Images.{saved_of, sized_of}
+use Rattle.hearing.specs.Hearing.{Kept, held_in}
+use Rattle.sizes.specs.Sizes.{PORT}
+use Rattle.whole_log.specs.Whole.{joined}
 use Rattle.slow_line.proofs.Runs.{run_exists, fresh-port}
 use Rattle.two_runs.specs.Logs.{Line, logs, output, texts}
 use Rattle.two_runs.proofs.LogWitness.{party, start, quiet, busy, begins, quiet_keeps, busy-keeps, same_calls}

@@ -12,12 +12,12 @@
 --                              channels in the end, with who waits for their cycles
 --   Demand3Port               two logs with the same calls of the K party show it the same
 use Rattle.std.specs.Prelude.{ℕ, ◌≡◌, List}
-use Rattle.two_runs.specs.machine.State.{State}
-use Rattle.two_runs.specs.machine.Log.{lines}
-use Rattle.two_runs.specs.machine_laws.Lists.{Sub}
-use Rattle.slow_line.specs.port.Port.{started_in}
-use Rattle.slow_line.specs.hearing.Hearing.{Kept, held_in}
-use Rattle.slow_line.specs.whole_log.Whole.{joined}
+use Rattle.machine.specs.State.{State}
+use Rattle.machine.specs.Log.{lines}
+use Rattle.machine_laws.specs.Lists.{Sub}
+use Rattle.port.specs.Port.{started_in}
+use Rattle.hearing.specs.Hearing.{Kept, held_in}
+use Rattle.whole_log.specs.Whole.{joined}
 use Rattle.slow_line.specs.Slow.{Ran}
 use Rattle.two_runs.specs.TwoRuns.{Party, Start, Keeps, own, view, waiters_of}
 use Rattle.two_runs.specs.Logs.{Line, output, reads, steps, texts, joined_lines}

@@ -1,2 +1,1 @@
 pub mod Pouring
-pub use Rattle.memory.specs as memory

@@ -4,8 +4,6 @@
 ghost use Rattle.std.specs.Prelude.{◌≤◌, length};
 ghost use Rattle.pouring.specs.Pouring.{Pours};
 
-pub use memory;
-
 // The first k bytes of a line's output, at the front of the room.
 pub fn pour(text: &[u8], k: usize, out: &mut [u8])
     requires { (k ≤ length text.now) × (k ≤ length out.old) }

@@ -5,10 +5,10 @@ use mathlib.Core.Logic.{inl, inr, ◌↔◌}
 use mathlib.Core.List.{List}
 use native.Mathlib.Omega.{arith}
 use lib.Dec.{ltb, ltb→lt, nltb→le}
-use Rattle.standing.specs.machine.State.{Channel}
-use Rattle.standing.specs.machine.Choosing.{highest, stolen}
-use Rattle.standing.specs.machine.Rule.{CostsLess}
-use Rattle.standing.proofs.machine.Tests.{by_test}
+use Rattle.machine.specs.State.{Channel}
+use Rattle.machine.specs.Choosing.{highest, stolen}
+use Rattle.machine.specs.Rule.{CostsLess}
+use Rattle.machine.proofs.Tests.{by_test}
 use Rattle.pricing.specs.Pricing.{price}
 
 pub price_less : (m o : ℕ) (cs : List Channel) → stolen m cs < 256 → stolen o cs < 256 → CostsLess m o cs ↔ (price m cs < price o cs)

@@ -10,10 +10,10 @@ use native.Mathlib.Omega.{arith}
 use lib.Bits.{bit_and}
 use lib.ListN.{length, drop, get_or, drop_of_length-le}
 use lib.Seq.{drop-cons}
-use Rattle.standing.specs.machine.State.{Channel as ChannelM, is_free}
-use Rattle.standing.specs.machine.Maps.{odd, half}
-use Rattle.standing.specs.machine.Choosing.{highest, stolen}
-use Rattle.standing.proofs.channel.Turns.{half_pow}
+use Rattle.machine.specs.State.{Channel as ChannelM, is_free}
+use Rattle.machine.specs.Maps.{odd, half}
+use Rattle.machine.specs.Choosing.{highest, stolen}
+use Rattle.channel.proofs.Turns.{half_pow}
 use Rattle.standing.specs.declared.Standing.{Standing}
 use Rattle.standing.specs.Standing.{failing, Stood}
 use Rattle.standing.proofs.Masks.{failing-odd, failing-half}

@@ -6,9 +6,9 @@
 --                         the lower price is what costs less
 --   Priced m cs r         r is the price of m
 use Rattle.std.specs.Prelude.{ℕ, suc, ◌+◌, ◌*◌, ◌<◌, max, ◌≡◌, List, [], ◌∷◌, if◌then◌else◌}
-use Rattle.standing.specs.machine.State.{Channel}
-use Rattle.standing.specs.machine.Maps.{odd, half}
-use Rattle.standing.specs.machine.Choosing.{highest, stolen}
+use Rattle.machine.specs.State.{Channel}
+use Rattle.machine.specs.Maps.{odd, half}
+use Rattle.machine.specs.Choosing.{highest, stolen}
 
 unfoldable pub highest_of : ℕ → List ℕ → ℕ
 highest_of m [] = 0

@@ -2,13 +2,11 @@
 #![tactic(auto)]
 
 ghost use Rattle.std.specs.Prelude.{◌≡◌, List, max, ◌<◌};
-ghost use Rattle.standing.specs.machine.State.{Channel as ChannelM};
+ghost use Rattle.machine.specs.State.{Channel as ChannelM};
 ghost use Rattle.standing.specs.Standing.{Stood};
 ghost use Rattle.pricing.specs.Pricing.{Priced};
 
-pub use standing;
 use standing::Standing;
-pub use standing::{channel, machine, machine_laws, queue};
 
 fn raise(top: u8, prec: u8) -> u8
     ensures { result ≡ max prec top }

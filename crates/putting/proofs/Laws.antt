@@ -10,28 +10,28 @@ use lib.Dec.{T, leb→le}
 use lib.ListN.{length, take, drop, length-append, length-map}
 use lib.Seq.{take_at, length-take-le}
 use Rattle.std.specs.Prelude.{if◌then◌else◌}
-use Rattle.lent.specs.machine.State.{State as StateM}
-use Rattle.lent.specs.machine.Sound.{sound}
-use Rattle.lent.specs.machine.Log.{Fed as FedM, feed, outcome_of, unhex, frame}
-use Rattle.lent.specs.memory.Splice.{splice}
-use Rattle.lent.proofs.memory.Splice.{splice_none, splice_then, length-splice}
-use Rattle.lent.specs.board.declared.Board.{Board}
-use Rattle.lent.specs.store.Store.{table_of}
-use Rattle.lent.specs.board.Board.{struct_of, state_in, Held}
-use Rattle.lent.proofs.board.Laws.{held_parts, held_width, held_eight}
-use Rattle.taking.specs.channel_lines.ChannelLines.{board_lines, Shows}
-use Rattle.taking.proofs.channel_lines.ChannelLines.{board_few}
-use Rattle.lent.proofs.machine_laws.Sound.{ids_few}
-use Rattle.display_lines.specs.display.Display.{display_lines}
-use Rattle.lent.specs.image.Image.{state_of}
-use Rattle.display_lines.specs.waiting_list.WaitingList.{Sound as SoundBytes}
-use Rattle.display_lines.specs.record_structs.declared.Waiter.{Waiter}
-use Rattle.display_lines.specs.record_structs.RecordStructs.{waiter_of, waiters_in, Full, Tells}
+use Rattle.machine.specs.State.{State as StateM}
+use Rattle.machine.specs.Sound.{sound}
+use Rattle.machine.specs.Log.{Fed as FedM, feed, outcome_of, unhex, frame}
+use Rattle.memory.specs.Splice.{splice}
+use Rattle.memory.proofs.Splice.{splice_none, splice_then, length-splice}
+use Rattle.board.specs.declared.Board.{Board}
+use Rattle.store.specs.Store.{table_of}
+use Rattle.board.specs.Board.{struct_of, state_in, Held}
+use Rattle.board.proofs.Laws.{held_parts, held_width, held_eight}
+use Rattle.channel_lines.specs.ChannelLines.{board_lines, Shows}
+use Rattle.channel_lines.proofs.ChannelLines.{board_few}
+use Rattle.machine_laws.proofs.Sound.{ids_few}
+use Rattle.display.specs.Display.{display_lines}
+use Rattle.image.specs.Image.{state_of}
+use Rattle.waiting_list.specs.WaitingList.{Sound as SoundBytes}
+use Rattle.record_structs.specs.declared.Waiter.{Waiter}
+use Rattle.record_structs.specs.RecordStructs.{waiter_of, waiters_in, Full, Tells}
 use Rattle.display_lines.specs.DisplayLines.{display_of, Shows as ShowsDisplay}
 use Rattle.display_lines.proofs.DisplayLines.{display-lines}
-use Rattle.taking.proofs.lines.Laws.{length-told}
-use Rattle.taking.specs.gathering.Lumps.{used}
-use Rattle.taking.proofs.serving.Laws.{feed_few}
+use Rattle.lines.proofs.Laws.{length-told}
+use Rattle.gathering.specs.Lumps.{used}
+use Rattle.serving.proofs.Laws.{feed_few}
 use Rattle.taking.specs.declared.Show.{Show}
 use Rattle.taking.specs.Desk.{Taken, hidden, shown_of, fed, answered, needed, Leaves}
 use Rattle.taking.proofs.Kept.{Fine, fed_next, answered_fine, leaves-state}

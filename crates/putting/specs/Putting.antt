@@ -7,8 +7,8 @@
 --                          display dp; nothing where no line was answered
 --   Puts show t tb dp out page at r page'   that text is added to the page, and r counts it
 use Rattle.std.specs.Prelude.{ℕ, ◌+◌, ◌≡◌, List, [], ◌++◌, eqb, length, take, if◌then◌else◌}
-use Rattle.lent.specs.memory.Splice.{splice}
-use Rattle.lent.specs.board.Board.{state_in}
+use Rattle.memory.specs.Splice.{splice}
+use Rattle.board.specs.Board.{state_in}
 use Rattle.taking.specs.declared.Show.{Show}
 use Rattle.taking.specs.Desk.{Taken, shown_of}
 

@@ -2,20 +2,14 @@
 #![tactic(auto)]
 
 ghost use Rattle.std.specs.Prelude.{◌+◌, ◌≤◌, ◌≡◌, [], length, if◌then◌else◌};
-ghost use Rattle.lent.specs.board.Board.{state_in, Held};
-ghost use Rattle.taking.specs.channel_lines.ChannelLines.{board_lines};
-ghost use Rattle.display_lines.specs.display.Display.{display_lines};
-ghost use Rattle.lent.specs.image.Image.{state_of, Whole};
+ghost use Rattle.board.specs.Board.{state_in, Held};
+ghost use Rattle.channel_lines.specs.ChannelLines.{board_lines};
+ghost use Rattle.display.specs.Display.{display_lines};
+ghost use Rattle.image.specs.Image.{state_of, Whole};
 ghost use Rattle.taking.specs.Desk.{taken_in, needed};
 ghost use Rattle.putting.specs.Putting.{Adds, Puts};
 
-pub use display_lines;
-pub use display_lines::display;
-use display_lines::record_structs::{ROOM, Waiter};
-use display_lines::{decoding, record_structs};
-pub use lent::{audio, board, channel, image, machine, machine_laws, memory, store, widening};
-pub use taking;
-pub use taking::{channel_lines, encoding, gathering, serving};
+use record_structs::{ROOM, Waiter};
 use taking::{Left, Show};
 
 // The channels' lines behind the first `at` bytes of the page, where they are shown; how many bytes then stand.

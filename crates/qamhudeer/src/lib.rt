@@ -4,30 +4,21 @@
 
 ghost use Rattle.std.specs.Prelude.{◌≡◌, if◌then◌else◌};
 ghost use Rattle.qamhudeer.specs.Version.{VERSION};
-ghost use Rattle.loading2.specs.image.Image.{STATE, CHANNEL, LOCKS, WAITERS, WAITING, OPENS, LAST, CHANNELS};
-ghost use Rattle.loading2.specs.display.Display.{DISPLAY};
-ghost use Rattle.loading2.specs.sizes.Sizes.{TABLE, REPLIES, ANSWER, PORT, ROOM, RECORDS};
-ghost use Rattle.boundary.specs.handed.Handed.{request_of};
-ghost use Rattle.boundary.specs.starting.Starting.{Started};
+ghost use Rattle.image.specs.Image.{STATE, CHANNEL, LOCKS, WAITERS, WAITING, OPENS, LAST, CHANNELS};
+ghost use Rattle.display.specs.Display.{DISPLAY};
+ghost use Rattle.sizes.specs.Sizes.{TABLE, REPLIES, ANSWER, PORT, ROOM, RECORDS};
+ghost use Rattle.handed.specs.Handed.{request_of};
+ghost use Rattle.starting.specs.Starting.{Started};
 ghost use Rattle.boundary.specs.Boundary.{Crossed};
-ghost use Rattle.loading2.specs.waiting_list.WaitingList.{Tells};
-ghost use Rattle.loading2.specs.saving.Saving.{TEXT, Saves};
-ghost use Rattle.loading2.specs.loading.Loading.{Loads};
-ghost use Rattle.loading2.specs.saving2.Saving2.{TEXT2, Saves2};
+ghost use Rattle.waiting_list.specs.WaitingList.{Tells};
+ghost use Rattle.saving.specs.Saving.{TEXT, Saves};
+ghost use Rattle.loading.specs.Loading.{Loads};
+ghost use Rattle.saving2.specs.Saving2.{TEXT2, Saves2};
 ghost use Rattle.loading2.specs.Loading2.{Loads2};
 ghost use Rattle.moving.specs.Moving.{MovesNew, MovesOld};
 ghost use Rattle.fragments.specs.Fragments.{Feeds};
 ghost use Rattle.last_line.specs.LastLine.{Ends};
 ghost use Rattle.stereo.specs.Stereo.{Listed, accepts};
-
-pub use boundary;
-pub use boundary::{handed, starting};
-pub use fragments;
-pub use last_line;
-pub use loading2;
-pub use loading2::{display, image, loading, saving, saving2, sizes, waiting_list};
-pub use moving;
-pub use stereo;
 
 // ---- the version, sizes and places, for the header to be held against
 

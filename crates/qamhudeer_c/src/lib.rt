@@ -3,21 +3,21 @@
 
 ghost use Rattle.std.specs.Prelude.{◌≡◌, if◌then◌else◌};
 ghost use Rattle.qamhudeer.specs.Version.{VERSION};
-ghost use Rattle.qamhudeer.specs.image.Image.{STATE, CHANNEL, LOCKS, WAITERS, WAITING, OPENS, LAST, CHANNELS};
-ghost use Rattle.qamhudeer.specs.display.Display.{DISPLAY};
-ghost use Rattle.qamhudeer.specs.sizes.Sizes.{TABLE, REPLIES, ANSWER, PORT, ROOM, RECORDS};
-ghost use Rattle.qamhudeer.specs.handed.Handed.{request_of};
-ghost use Rattle.qamhudeer.specs.starting.Starting.{Started};
-ghost use Rattle.qamhudeer.specs.boundary.Boundary.{Crossed};
-ghost use Rattle.qamhudeer.specs.waiting_list.WaitingList.{Tells};
-ghost use Rattle.qamhudeer.specs.saving.Saving.{TEXT, Saves};
-ghost use Rattle.qamhudeer.specs.loading.Loading.{Loads};
-ghost use Rattle.qamhudeer.specs.saving2.Saving2.{TEXT2, Saves2};
-ghost use Rattle.qamhudeer.specs.loading2.Loading2.{Loads2};
-ghost use Rattle.qamhudeer.specs.moving.Moving.{MovesNew, MovesOld};
-ghost use Rattle.qamhudeer.specs.fragments.Fragments.{Feeds};
-ghost use Rattle.qamhudeer.specs.last_line.LastLine.{Ends};
-ghost use Rattle.qamhudeer.specs.stereo.Stereo.{Listed, accepts};
+ghost use Rattle.image.specs.Image.{STATE, CHANNEL, LOCKS, WAITERS, WAITING, OPENS, LAST, CHANNELS};
+ghost use Rattle.display.specs.Display.{DISPLAY};
+ghost use Rattle.sizes.specs.Sizes.{TABLE, REPLIES, ANSWER, PORT, ROOM, RECORDS};
+ghost use Rattle.handed.specs.Handed.{request_of};
+ghost use Rattle.starting.specs.Starting.{Started};
+ghost use Rattle.boundary.specs.Boundary.{Crossed};
+ghost use Rattle.waiting_list.specs.WaitingList.{Tells};
+ghost use Rattle.saving.specs.Saving.{TEXT, Saves};
+ghost use Rattle.loading.specs.Loading.{Loads};
+ghost use Rattle.saving2.specs.Saving2.{TEXT2, Saves2};
+ghost use Rattle.loading2.specs.Loading2.{Loads2};
+ghost use Rattle.moving.specs.Moving.{MovesNew, MovesOld};
+ghost use Rattle.fragments.specs.Fragments.{Feeds};
+ghost use Rattle.last_line.specs.LastLine.{Ends};
+ghost use Rattle.stereo.specs.Stereo.{Listed, accepts};
 
 // ---- the version, sizes and places, for the header to be held against
 

@@ -1,9 +1,3 @@
 // That a text of the second form reads back to its state, and to no other, is a law (proofs/) over what `saved2` and `reading` define.
 // Assumes nothing.
 #![tactic(auto)]
-
-pub use number_lines;
-pub use number_lines::{display, saved2};
-pub use read_back::{
-    board, gathering, hex_lines, machine, machine_laws, reading, saved, sheet, store,
-};

@@ -7,9 +7,9 @@ use native.Mathlib.Omega.{arith}
 use lib.Dec.{eqb}
 use lib.ListN.{length, get_or, drop}
 use Rattle.std.specs.Prelude.{if◌then◌else◌}
-use Rattle.waiting_list.specs.machine.State.{Channel, Request}
-use Rattle.waiting_list.specs.machine.Choosing.{look}
-use Rattle.waiting_list.specs.display.Display.{holds, record_of, records}
+use Rattle.machine.specs.State.{Channel, Request}
+use Rattle.machine.specs.Choosing.{look}
+use Rattle.display.specs.Display.{holds, record_of, records}
 use Rattle.record_structs.specs.declared.Waiter.{Waiter}
 use Rattle.record_structs.specs.RecordStructs.{waiter_at, waiters_from, written, waiter_of}
 

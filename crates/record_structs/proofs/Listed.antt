@@ -6,13 +6,13 @@ use native.Mathlib.Omega.{arith}
 use lib.Dec.{leb, leb→le, nleb→lt}
 use lib.ListN.{length, take, drop}
 use lib.Seq.{length-take-le}
-use Rattle.waiting_list.proofs.machine.Tests.{by_test}
-use Rattle.waiting_list.specs.display.Display.{records}
-use Rattle.waiting_list.specs.memory.Splice.{splice}
-use Rattle.waiting_list.specs.board.Board.{state_in}
-use Rattle.waiting_list.specs.image.Image.{state_of}
-use Rattle.waiting_list.specs.sizes.Sizes.{RECORDS}
-use Rattle.waiting_list.specs.records.Records.{Lists}
+use Rattle.machine.proofs.Tests.{by_test}
+use Rattle.display.specs.Display.{records}
+use Rattle.memory.specs.Splice.{splice}
+use Rattle.board.specs.Board.{state_in}
+use Rattle.image.specs.Image.{state_of}
+use Rattle.sizes.specs.Sizes.{RECORDS}
+use Rattle.records.specs.Records.{Lists}
 use Rattle.waiting_list.specs.WaitingList.{Sound, Tells as TellsBytes}
 use Rattle.waiting_list.proofs.Laws.{sound_or_not, few_listed as few_bytes}
 use Rattle.record_structs.specs.declared.Waiter.{Waiter}

@@ -1,5 +1,1 @@
 pub mod RecordStructs
-pub use Rattle.waiting_list.specs.audio as audio
-pub use Rattle.waiting_list.specs.decoding as decoding
-pub use Rattle.waiting_list.specs.display as display
-pub use Rattle.waiting_list.specs as waiting_list

@@ -13,14 +13,14 @@
 --   Takes k b                a list of k structs takes b bytes of records: all, or none
 --   Filled st tb k e n bs    the byte records bs serve a list of k structs, whatever they are
 use Rattle.std.specs.Prelude.{ℕ, zero, suc, ◌+◌, ◌*◌, ◌%◌, ◌≤◌, ◌<◌, ◌≡◌, List, [], ◌∷◌, ◌++◌, map, eqb, length, get_or, drop}
-use Rattle.waiting_list.specs.machine.Numbers.{UNSOUND, NOROOM}
-use Rattle.waiting_list.specs.machine.State.{Channel, Request, State}
-use Rattle.waiting_list.specs.machine.Desks.{desk_of}
-use Rattle.waiting_list.specs.machine.Choosing.{look}
-use Rattle.waiting_list.specs.display.Display.{holds}
-use Rattle.waiting_list.specs.board.Board.{state_in}
-use Rattle.waiting_list.specs.image.Image.{state_of}
-use Rattle.waiting_list.specs.sizes.Sizes.{RECORDS}
+use Rattle.machine.specs.Numbers.{UNSOUND, NOROOM}
+use Rattle.machine.specs.State.{Channel, Request, State}
+use Rattle.machine.specs.Desks.{desk_of}
+use Rattle.machine.specs.Choosing.{look}
+use Rattle.display.specs.Display.{holds}
+use Rattle.board.specs.Board.{state_in}
+use Rattle.image.specs.Image.{state_of}
+use Rattle.sizes.specs.Sizes.{RECORDS}
 use Rattle.waiting_list.specs.WaitingList.{Sound}
 use Rattle.record_structs.specs.declared.Waiter.{Waiter}
 

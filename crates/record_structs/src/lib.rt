@@ -6,10 +6,8 @@
 ghost use Rattle.std.specs.Prelude.{◌<◌, ◌≡◌};
 ghost use Rattle.record_structs.specs.RecordStructs.{waiter_at, Takes, Filled, Tells};
 
-pub use waiting_list;
+use store::State;
 use waiting_list::Listed;
-use waiting_list::store::State;
-pub use waiting_list::{audio, decoding, display};
 
 // Room for every request: a list that is shorter is refused.
 pub const ROOM: usize = State::REQUESTS as usize;

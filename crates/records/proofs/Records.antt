@@ -9,27 +9,27 @@ use lib.Dec.{T, leb, ltb}
 use lib.ListN.{length, take, get_or, length-append, length-map}
 use lib.Seq.{take-suc, length-take-le}
 use Rattle.std.specs.Prelude.{if◌then◌else◌}
-use Rattle.desks.specs.machine.Lists.{all}
-use Rattle.desks.specs.machine.State.{Channel, Request, State as StateM}
-use Rattle.desks.specs.machine.Sound.{sound_request}
-use Rattle.desks.specs.machine.Choosing.{Look as LookM, look}
-use Rattle.desks.proofs.machine.Tests.{and_left, and_right}
-use Rattle.display.specs.widening.Widening.{wider, small_list}
-use Rattle.display.proofs.widening.Choosing.{look_wide}
+use Rattle.machine.specs.Lists.{all}
+use Rattle.machine.specs.State.{Channel, Request, State as StateM}
+use Rattle.machine.specs.Sound.{sound_request}
+use Rattle.machine.specs.Choosing.{Look as LookM, look}
+use Rattle.machine.proofs.Tests.{and_left, and_right}
+use Rattle.widening.specs.Widening.{wider, small_list}
+use Rattle.widening.proofs.Choosing.{look_wide}
 use Rattle.display.specs.Display.{holds, record_of, records}
 use Rattle.display.proofs.Pinned.{records-length}
-use Rattle.board.specs.memory.Splice.{splice}
-use Rattle.board.proofs.memory.Splice.{splice_then, splice_none, length-splice}
-use Rattle.board.specs.queue.declared.Queue.{Queue}
-use Rattle.board.specs.queue.Queue.{list_of}
-use Rattle.waiting.specs.standing.declared.Standing.{Standing}
-use Rattle.waiting.specs.standing.Standing.{Stood}
-use Rattle.waiting.specs.choosing.declared.Look.{Look}
-use Rattle.waiting.specs.choosing.Choosing.{look_of, look_in}
-use Rattle.waiting.proofs.choosing.Laws.{look_in_of}
-use Rattle.board.specs.channel.Channel.{channel_in}
-use Rattle.waiting.specs.store.Store.{request_in, write_in}
-use Rattle.waiting.proofs.store.Store.{waiting-count}
+use Rattle.memory.specs.Splice.{splice}
+use Rattle.memory.proofs.Splice.{splice_then, splice_none, length-splice}
+use Rattle.queue.specs.declared.Queue.{Queue}
+use Rattle.queue.specs.Queue.{list_of}
+use Rattle.standing.specs.declared.Standing.{Standing}
+use Rattle.standing.specs.Standing.{Stood}
+use Rattle.choosing.specs.declared.Look.{Look}
+use Rattle.choosing.specs.Choosing.{look_of, look_in}
+use Rattle.choosing.proofs.Laws.{look_in_of}
+use Rattle.channel.specs.Channel.{channel_in}
+use Rattle.store.specs.Store.{request_in, write_in}
+use Rattle.store.proofs.Store.{waiting-count}
 use Rattle.board.specs.declared.Board.{Board}
 use Rattle.board.specs.Board.{state_in, Held}
 use Rattle.board.proofs.Laws.{held_wide, held_parts}

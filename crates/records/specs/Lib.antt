@@ -1,2 +1,1 @@
 pub mod Records
-pub use Rattle.board.specs as board

@@ -3,21 +3,19 @@
 #![tactic(auto)]
 
 ghost use Rattle.std.specs.Prelude.{◌≡◌, List, ◌+◌, ◌*◌, ◌≤◌, ◌%◌, length, if◌then◌else◌};
-ghost use Rattle.desks.specs.machine.State.{Channel as ChannelM};
+ghost use Rattle.machine.specs.State.{Channel as ChannelM};
 ghost use Rattle.display.specs.Display.{holds};
-ghost use Rattle.board.specs.memory.Splice.{splice};
-ghost use Rattle.waiting.specs.standing.Standing.{Stood};
-ghost use Rattle.waiting.specs.choosing.Choosing.{look_in};
+ghost use Rattle.memory.specs.Splice.{splice};
+ghost use Rattle.standing.specs.Standing.{Stood};
+ghost use Rattle.choosing.specs.Choosing.{look_in};
 ghost use Rattle.board.specs.Board.{Held};
 ghost use Rattle.waiting.specs.Waiting.{Readable};
 ghost use Rattle.records.specs.Records.{four_bytes, first_records, Lists};
 
-pub use board;
-use board::queue::Queue;
-use board::{Board, table};
-use waiting::choosing::Look;
-use waiting::standing::Standing;
-use waiting::{choosing, standing};
+use board::Board;
+use choosing::Look;
+use queue::Queue;
+use standing::Standing;
 
 // Held or not.
 fn mark(l: Look) -> u8

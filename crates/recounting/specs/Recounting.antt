@@ -3,9 +3,9 @@
 --
 --   counted s    the display of a state that was loaded
 use Rattle.std.specs.Prelude.{ℕ, List, ◌++◌}
-use Rattle.board.specs.machine.State.{State}
-use Rattle.board.specs.machine.InBytes.{two_bytes}
-use Rattle.correcting.specs.display.Display.{numbers}
+use Rattle.machine.specs.State.{State}
+use Rattle.machine.specs.InBytes.{two_bytes}
+use Rattle.display.specs.Display.{numbers}
 
 abbrev pub counted : State → List ℕ
 counted s = numbers s ++ two_bytes 0

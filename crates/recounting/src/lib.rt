@@ -3,20 +3,16 @@
 #![tactic(auto)]
 
 ghost use Rattle.std.specs.Prelude.{◌≡◌, map, length};
-ghost use Rattle.board.specs.queue.Queue.{list_of};
-ghost use Rattle.waiting.specs.store.Store.{request_in};
+ghost use Rattle.queue.specs.Queue.{list_of};
+ghost use Rattle.store.specs.Store.{request_in};
 ghost use Rattle.waiting.specs.Waiting.{Readable};
-ghost use Rattle.correcting.specs.lanes.Lanes.{weights};
+ghost use Rattle.lanes.specs.Lanes.{weights};
 ghost use Rattle.board.specs.Board.{state_in, Held};
 ghost use Rattle.recounting.specs.Recounting.{counted};
 
-pub use board;
-use board::queue::Queue;
-pub use board::{machine, memory};
-use board::{Board, table};
-pub use correcting::display;
-use correcting::lanes;
-use waiting::store::State;
+use board::Board;
+use queue::Queue;
+use store::State;
 
 // The words of all who wait, added up: in each lane how many name its channel.
 fn words_of(q: Queue, table: &[u8]) -> u64

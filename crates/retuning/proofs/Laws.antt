@@ -2,9 +2,9 @@
 use Prim.Native.Nat.{ℕ}
 use mathlib.Core.Path.{◌≡◌, refl}
 use mathlib.Core.Option.{Option, none, some}
-use Rattle.cycles.specs.machine.State.{Write}
-use Rattle.cycles.specs.machine.Commands.{remember_tone}
-use Rattle.cycles.specs.table.Entry.{number_bytes}
+use Rattle.machine.specs.State.{Write}
+use Rattle.machine.specs.Commands.{remember_tone}
+use Rattle.table.specs.Entry.{number_bytes}
 use Rattle.cycles.proofs.Laws.{next_is, next_id}
 use Rattle.retuning.specs.declared.Tune.{Tune}
 use Rattle.retuning.specs.declared.Tune.TheVariants.{Set, Later, Finish, Next}

@@ -1,2 +1,1 @@
 pub mod Retuning
-pub use Rattle.cycles.specs as cycles

@@ -8,8 +8,8 @@
 --   meaning how p v      the machine's function of that name, with the period p and the volume v: proofs/Laws.antt shows that the two
 --                        agree
 use Rattle.std.specs.Prelude.{ℕ, List, get_or, set}
-use Rattle.cycles.specs.machine.State.{Write}
-use Rattle.cycles.specs.machine.Commands.{set_tone, remember_tone, remember_finish}
+use Rattle.machine.specs.State.{Write}
+use Rattle.machine.specs.Commands.{set_tone, remember_tone, remember_finish}
 use Rattle.cycles.specs.Cycles.{next_in, next_of}
 use Rattle.retuning.specs.declared.Tune.{Tune}
 use Rattle.retuning.specs.declared.Tune.TheVariants.{Set, Later, Finish, Next}

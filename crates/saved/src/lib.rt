@@ -1,8 +1,3 @@
 // A state as a text that service staff carry from one board to another is a definition (specs/Saved.antt) with its laws (proofs/).
 // Assumes nothing.
 #![tactic(auto)]
-
-pub use machine_laws;
-pub use machine_laws::machine;
-pub use table;
-pub use table::memory;

@@ -3,9 +3,9 @@
 use mathlib.Core.Path.{◌≡◌, refl}
 use mathlib.Core.List.{[], ◌∷◌}
 use lib.ListN.{length}
-use Rattle.display.specs.machine.Text.{bytes, page}
-use Rattle.display.specs.machine.State.{fresh, frees, fresh_on}
-use Rattle.display.specs.machine.Machine.{machine}
+use Rattle.machine.specs.Text.{bytes, page}
+use Rattle.machine.specs.State.{fresh, frees, fresh_on}
+use Rattle.machine.specs.Machine.{machine}
 use Rattle.display.specs.Display.{names, writes_on, naming}
 use Rattle.saved.specs.Saved.{kept, channel_frame, request_frame, span_frame, write_frame, write_frames, key_frame, frames, spelt}
 use Rattle.saved.proofs.Examples.{busy}

@@ -5,9 +5,9 @@ use mathlib.Core.List.{List, [], ◌∷◌, ◌++◌, append_assoc}
 use native.Mathlib.Omega.{arith}
 use lib.Dec.{T}
 use lib.ListN.{length, length-append}
-use Rattle.display.specs.machine.State.{State}
-use Rattle.display.specs.machine.Sound.{sound}
-use Rattle.display.specs.machine.Log.{line, hex_digit}
+use Rattle.machine.specs.State.{State}
+use Rattle.machine.specs.Sound.{sound}
+use Rattle.machine.specs.Log.{line, hex_digit}
 use Rattle.saved.specs.Saved.{frames, spelt}
 use Rattle.saved.proofs.Lengths.{frames_most}
 use Rattle.saved2.specs.Saved2.{SECOND, board_frame, number_frame, number_frames, frames2, text2}

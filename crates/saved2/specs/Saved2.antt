@@ -10,8 +10,8 @@
 --   text2 s             the saved text of a state in the second form
 --   TextOf2 w s t       the text t was saved, in the second form, of the sound state s of a board with w channels
 use Rattle.std.specs.Prelude.{ℕ, zero, suc, ◌≡◌, List, [], ◌∷◌, ◌++◌, T, length}
-use Rattle.display.specs.machine.State.{State}
-use Rattle.display.specs.machine.Sound.{sound}
+use Rattle.machine.specs.State.{State}
+use Rattle.machine.specs.Sound.{sound}
 use Rattle.display.specs.Display.{writes_on, naming}
 use Rattle.saved.specs.Saved.{frames, spelt}
 

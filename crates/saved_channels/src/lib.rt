@@ -3,16 +3,14 @@
 #![tactic(auto)]
 
 ghost use Rattle.std.specs.Prelude.{◌≡◌, map, ◌+◌, ◌≤◌, length, take};
-ghost use Rattle.frame_lines.specs.machine.Log.{line};
-ghost use Rattle.frame_lines.specs.hex_lines.HexLines.{Put};
-ghost use Rattle.frame_lines.specs.waiting.Waiting.{Readable};
-ghost use Rattle.frame_lines.specs.saved.Saved.{spelt};
+ghost use Rattle.machine.specs.Log.{line};
+ghost use Rattle.hex_lines.specs.HexLines.{Put};
+ghost use Rattle.waiting.specs.Waiting.{Readable};
+ghost use Rattle.saved.specs.Saved.{spelt};
 ghost use Rattle.frame_lines.specs.FrameLines.{kept_in, channel_line, AllListed};
 
-pub use frame_lines;
-use frame_lines::channel::Channel;
-use frame_lines::queue::Queue;
-pub use frame_lines::{board, hex_lines, machine, memory, open_keys, saved};
+use channel::Channel;
+use queue::Queue;
 
 // What is remembered for the front write of a queue: the last six bytes of its numbers, and zeros where there is none.
 fn kept(q: Queue, table: &[u8]) -> [u8; 6]

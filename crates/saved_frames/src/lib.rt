@@ -3,14 +3,12 @@
 #![tactic(auto)]
 
 ghost use Rattle.std.specs.Prelude.{◌≡◌, [], ◌<◌, length};
-ghost use Rattle.channel_frames.specs.sheet.Sheet.{sheet, added_key, request_taken, open_taken, last_taken, part_taken, taken, Took, Takes};
+ghost use Rattle.sheet.specs.Sheet.{sheet, added_key, request_taken, open_taken, last_taken, part_taken, taken, Took, Takes};
 
-use channel_frames::open_keys::Keys;
-use channel_frames::sheet::Draft;
-use channel_frames::store::State;
-use channel_frames::table::Head;
-use channel_frames::{memory, table};
-pub use channel_frames::{sheet, store};
+use open_keys::Keys;
+use sheet::Draft;
+use store::State;
+use table::Head;
 
 // D2: a waiting request, behind the others.
 fn take_request(s: State, f: &[u8], table: &mut [u8]) -> State

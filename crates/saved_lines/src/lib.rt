@@ -3,16 +3,15 @@
 #![tactic(auto)]
 
 ghost use Rattle.std.specs.Prelude.{map, ◌+◌, ◌≤◌, length};
-ghost use Rattle.saved_channels.specs.machine.Log.{line};
-ghost use Rattle.saved_channels.specs.open_keys.OpenKeys.{keys_in};
-ghost use Rattle.saved_channels.specs.hex_lines.HexLines.{Put};
-ghost use Rattle.saved_channels.specs.board.Board.{state_in, Held};
-ghost use Rattle.saved_channels.specs.saved.Saved.{OPEN, key_frame, frames, spelt};
-ghost use Rattle.saved_channels.specs.frame_lines.FrameLines.{key_lines};
+ghost use Rattle.machine.specs.Log.{line};
+ghost use Rattle.open_keys.specs.OpenKeys.{keys_in};
+ghost use Rattle.hex_lines.specs.HexLines.{Put};
+ghost use Rattle.board.specs.Board.{state_in, Held};
+ghost use Rattle.saved.specs.Saved.{OPEN, key_frame, frames, spelt};
+ghost use Rattle.frame_lines.specs.FrameLines.{key_lines};
 
-use saved_channels::board::Board;
-use saved_channels::open_keys::Keys;
-pub use saved_channels::{board, frame_lines, hex_lines, machine, memory, saved};
+use board::Board;
+use open_keys::Keys;
 
 // D6 and D7: an open key, the last key.
 fn put_key(out: &mut [u8], at: usize, first: u8, key: u16) -> usize

@@ -3,7 +3,6 @@
 // to say; what is read and written is the C library's.
 #![tactic(auto)]
 
-use moving::{saving, saving2};
 use std::io::{ErrorKind, Write};
 
 const STDIN: i32 = 0;

@@ -3,13 +3,13 @@
 #![tactic(auto)]
 
 ghost use Rattle.std.specs.Prelude.{◌+◌, ◌≤◌, length, take};
-ghost use Rattle.frame_lines.specs.hex_lines.HexLines.{Put};
-ghost use Rattle.frame_lines.specs.store.Store.{Held as WideHeld};
-ghost use Rattle.frame_lines.specs.saved.Saved.{spelt};
+ghost use Rattle.hex_lines.specs.HexLines.{Put};
+ghost use Rattle.store.specs.Store.{Held as WideHeld};
+ghost use Rattle.saved.specs.Saved.{spelt};
 ghost use Rattle.frame_lines.specs.FrameLines.{writes_in, request_lines, AllListed};
 
-use frame_lines::channel::Channel;
-use frame_lines::store::State;
+use channel::Channel;
+use store::State;
 
 // The waiting requests, the locks and the WAITCYCLEs.
 pub fn put_requests(out: &mut [u8], at: usize, s: State, table: &[u8]) -> usize

@@ -10,13 +10,13 @@
 -- channels, FINISH and PERVOL remembered, open keys. The first of a form and a board is a fresh board's.
 use Prim.Native.String.{String}
 use Rattle.std.specs.Prelude.{◌≡◌, refl, List, [], ◌∷◌, ℕ}
-use Rattle.saved2.specs.machine.Text.{bytes, page}
-use Rattle.saved2.specs.machine.State.{fresh, frees, fresh_on}
-use Rattle.saved2.specs.machine.Log.{lines, run}
-use Rattle.saved2.specs.machine.Drawn.{Talk, given}
-use Rattle.saved2.specs.machine.Machine.{machine}
-use Rattle.saved2.specs.display.Display.{names, writes_on, naming}
-use Rattle.saved2.specs.saved.Saved.{text, kept, channel_frame, request_frame, span_frame, write_frame, write_frames, key_frame, frames, spelt}
+use Rattle.machine.specs.Text.{bytes, page}
+use Rattle.machine.specs.State.{fresh, frees, fresh_on}
+use Rattle.machine.specs.Log.{lines, run}
+use Rattle.machine.specs.Drawn.{Talk, given}
+use Rattle.machine.specs.Machine.{machine}
+use Rattle.display.specs.Display.{names, writes_on, naming}
+use Rattle.saved.specs.Saved.{text, kept, channel_frame, request_frame, span_frame, write_frame, write_frames, key_frame, frames, spelt}
 use Rattle.saved2.specs.Saved2.{number_frame, number_frames, frames2, text2}
 
 abbrev pub Keeps : Talk → List String → Type 0

@@ -6,21 +6,21 @@ use native.Mathlib.Omega.{arith}
 use lib.Dec.{T, T_not, eqb, eqb→eq, leb, leb→le, nleb→lt}
 use lib.ListN.{length, take, drop}
 use lib.Seq.{take_at}
-use Rattle.saved_lines.specs.memory.Splice.{splice}
-use Rattle.saved_lines.proofs.memory.Splice.{length-splice}
-use Rattle.saved_lines.specs.machine.State.{State}
-use Rattle.saved_lines.specs.machine.Log.{line, hex_digit}
-use Rattle.saved_lines.proofs.machine.Tests.{by_test}
-use Rattle.saved_lines.specs.board.declared.Board.{Board}
-use Rattle.saved_lines.specs.board.Board.{state_in, Held}
-use Rattle.saved_lines.proofs.board.Laws.{held_width}
-use Rattle.waiting_list.specs.image.Image.{state_of}
+use Rattle.memory.specs.Splice.{splice}
+use Rattle.memory.proofs.Splice.{length-splice}
+use Rattle.machine.specs.State.{State}
+use Rattle.machine.specs.Log.{line, hex_digit}
+use Rattle.machine.proofs.Tests.{by_test}
+use Rattle.board.specs.declared.Board.{Board}
+use Rattle.board.specs.Board.{state_in, Held}
+use Rattle.board.proofs.Laws.{held_width}
+use Rattle.image.specs.Image.{state_of}
 use Rattle.waiting_list.specs.WaitingList.{Sound}
 use Rattle.waiting_list.proofs.Laws.{sound_or_not}
-use Rattle.saved_lines.specs.hex_lines.HexLines.{Put}
-use Rattle.saved_lines.specs.saved.Saved.{frames, spelt, text}
-use Rattle.saved_lines.proofs.saved.Lengths.{frames_most, text_most}
-use Rattle.saved_lines.proofs.frame_lines.FrameLines.{put_then}
+use Rattle.hex_lines.specs.HexLines.{Put}
+use Rattle.saved.specs.Saved.{frames, spelt, text}
+use Rattle.saved.proofs.Lengths.{frames_most, text_most}
+use Rattle.frame_lines.proofs.FrameLines.{put_then}
 use Rattle.saving.specs.Saving.{held_by, Unwritten, Full, Saves}
 
 -- ---- the text on a page

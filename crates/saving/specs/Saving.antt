@@ -8,13 +8,13 @@
 --   Full st tb l e n l'      0, and the text of the state, with every byte behind it as before
 --   Saves st tb l e n l'     the promise of `save`: 1 comes before 10, and 10 before 12
 use Rattle.std.specs.Prelude.{ℕ, ◌≤◌, ◌<◌, ◌≡◌, List, length}
-use Rattle.saved_lines.specs.machine.Numbers.{UNSOUND, TOOSMALL}
-use Rattle.saved_lines.specs.machine.State.{State}
-use Rattle.saved_lines.specs.board.Board.{state_in}
-use Rattle.waiting_list.specs.image.Image.{state_of}
+use Rattle.machine.specs.Numbers.{UNSOUND, TOOSMALL}
+use Rattle.machine.specs.State.{State}
+use Rattle.board.specs.Board.{state_in}
+use Rattle.image.specs.Image.{state_of}
 use Rattle.waiting_list.specs.WaitingList.{Sound}
-use Rattle.saved_lines.specs.hex_lines.HexLines.{Put}
-use Rattle.saved_lines.specs.saved.Saved.{text}
+use Rattle.hex_lines.specs.HexLines.{Put}
+use Rattle.saved.specs.Saved.{text}
 
 abbrev pub TEXT : ℕ
 TEXT = 3344

@@ -3,17 +3,12 @@
 #![tactic(auto)]
 
 ghost use Rattle.std.specs.Prelude.{◌≡◌, length};
-ghost use Rattle.saved_lines.specs.hex_lines.HexLines.{Put};
-ghost use Rattle.saved_lines.specs.board.Board.{state_in, Held};
-ghost use Rattle.saved_lines.specs.saved.Saved.{text as text_of};
+ghost use Rattle.hex_lines.specs.HexLines.{Put};
+ghost use Rattle.board.specs.Board.{state_in, Held};
+ghost use Rattle.saved.specs.Saved.{text as text_of};
 ghost use Rattle.saving.specs.Saving.{TEXT, Saves};
 
-pub use saved_lines;
-use saved_lines::board::Board;
-use saved_lines::memory;
-pub use saved_lines::{board, hex_lines, saved};
-pub use waiting_list;
-pub use waiting_list::{audio, decoding, image, sizes, sound};
+use board::Board;
 
 // The refusal, or 0; how long the text is.
 #[derive(Clone, Copy)]

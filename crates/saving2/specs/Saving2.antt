@@ -7,13 +7,13 @@
 --   Agrees dp s               the bytes of a display are its size, and its numbers agree with a count over the state
 --   Saves2 st tb dp l e n l'  the promise of `save2`: 1 comes before 12
 use Rattle.std.specs.Prelude.{ℕ, ◌≤◌, ◌<◌, ◌≡◌, List, length, take}
-use Rattle.recounting.specs.machine.Numbers.{UNSOUND, TOOSMALL}
-use Rattle.recounting.specs.machine.State.{State}
-use Rattle.recounting.specs.display.Display.{NUMBERS, DISPLAY, numbers}
-use Rattle.accepting.specs.waiting_list.WaitingList.{Sound}
-use Rattle.number_lines.specs.hex_lines.HexLines.{Put}
-use Rattle.accepting.specs.saving.Saving.{held_by, Unwritten}
-use Rattle.number_lines.specs.saved2.Saved2.{text2}
+use Rattle.machine.specs.Numbers.{UNSOUND, TOOSMALL}
+use Rattle.machine.specs.State.{State}
+use Rattle.display.specs.Display.{NUMBERS, DISPLAY, numbers}
+use Rattle.waiting_list.specs.WaitingList.{Sound}
+use Rattle.hex_lines.specs.HexLines.{Put}
+use Rattle.saving.specs.Saving.{held_by, Unwritten}
+use Rattle.saved2.specs.Saved2.{text2}
 
 abbrev pub TEXT2 : ℕ
 TEXT2 = 3521

@@ -3,20 +3,14 @@
 #![tactic(auto)]
 
 ghost use Rattle.std.specs.Prelude.{◌≡◌, ◌≤◌, length, take};
-ghost use Rattle.number_lines.specs.hex_lines.HexLines.{Put};
-ghost use Rattle.accepting.specs.sound.Sound.{Decides};
-ghost use Rattle.recounting.specs.board.Board.{state_in, Held};
-ghost use Rattle.number_lines.specs.saved2.Saved2.{text2};
+ghost use Rattle.hex_lines.specs.HexLines.{Put};
+ghost use Rattle.sound.specs.Sound.{Decides};
+ghost use Rattle.board.specs.Board.{state_in, Held};
+ghost use Rattle.saved2.specs.Saved2.{text2};
 ghost use Rattle.saving2.specs.Saving2.{TEXT2, Fills, Agrees, Saves2};
 
-pub use accepting;
-use accepting::saving::Written;
-use accepting::{decoding, image, saved_lines};
-pub use accepting::{saving, sound};
-use number_lines::hex_lines;
-pub use recounting;
-use recounting::board::Board;
-use recounting::memory;
+use board::Board;
+use saving::Written;
 
 // No text of eight channels is longer.
 pub const LONGEST: usize = 3521;

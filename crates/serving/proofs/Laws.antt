@@ -6,35 +6,35 @@ use mathlib.Core.Option.{Option, none, some}
 use native.Mathlib.Omega.{arith}
 use lib.Dec.{T}
 use lib.ListN.{length, take, length-take}
-use Rattle.unheard.specs.machine.State.{State as StateM, Call as CallM}
-use Rattle.unheard.specs.machine.Sound.{sound}
-use Rattle.unheard.specs.machine.Commands.{silent}
-use Rattle.unheard.specs.machine.Call.{call}
-use Rattle.unheard.specs.machine.Log.{Fed as FedM, unhex, frame, told, reply_lines, outcome_of, feed}
-use Rattle.unheard.proofs.machine_laws.Replies.{call-replies}
-use Rattle.unheard.specs.machine.Lists.{keep}
-use Rattle.unheard.specs.machine.Desks.{replies_to, halves}
-use Rattle.unheard.proofs.machine_laws.Halves.{length-halves}
-use Rattle.unheard.specs.memory.Splice.{splice}
-use Rattle.unheard.proofs.memory.Splice.{length-splice}
-use Rattle.unheard.specs.board.declared.Board.{Board}
-use Rattle.unheard.proofs.reply.Laws.{length-encodes}
-use Rattle.unheard.specs.halves.Halves.{in_order, Ordering}
-use Rattle.unheard.specs.store.Store.{table_of}
-use Rattle.unheard.specs.board.Board.{struct_of, state_in, Held}
-use Rattle.arbiter.specs.answers.declared.Request.{Request}
-use Rattle.unheard.specs.board.declared.Outcome.{Outcome}
-use Rattle.unheard.specs.refusals.declared.Op.{Op}
-use Rattle.unheard.specs.refusals.Refusals.{asked_of}
-use Rattle.arbiter.specs.display.Display.{displayed_by}
+use Rattle.machine.specs.State.{State as StateM, Call as CallM}
+use Rattle.machine.specs.Sound.{sound}
+use Rattle.machine.specs.Commands.{silent}
+use Rattle.machine.specs.Call.{call}
+use Rattle.machine.specs.Log.{Fed as FedM, unhex, frame, told, reply_lines, outcome_of, feed}
+use Rattle.machine_laws.proofs.Replies.{call-replies}
+use Rattle.machine.specs.Lists.{keep}
+use Rattle.machine.specs.Desks.{replies_to, halves}
+use Rattle.machine_laws.proofs.Halves.{length-halves}
+use Rattle.memory.specs.Splice.{splice}
+use Rattle.memory.proofs.Splice.{length-splice}
+use Rattle.board.specs.declared.Board.{Board}
+use Rattle.reply.proofs.Laws.{length-encodes}
+use Rattle.halves.specs.Halves.{in_order, Ordering}
+use Rattle.store.specs.Store.{table_of}
+use Rattle.board.specs.Board.{struct_of, state_in, Held}
+use Rattle.answers.specs.declared.Request.{Request}
+use Rattle.board.specs.declared.Outcome.{Outcome}
+use Rattle.refusals.specs.declared.Op.{Op}
+use Rattle.refusals.specs.Refusals.{asked_of}
+use Rattle.display.specs.Display.{displayed_by}
 use Rattle.arbiter.specs.Arbiter.{Handled, Shown}
-use Rattle.unheard.specs.frames.declared.Frame.{Frame}
-use Rattle.unheard.specs.frames.declared.Line.{Line}
-use Rattle.unheard.specs.frames.declared.Line.TheVariants.{Call}
-use Rattle.unheard.specs.frames.Frames.{combos_after, Reads, Asked}
-use Rattle.unheard.proofs.frames.Laws.{asked-frame}
-use Rattle.unheard.specs.lines.Lines.{Tells}
-use Rattle.unheard.proofs.lines.Laws.{length-told, ordered_replies, tells-outcome}
+use Rattle.frames.specs.declared.Frame.{Frame}
+use Rattle.frames.specs.declared.Line.{Line}
+use Rattle.frames.specs.declared.Line.TheVariants.{Call}
+use Rattle.frames.specs.Frames.{combos_after, Reads, Asked}
+use Rattle.frames.proofs.Laws.{asked-frame}
+use Rattle.lines.specs.Lines.{Tells}
+use Rattle.lines.proofs.Laws.{length-told, ordered_replies, tells-outcome}
 use Rattle.unheard.specs.Unheard.{Fed, dull, Dull}
 use Rattle.unheard.proofs.Laws.{fed_parts}
 use Rattle.serving.specs.Serving.{Feeds, FeedsDisplay, Same}

@@ -5,12 +5,12 @@
 --   FeedsDisplay s tb l dp dp'      that of the display: dp became dp', as the line's call says; a line that is no frame leaves it
 --   Same f f₂ tb tb₂ out out₂       the same state, table and output
 use Rattle.std.specs.Prelude.{ℕ, ◌≡◌, List, length}
-use Rattle.unheard.specs.machine.Log.{unhex, frame, feed}
-use Rattle.arbiter.specs.display.Display.{displayed_by}
-use Rattle.unheard.specs.memory.Splice.{splice}
-use Rattle.unheard.specs.board.declared.Board.{Board}
-use Rattle.unheard.specs.store.Store.{table_of}
-use Rattle.unheard.specs.board.Board.{struct_of, state_in, Held}
+use Rattle.machine.specs.Log.{unhex, frame, feed}
+use Rattle.display.specs.Display.{displayed_by}
+use Rattle.memory.specs.Splice.{splice}
+use Rattle.board.specs.declared.Board.{Board}
+use Rattle.store.specs.Store.{table_of}
+use Rattle.board.specs.Board.{struct_of, state_in, Held}
 use Rattle.unheard.specs.Unheard.{Fed}
 
 pub record Feeds (s : Board) (tb l out : List ℕ) (f : Fed) (tb' out' : List ℕ) : Type 0 where

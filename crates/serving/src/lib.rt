@@ -3,18 +3,13 @@
 #![tactic(auto)]
 
 ghost use Rattle.std.specs.Prelude.{◌≤◌, length, take};
-ghost use Rattle.unheard.specs.board.Board.{Held};
-ghost use Rattle.arbiter.specs.image.Image.{state_of, Whole};
+ghost use Rattle.board.specs.Board.{Held};
+ghost use Rattle.image.specs.Image.{state_of, Whole};
 ghost use Rattle.arbiter.specs.Arbiter.{outcome_in, Handled, Shown};
 ghost use Rattle.serving.specs.Serving.{Feeds, FeedsDisplay};
 
-pub use arbiter;
 use arbiter::Answered;
-pub use arbiter::{decoding, display, encoding, image, refusing, sound};
-pub use unheard;
-use unheard::frames::{Frame, Line};
-pub use unheard::{audio, board, lines, machine, memory, store};
-use unheard::{frames, halves};
+use frames::{Frame, Line};
 
 fn serve(
     f: Frame,

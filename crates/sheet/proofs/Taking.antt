@@ -9,16 +9,16 @@ use borrow.Author.Tests.{ne_eqb, eq-eqb, le-leb, lt-ltb}
 use lib.Dec.{T, eqb, leb, ltb, eqb→eq, leb→le, ltb→lt}
 use lib.ListN.{length, get_or, take, drop, set, replicate, length-append, length-drop, length-set}
 use lib.Seq.{take_all}
-use Rattle.store.specs.memory.Splice.{splice}
-use Rattle.store.proofs.memory.Splice.{splice_then}
+use Rattle.memory.specs.Splice.{splice}
+use Rattle.memory.proofs.Splice.{splice_then}
 use Rattle.std.specs.Prelude.{if◌then◌else◌}
-use Rattle.store.specs.machine.State.{free}
-use Rattle.store.proofs.machine.Tests.{if_elim, by_test, test_true, test_false, and_left, and_right}
-use Rattle.store.specs.queue.declared.Queue.{Queue}
-use Rattle.store.specs.queue.Queue.{pushed}
-use Rattle.store.specs.open_keys.declared.Keys.{Keys}
-use Rattle.store.specs.channel.declared.Channel.{Channel}
-use Rattle.store.specs.channel.Channel.{channel_of, with_writes}
+use Rattle.machine.specs.State.{free}
+use Rattle.machine.proofs.Tests.{if_elim, by_test, test_true, test_false, and_left, and_right}
+use Rattle.queue.specs.declared.Queue.{Queue}
+use Rattle.queue.specs.Queue.{pushed}
+use Rattle.open_keys.specs.declared.Keys.{Keys}
+use Rattle.channel.specs.declared.Channel.{Channel}
+use Rattle.channel.specs.Channel.{channel_of, with_writes}
 use Rattle.store.specs.declared.State.{State}
 use Rattle.sheet.specs.declared.Draft.{Draft}
 use Rattle.sheet.specs.Sheet.{Sheet, sheet, key_of, channel_from, numbers_from, took_channel, took_request, took_lock, took_waiter, took_write, took_open, took_last, request_entry, span_of, write_of, added_key, has_channel, has_request, has_span, has_write, has_open, channel_taken, request_taken, lock_taken, waiter_taken, write_taken, open_taken, last_taken, part_taken, taken, with_channels, with_locks, with_waiters, with_waiting, with_opens, with_last, Took, Takes}

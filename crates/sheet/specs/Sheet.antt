@@ -14,15 +14,15 @@
 --   blank tb            the sheet before the first frame
 --   Took, Takes         the promises of the functions: the parts of the sheet that they make
 use Rattle.std.specs.Prelude.{ℕ, suc, ◌+◌, ◌*◌, ◌≡◌, Bool, true, false, ◌&&◌, List, [], ◌∷◌, ◌++◌, eqb, leb, ltb, length, get_or, take, drop, set, replicate, if◌then◌else◌}
-use Rattle.store.specs.memory.Splice.{splice}
-use Rattle.store.specs.machine.State.{fresh_on, free}
-use Rattle.store.specs.machine.InBytes.{signed}
-use Rattle.store.specs.queue.declared.Queue.{Queue}
-use Rattle.store.specs.queue.Queue.{queue_of, pushed}
-use Rattle.store.specs.open_keys.declared.Keys.{Keys}
-use Rattle.store.specs.channel.declared.Channel.{Channel}
-use Rattle.store.specs.channel.Channel.{channel_of, with_writes}
-use Rattle.store.specs.table.Entry.{head_bytes, padded}
+use Rattle.memory.specs.Splice.{splice}
+use Rattle.machine.specs.State.{fresh_on, free}
+use Rattle.machine.specs.InBytes.{signed}
+use Rattle.queue.specs.declared.Queue.{Queue}
+use Rattle.queue.specs.Queue.{queue_of, pushed}
+use Rattle.open_keys.specs.declared.Keys.{Keys}
+use Rattle.channel.specs.declared.Channel.{Channel}
+use Rattle.channel.specs.Channel.{channel_of, with_writes}
+use Rattle.table.specs.Entry.{head_bytes, padded}
 use Rattle.store.specs.declared.State.{State}
 use Rattle.store.specs.Store.{struct_of}
 use Rattle.sheet.specs.declared.Draft.{Draft}

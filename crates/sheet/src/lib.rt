@@ -3,9 +3,7 @@
 
 ghost use Rattle.std.specs.Prelude.{◌≡◌, ◌+◌, ◌%◌};
 
-pub use store;
 use store::State;
-pub use store::{channel, machine, memory, open_keys, queue, table};
 
 // What was read so far: the state, and how many channels. The table and what is remembered for each channel are lent beside it.
 #[derive(Clone, Copy)]

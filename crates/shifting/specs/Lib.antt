@@ -1,2 +1,1 @@
 pub mod Shifting
-pub use Rattle.memory.specs as memory

@@ -5,8 +5,6 @@ ghost use Rattle.std.specs.Prelude.{◌<◌, ◌≡◌, [], ◌∷◌, length, g
 ghost use Rattle.memory.specs.Splice.{splice};
 ghost use Rattle.shifting.specs.Shifting.{shifted};
 
-pub use memory;
-
 // A number with `more` added and `less` taken away, modulo 256.
 fn shift(b: u8, more: u8, less: u8) -> u8
     ensures { result ≡ shifted b more less }

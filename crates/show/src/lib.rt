@@ -4,9 +4,7 @@
 
 ghost use Rattle.std.specs.Prelude.{◌<◌};
 
-pub use answers;
 use answers::Answer;
-pub use answers::{open_keys, store};
 
 pub fn text(words: &[u8]) {
     io::write_all(1, words);

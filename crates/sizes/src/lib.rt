@@ -7,10 +7,6 @@ ghost use Rattle.image.specs.Image.{STATE, CHANNEL, LOCKS, WAITERS, WAITING, OPE
 ghost use Rattle.display.specs.Display.{DISPLAY};
 ghost use Rattle.sizes.specs.Sizes.{TABLE, REPLIES, ANSWER, PORT, ROOM, RECORDS};
 
-pub use display;
-pub use image;
-pub use image::{board, store};
-
 pub fn state_size() -> usize
     ensures { result ≡ STATE }
 {

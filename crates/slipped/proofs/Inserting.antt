@@ -9,22 +9,22 @@ use mathlib.Core.List.{List, [], ◌∷◌, ◌++◌}
 use native.Mathlib.Omega.{arith}
 use lib.Dec.{T, T_not, eqb, eqb→eq, eqb_refl}
 use lib.ListN.{length, replicate, take}
-use Rattle.two_runs.specs.machine.Lists.{all}
-use Rattle.two_runs.specs.machine.State.{State, Outcome, Reply, Call, Op, OPEN, CLOSE, ABORT, EVENT, COMMAND}
-use Rattle.two_runs.specs.machine.Sound.{sound, ids}
-use Rattle.two_runs.specs.machine.Numbers.{UNSOUND}
-use Rattle.two_runs.specs.machine.Refusals.{Refusal, refused, first, refusal}
-use Rattle.two_runs.specs.machine.Call.{answering, call}
-use Rattle.two_runs.proofs.machine.Tests.{and_both, and_left, and_right, by_test, test_true, test_false}
-use Rattle.two_runs.specs.machine.InBytes.{two_bytes}
-use Rattle.two_runs.specs.machine_laws.Lists.{count}
-use Rattle.two_runs.proofs.machine_laws.Counting.{count_other, count_cons, count_nil}
-use Rattle.two_runs.proofs.machine_laws.Refusals.{refuse-mute}
-use Rattle.two_runs.specs.machine_laws.Replies.{heard}
-use Rattle.two_runs.proofs.machine_laws.Replies.{own, call-counts}
-use Rattle.nothing_left.specs.display.Display.{NUMBERS, DISPLAY, blank, corrected, looks_of, displayed, Bytes}
-use Rattle.nothing_left.proofs.display.Display.{displayed-length, displayed-numbers, displayed-bytes, displayed-refused}
-use Rattle.nothing_left.specs.display.Runs.{after_calls, shown_after}
+use Rattle.machine.specs.Lists.{all}
+use Rattle.machine.specs.State.{State, Outcome, Reply, Call, Op, OPEN, CLOSE, ABORT, EVENT, COMMAND}
+use Rattle.machine.specs.Sound.{sound, ids}
+use Rattle.machine.specs.Numbers.{UNSOUND}
+use Rattle.machine.specs.Refusals.{Refusal, refused, first, refusal}
+use Rattle.machine.specs.Call.{answering, call}
+use Rattle.machine.proofs.Tests.{and_both, and_left, and_right, by_test, test_true, test_false}
+use Rattle.machine.specs.InBytes.{two_bytes}
+use Rattle.machine_laws.specs.Lists.{count}
+use Rattle.machine_laws.proofs.Counting.{count_other, count_cons, count_nil}
+use Rattle.machine_laws.proofs.Refusals.{refuse-mute}
+use Rattle.machine_laws.specs.Replies.{heard}
+use Rattle.machine_laws.proofs.Replies.{own, call-counts}
+use Rattle.display.specs.Display.{NUMBERS, DISPLAY, blank, corrected, looks_of, displayed, Bytes}
+use Rattle.display.proofs.Display.{displayed-length, displayed-numbers, displayed-bytes, displayed-refused}
+use Rattle.display.specs.Runs.{after_calls, shown_after}
 use Rattle.nothing_left.specs.Settles.{settles}
 use Rattle.nothing_left.proofs.Settles.{settles-looks}
 use Rattle.slipped.specs.Slipped.{outcomes, leaving_out, settles_one, Inserted}

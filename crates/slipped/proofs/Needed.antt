@@ -10,14 +10,14 @@ use mathlib.Core.Path.{◌≡◌, refl}
 use mathlib.Core.Bool.{Bool, true, false, not, ◌&&◌}
 use mathlib.Core.List.{List, [], ◌∷◌, map}
 use lib.Dec.{ltb}
-use Rattle.two_runs.specs.machine.Numbers.{REQUESTS}
-use Rattle.two_runs.specs.machine.Lists.{among}
-use Rattle.two_runs.specs.machine.State.{State, Call, OPEN, ABORT, EVENT, CYCLE_ENDED, COMMAND, fresh_on, frees}
-use Rattle.two_runs.specs.machine.Desks.{foreign}
-use Rattle.two_runs.specs.machine.Sound.{sound, ids}
-use Rattle.two_runs.specs.machine.Machine.{machine}
-use Rattle.two_runs.specs.machine.Walks.{asks, asks_from, unrested}
-use Rattle.nothing_left.specs.display.Runs.{after_calls}
+use Rattle.machine.specs.Numbers.{REQUESTS}
+use Rattle.machine.specs.Lists.{among}
+use Rattle.machine.specs.State.{State, Call, OPEN, ABORT, EVENT, CYCLE_ENDED, COMMAND, fresh_on, frees}
+use Rattle.machine.specs.Desks.{foreign}
+use Rattle.machine.specs.Sound.{sound, ids}
+use Rattle.machine.specs.Machine.{machine}
+use Rattle.machine.specs.Walks.{asks, asks_from, unrested}
+use Rattle.display.specs.Runs.{after_calls}
 use Rattle.nothing_left.specs.Settles.{opens, settles}
 use Rattle.nothing_left.specs.NothingLeft.{none_goes, none_fails, none_in_the_way, left}
 use Rattle.slipped.specs.Slipped.{other_command, on_no_channel, slips, outcomes, leaving_out, settles_one, slip}

@@ -8,19 +8,19 @@ use mathlib.Core.Path.{◌≡◌}
 use mathlib.Core.Bool.{not, ◌&&◌}
 use mathlib.Core.List.{List, ◌∷◌, ◌++◌}
 use lib.Dec.{T, ltb}
-use Rattle.two_runs.specs.machine.Numbers.{REQUESTS, UNSOUND}
-use Rattle.two_runs.specs.machine.Lists.{all, among}
-use Rattle.two_runs.specs.machine.State.{State, Call, Op, OPEN, CLOSE, ABORT, EVENT, COMMAND, fresh_on}
-use Rattle.two_runs.specs.machine.Desks.{foreign}
-use Rattle.two_runs.specs.machine.Commands.{matches}
-use Rattle.two_runs.specs.machine.Sound.{sound, ids}
-use Rattle.two_runs.specs.machine.Refusals.{refused, refusal}
-use Rattle.two_runs.specs.machine.Call.{call}
-use Rattle.two_runs.proofs.machine.Tests.{and_left, and_right, by_test}
-use Rattle.two_runs.proofs.machine.Known.{allocates-alone}
-use Rattle.nothing_left.specs.display.Display.{blank}
-use Rattle.nothing_left.proofs.display.Display.{refused-stays}
-use Rattle.nothing_left.specs.display.Runs.{after_calls, shown_after}
+use Rattle.machine.specs.Numbers.{REQUESTS, UNSOUND}
+use Rattle.machine.specs.Lists.{all, among}
+use Rattle.machine.specs.State.{State, Call, Op, OPEN, CLOSE, ABORT, EVENT, COMMAND, fresh_on}
+use Rattle.machine.specs.Desks.{foreign}
+use Rattle.machine.specs.Commands.{matches}
+use Rattle.machine.specs.Sound.{sound, ids}
+use Rattle.machine.specs.Refusals.{refused, refusal}
+use Rattle.machine.specs.Call.{call}
+use Rattle.machine.proofs.Tests.{and_left, and_right, by_test}
+use Rattle.machine.proofs.Known.{allocates-alone}
+use Rattle.display.specs.Display.{blank}
+use Rattle.display.proofs.Display.{refused-stays}
+use Rattle.display.specs.Runs.{after_calls, shown_after}
 use Rattle.two_runs.specs.OnNoChannel.{Harmless}
 use Rattle.two_runs.proofs.OnNoChannel.{moves-nothing}
 use Rattle.nothing_left.specs.NothingLeft.{NothingLeft}

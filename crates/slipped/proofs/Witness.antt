@@ -11,13 +11,13 @@ use mathlib.Core.Bool.{false}
 use mathlib.Core.List.{List, [], ◌∷◌, ◌++◌}
 use lib.Dec.{T}
 use lib.ListN.{take, drop, replicate}
-use Rattle.two_runs.specs.machine.State.{Call, COMMAND, fresh_on, frees}
-use Rattle.two_runs.specs.machine.Call.{call}
-use Rattle.two_runs.specs.machine.Machine.{machine}
-use Rattle.two_runs.specs.machine.Walks.{asks, reply, says}
-use Rattle.nothing_left.specs.display.Looks.{beyond, reached, look_on, looks_in, looks, acting, looks_after, looked_by, looked}
-use Rattle.nothing_left.specs.display.Display.{blank, names, writes_on, naming, number, corrected, displayed}
-use Rattle.nothing_left.specs.display.Runs.{after_calls, shown_after}
+use Rattle.machine.specs.State.{Call, COMMAND, fresh_on, frees}
+use Rattle.machine.specs.Call.{call}
+use Rattle.machine.specs.Machine.{machine}
+use Rattle.machine.specs.Walks.{asks, reply, says}
+use Rattle.display.specs.Looks.{beyond, reached, look_on, looks_in, looks, acting, looks_after, looked_by, looked}
+use Rattle.display.specs.Display.{blank, names, writes_on, naming, number, corrected, displayed}
+use Rattle.display.specs.Runs.{after_calls, shown_after}
 use Rattle.nothing_left.specs.Settles.{opens, settles}
 use Rattle.nothing_left.proofs.Witness.{run}
 use Rattle.slipped.specs.Slipped.{slips, settles_one, Inserted, slip}

@@ -5,8 +5,8 @@
 --   Row, row      a state, a command and a call behind it; the premises; what the call gets without the command, and with it
 --   Told rs       so it is of each row
 use Rattle.std.specs.Prelude.{ℕ, ◌≡◌, Bool, List, [], ◌∷◌, map}
-use Rattle.two_runs.specs.machine.State.{State, Call}
-use Rattle.two_runs.specs.machine.Call.{call}
+use Rattle.machine.specs.State.{State, Call}
+use Rattle.machine.specs.Call.{call}
 use Rattle.slipped.specs.Slipped.{outcomes}
 
 abbrev pub tells : State → List Call → List (List ℕ)

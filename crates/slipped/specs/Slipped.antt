@@ -15,15 +15,15 @@
 --   NothingSlipped         the assurance; a board of n channels, and any other calls
 --   slip                   one name that unfolds these definitions
 use Rattle.std.specs.Prelude.{ℕ, suc, ◌≤◌, ◌≡◌, Bool, false, not, ◌&&◌, ◌||◌, List, [], ◌∷◌, ◌++◌, T, eqb, ltb, length, take, drop}
-use Rattle.two_runs.specs.machine.Numbers.{REQUESTS, ADCMD_ALLOCATE}
-use Rattle.two_runs.specs.machine.Lists.{all, among}
-use Rattle.two_runs.specs.machine.State.{State, Outcome, Call, Op, OPEN, CLOSE, ABORT, EVENT, COMMAND, fresh_on}
-use Rattle.two_runs.specs.machine.Desks.{foreign}
-use Rattle.two_runs.specs.machine.Commands.{matches}
-use Rattle.two_runs.specs.machine.Sound.{ids}
-use Rattle.two_runs.specs.machine.Call.{call}
-use Rattle.nothing_left.specs.display.Display.{NUMBERS, blank}
-use Rattle.nothing_left.specs.display.Runs.{after_calls, shown_after}
+use Rattle.machine.specs.Numbers.{REQUESTS, ADCMD_ALLOCATE}
+use Rattle.machine.specs.Lists.{all, among}
+use Rattle.machine.specs.State.{State, Outcome, Call, Op, OPEN, CLOSE, ABORT, EVENT, COMMAND, fresh_on}
+use Rattle.machine.specs.Desks.{foreign}
+use Rattle.machine.specs.Commands.{matches}
+use Rattle.machine.specs.Sound.{ids}
+use Rattle.machine.specs.Call.{call}
+use Rattle.display.specs.Display.{NUMBERS, blank}
+use Rattle.display.specs.Runs.{after_calls, shown_after}
 use Rattle.nothing_left.specs.Settles.{settles}
 
 -- ---- what is inserted

@@ -5,28 +5,28 @@ use mathlib.Core.Path.{◌≡◌, refl, ap, ap₂, sym, subst, ◌∙◌}
 use mathlib.Core.List.{List, [], ◌∷◌, ◌++◌}
 use mathlib.Core.Option.{Option, none}
 use lib.ListN.{length, take}
-use Rattle.images.specs.machine.State.{Call, State as StateM, frees, fresh_on}
-use Rattle.images.specs.machine.Log.{Fed as FedM, lines, unhex, frame, feed, run, log}
-use Rattle.images.proofs.machine_laws.Sound.{parts}
-use Rattle.boundary.specs.display.Display.{blank, displayed_by}
-use Rattle.images.specs.store.Store.{table_of}
-use Rattle.images.specs.board.Board.{struct_of}
-use Rattle.images.proofs.board.Laws.{held_next}
-use Rattle.images.specs.image.Image.{image_of, state_of}
-use Rattle.images.proofs.image.Round.{image_of_state_of, state_of_image_of}
-use Rattle.fragments.proofs.digits.Laws.{long_line_malformed}
-use Rattle.fragments.specs.gathering.Lumps.{Stands}
-use Rattle.fragments.specs.unheard.Unheard.{dull, unheard}
-use Rattle.fragments.proofs.serving.Laws.{feed_malformed}
-use Rattle.whole_log.specs.taking.Desk.{hidden, log_shown}
-use Rattle.whole_log.proofs.taking.Kept.{held_fine, feed_fine}
+use Rattle.machine.specs.State.{Call, State as StateM, frees, fresh_on}
+use Rattle.machine.specs.Log.{Fed as FedM, lines, unhex, frame, feed, run, log}
+use Rattle.machine_laws.proofs.Sound.{parts}
+use Rattle.display.specs.Display.{blank, displayed_by}
+use Rattle.store.specs.Store.{table_of}
+use Rattle.board.specs.Board.{struct_of}
+use Rattle.board.proofs.Laws.{held_next}
+use Rattle.image.specs.Image.{image_of, state_of}
+use Rattle.image.proofs.Round.{image_of_state_of, state_of_image_of}
+use Rattle.digits.proofs.Laws.{long_line_malformed}
+use Rattle.gathering.specs.Lumps.{Stands}
+use Rattle.unheard.specs.Unheard.{dull, unheard}
+use Rattle.serving.proofs.Laws.{feed_malformed}
+use Rattle.taking.specs.Desk.{hidden, log_shown}
+use Rattle.taking.proofs.Kept.{held_fine, feed_fine}
 use Rattle.whole_log.specs.Whole.{joined}
 use Rattle.whole_log.proofs.Whole.{log-hidden}
-use Rattle.boundary.specs.starting.Starting.{Fits, Started}
+use Rattle.starting.specs.Starting.{Fits, Started}
 use Rattle.boundary.proofs.Crossing.{fresh-after}
-use Rattle.fragments.specs.port.Port.{started_in}
-use Rattle.fragments.specs.hearing.Hearing.{Kept, held_in, Served, Hears}
-use Rattle.fragments.proofs.hearing.Laws.{kept_or_not}
+use Rattle.port.specs.Port.{started_in}
+use Rattle.hearing.specs.Hearing.{Kept, held_in, Served, Hears}
+use Rattle.hearing.proofs.Laws.{kept_or_not}
 use Rattle.slow_line.specs.Slow.{Heard, none as no_line, more, Ran, shown_after, Came, Begun}
 use Rattle.slow_line.proofs.Whole.{begun_none, hears_whole, ran-heard}
 

@@ -8,33 +8,33 @@ use native.Mathlib.Omega.{arith}
 use lib.Dec.{T, eqb}
 use lib.ListN.{length, take, drop, replicate, length-drop, length-replicate}
 use Rattle.std.specs.Prelude.{if◌then◌else◌}
-use Rattle.images.specs.machine.Lists.{all}
-use Rattle.images.specs.machine.Log.{unhex, frame, feed}
-use Rattle.images.proofs.machine.Tests.{if_elim, and_left, and_right, and_both}
-use Rattle.images.proofs.machine_laws.Lists.{all_append}
-use Rattle.images.proofs.machine_laws.Sound.{parts}
-use Rattle.images.specs.machine.State.{Call, State as StateM}
-use Rattle.images.specs.machine.InBytes.{two_bytes}
-use Rattle.boundary.specs.display.Display.{DISPLAY, displayed_by}
-use Rattle.boundary.proofs.display.Display.{displayed-length}
-use Rattle.images.specs.memory.Splice.{splice}
-use Rattle.images.specs.store.Store.{table_of}
-use Rattle.images.specs.board.Board.{struct_of}
-use Rattle.images.specs.image.Image.{image_of, is_byte}
-use Rattle.fragments.specs.gathering.Lumps.{LINE, front, ended, used, kept, gathered_of, Gathers}
-use Rattle.fragments.specs.unheard.Unheard.{unheard}
-use Rattle.whole_log.proofs.taking.Kept.{held_fine, feed_fine}
-use Rattle.whole_log.proofs.taking.Laws.{kept_few, used_some}
+use Rattle.machine.specs.Lists.{all}
+use Rattle.machine.specs.Log.{unhex, frame, feed}
+use Rattle.machine.proofs.Tests.{if_elim, and_left, and_right, and_both}
+use Rattle.machine_laws.proofs.Lists.{all_append}
+use Rattle.machine_laws.proofs.Sound.{parts}
+use Rattle.machine.specs.State.{Call, State as StateM}
+use Rattle.machine.specs.InBytes.{two_bytes}
+use Rattle.display.specs.Display.{DISPLAY, displayed_by}
+use Rattle.display.proofs.Display.{displayed-length}
+use Rattle.memory.specs.Splice.{splice}
+use Rattle.store.specs.Store.{table_of}
+use Rattle.board.specs.Board.{struct_of}
+use Rattle.image.specs.Image.{image_of, is_byte}
+use Rattle.gathering.specs.Lumps.{LINE, front, ended, used, kept, gathered_of, Gathers}
+use Rattle.unheard.specs.Unheard.{unheard}
+use Rattle.taking.proofs.Kept.{held_fine, feed_fine}
+use Rattle.taking.proofs.Laws.{kept_few, used_some}
 use Rattle.whole_log.specs.Whole.{joined}
-use Rattle.boundary.specs.sizes.Sizes.{PORT, ROOM}
-use Rattle.fragments.specs.port.Port.{started_in, line_in, port_of}
-use Rattle.fragments.proofs.port.Laws.{started_back}
-use Rattle.fragments.specs.admitting.Admitting.{Proper}
-use Rattle.fragments.proofs.admitting.Laws.{no_refusal}
-use Rattle.fragments.specs.hearing.Hearing.{Kept, held_in, Hears}
-use Rattle.fragments.proofs.hearing.Laws.{kept_or_not}
-use Rattle.fragments.specs.telling.Telling.{Answers}
-use Rattle.fragments.proofs.telling.Laws.{is_served}
+use Rattle.sizes.specs.Sizes.{PORT, ROOM}
+use Rattle.port.specs.Port.{started_in, line_in, port_of}
+use Rattle.port.proofs.Laws.{started_back}
+use Rattle.admitting.specs.Admitting.{Proper}
+use Rattle.admitting.proofs.Laws.{no_refusal}
+use Rattle.hearing.specs.Hearing.{Kept, held_in, Hears}
+use Rattle.hearing.proofs.Laws.{kept_or_not}
+use Rattle.telling.specs.Telling.{Answers}
+use Rattle.telling.proofs.Laws.{is_served}
 use Rattle.fragments.specs.Fragments.{grown, line_with, line_fed, port_fed, Feeds}
 use Rattle.fragments.proofs.Laws.{gathered-length}
 use Rattle.last_line.specs.LastLine.{line_last, port_last, Ends}

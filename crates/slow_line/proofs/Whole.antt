@@ -9,23 +9,23 @@ use native.Mathlib.Omega.{arith}
 use borrow.Author.Tests.{eq-eqb, ne_eqb}
 use lib.Dec.{T, eqb}
 use lib.ListN.{length, take, drop, drop_of_length-le}
-use Rattle.images.specs.machine.State.{Call, State as StateM}
-use Rattle.images.specs.machine.Log.{Fed as FedM, lines, unhex, frame, feed}
-use Rattle.images.proofs.machine.Tests.{by_test, test_true, test_false}
-use Rattle.boundary.specs.display.Display.{displayed_by}
-use Rattle.images.specs.board.Board.{struct_of}
-use Rattle.images.specs.store.Store.{table_of}
-use Rattle.images.specs.image.Image.{Saved}
-use Rattle.fragments.specs.gathering.Lumps.{LINE, front, ended, used, gathered_of, Gathers, Stands}
-use Rattle.fragments.proofs.gathering.Lumps.{stands_none, stands_more, stands-frame, stands-feed, front_open, used_open, lines_none, lines_last, lines_step, lines_on}
-use Rattle.fragments.specs.unheard.Unheard.{unheard}
-use Rattle.fragments.specs.port.Port.{started_in, line_in, port_of}
-use Rattle.fragments.proofs.port.Laws.{started_back}
-use Rattle.fragments.specs.admitting.Admitting.{refusal}
-use Rattle.fragments.specs.hearing.Hearing.{held_in, Hears, Tells}
-use Rattle.fragments.proofs.hearing.Laws.{one_hearing}
-use Rattle.fragments.specs.telling.Telling.{Silent, Answers, Still, Moves}
-use Rattle.fragments.proofs.telling.Laws.{told_front, none_or_not}
+use Rattle.machine.specs.State.{Call, State as StateM}
+use Rattle.machine.specs.Log.{Fed as FedM, lines, unhex, frame, feed}
+use Rattle.machine.proofs.Tests.{by_test, test_true, test_false}
+use Rattle.display.specs.Display.{displayed_by}
+use Rattle.board.specs.Board.{struct_of}
+use Rattle.store.specs.Store.{table_of}
+use Rattle.image.specs.Image.{Saved}
+use Rattle.gathering.specs.Lumps.{LINE, front, ended, used, gathered_of, Gathers, Stands}
+use Rattle.gathering.proofs.Lumps.{stands_none, stands_more, stands-frame, stands-feed, front_open, used_open, lines_none, lines_last, lines_step, lines_on}
+use Rattle.unheard.specs.Unheard.{unheard}
+use Rattle.port.specs.Port.{started_in, line_in, port_of}
+use Rattle.port.proofs.Laws.{started_back}
+use Rattle.admitting.specs.Admitting.{refusal}
+use Rattle.hearing.specs.Hearing.{held_in, Hears, Tells}
+use Rattle.hearing.proofs.Laws.{one_hearing}
+use Rattle.telling.specs.Telling.{Silent, Answers, Still, Moves}
+use Rattle.telling.proofs.Laws.{told_front, none_or_not}
 use Rattle.fragments.specs.Fragments.{grown, line_with, line_fed, port_fed, Feeds}
 use Rattle.last_line.specs.LastLine.{line_last, port_last, Ends}
 use Rattle.whole_log.specs.Whole.{joined}

@@ -16,17 +16,17 @@
 --   Came s dp ls out st₂ tb₂ dp₂     the output and the state at the end are those that the machine's `run` gives from the state s, and
 --                                    the display is the one that its calls show
 use Rattle.std.specs.Prelude.{ℕ, ◌≡◌, List, [], ◌∷◌, ◌++◌, false, take, drop}
-use Rattle.images.specs.machine.State.{State as StateM}
-use Rattle.images.specs.machine.Log.{unhex, frame, feed, run}
-use Rattle.boundary.specs.display.Display.{displayed_by}
-use Rattle.images.specs.store.Store.{table_of}
-use Rattle.images.specs.board.Board.{struct_of}
-use Rattle.images.specs.image.Image.{image_of}
-use Rattle.fragments.specs.port.Port.{started_in, line_in}
-use Rattle.fragments.specs.hearing.Hearing.{Kept, held_in, Hears}
+use Rattle.machine.specs.State.{State as StateM}
+use Rattle.machine.specs.Log.{unhex, frame, feed, run}
+use Rattle.display.specs.Display.{displayed_by}
+use Rattle.store.specs.Store.{table_of}
+use Rattle.board.specs.Board.{struct_of}
+use Rattle.image.specs.Image.{image_of}
+use Rattle.port.specs.Port.{started_in, line_in}
+use Rattle.hearing.specs.Hearing.{Kept, held_in, Hears}
 use Rattle.fragments.specs.Fragments.{Feeds}
 use Rattle.last_line.specs.LastLine.{Ends}
-use Rattle.fragments.specs.gathering.Lumps.{ended, Stands}
+use Rattle.gathering.specs.Lumps.{ended, Stands}
 
 -- "the log taken in one"
 pub data Heard : (st tb dp : List ℕ) → List (List ℕ) → (out st₂ tb₂ dp₂ : List ℕ) → Type 0 where

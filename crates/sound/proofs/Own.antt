@@ -8,15 +8,15 @@ use native.Mathlib.Omega.{arith}
 use lib.Dec.{T, eqb, eqb→eq}
 use lib.ListN.{length, drop, take, length-drop}
 use Rattle.std.specs.Prelude.{if◌then◌else◌}
-use Rattle.board.specs.machine.Lists.{all}
-use Rattle.board.specs.machine.State.{Write, Channel as ChannelM, Request, free, is_free, frees}
-use Rattle.board.specs.machine.Sound.{sound_channel, sound_request}
-use Rattle.board.proofs.machine.Tests.{and_left, and_right, and_both, test_true, test_false}
-use Rattle.board.specs.channel.declared.Channel.{Channel}
-use Rattle.board.specs.channel.Channel.{channel_in}
-use Rattle.entries.specs.store.Store.{write_in, state_in as wide_in, Held as WideHeld}
-use Rattle.entries.proofs.store.Store.{held_parts as wide_parts}
-use Rattle.table_rest.specs.shapes.Shapes.{vacant}
+use Rattle.machine.specs.Lists.{all}
+use Rattle.machine.specs.State.{Write, Channel as ChannelM, Request, free, is_free, frees}
+use Rattle.machine.specs.Sound.{sound_channel, sound_request}
+use Rattle.machine.proofs.Tests.{and_left, and_right, and_both, test_true, test_false}
+use Rattle.channel.specs.declared.Channel.{Channel}
+use Rattle.channel.specs.Channel.{channel_in}
+use Rattle.store.specs.Store.{write_in, state_in as wide_in, Held as WideHeld}
+use Rattle.store.proofs.Store.{held_parts as wide_parts}
+use Rattle.shapes.specs.Shapes.{vacant}
 use Rattle.entries.specs.Entries.{request_test}
 use Rattle.board.specs.declared.Board.{Board}
 use Rattle.board.specs.Board.{sized, top_of, Held}

@@ -7,21 +7,21 @@ use mathlib.Core.List.{List, [], ◌∷◌, map}
 use native.Mathlib.Omega.{arith}
 use lib.Dec.{T, T_not, not_T, eqb, leb, eqb→eq, eqb_refl}
 use lib.ListN.{length, take, get_or, length-map}
-use Rattle.board.specs.memory.Splice.{block}
-use Rattle.board.specs.queue.Queue.{list_of}
-use Rattle.board.specs.channel.declared.Channel.{Channel}
-use Rattle.board.specs.channel.Channel.{channel_in}
-use Rattle.board.specs.table.Entry.{write_entry}
+use Rattle.memory.specs.Splice.{block}
+use Rattle.queue.specs.Queue.{list_of}
+use Rattle.channel.specs.declared.Channel.{Channel}
+use Rattle.channel.specs.Channel.{channel_in}
+use Rattle.table.specs.Entry.{write_entry}
 use Rattle.std.specs.Prelude.{if◌then◌else◌}
-use Rattle.board.specs.machine.Lists.{any, all, among, distinct}
-use Rattle.board.specs.machine.State.{Write}
-use Rattle.board.specs.machine.Sound.{sound_write, forgets, sound_writes, sound_channel}
-use Rattle.board.proofs.machine.Tests.{test_true, test_false, and_left, and_right, and_both, nor_left, nor_right, eqb_flip}
-use Rattle.entries.specs.store.Store.{write_item, write_in}
-use Rattle.table_rest.specs.shapes.Shapes.{blank}
+use Rattle.machine.specs.Lists.{any, all, among, distinct}
+use Rattle.machine.specs.State.{Write}
+use Rattle.machine.specs.Sound.{sound_write, forgets, sound_writes, sound_channel}
+use Rattle.machine.proofs.Tests.{test_true, test_false, and_left, and_right, and_both, nor_left, nor_right, eqb_flip}
+use Rattle.store.specs.Store.{write_item, write_in}
+use Rattle.shapes.specs.Shapes.{blank}
 use Rattle.entries.specs.Entries.{same, write_test}
 use Rattle.entries.proofs.Cases.{same_eq, same_refl}
-use Rattle.table_rest.specs.placing.Placing.{write_of}
+use Rattle.placing.specs.Placing.{write_of}
 use Rattle.sound.proofs.Entries.{Stored}
 
 -- ---- one channel: its numbers stand in the table

@@ -7,11 +7,11 @@ use native.Mathlib.Nat.{div-one}
 use native.Mathlib.Numerals.{add-one}
 use lib.ListN.{length, drop, get_or, drop_of_length-le}
 use lib.Seq.{drop-cons}
-use Rattle.shapes.specs.machine.State.{Write, Channel as ChannelM}
-use Rattle.shapes.specs.machine.Maps.{odd, named}
-use Rattle.shapes.specs.channel.declared.Channel.{Channel}
-use Rattle.shapes.specs.channel.Channel.{channel_in}
-use Rattle.shapes.proofs.channel.Turns.{half_pow}
+use Rattle.machine.specs.State.{Write, Channel as ChannelM}
+use Rattle.machine.specs.Maps.{odd, named}
+use Rattle.channel.specs.declared.Channel.{Channel}
+use Rattle.channel.specs.Channel.{channel_in}
+use Rattle.channel.proofs.Turns.{half_pow}
 
 -- ---- a test of each channel named
 

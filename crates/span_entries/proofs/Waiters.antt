@@ -9,15 +9,15 @@ use lib.Dec.{T, eqb}
 use lib.ListN.{length, get_or, take, length-map, length-take}
 use lib.Pow.{shl_exact, pow_pos}
 use Rattle.std.specs.Prelude.{if◌then◌else◌}
-use Rattle.shapes.specs.machine.State.{Write, Channel as ChannelM, Lock, free}
-use Rattle.shapes.specs.machine.Maps.{odd, half, bit, lowest, named}
-use Rattle.shapes.specs.machine.Sound.{sound_waiter}
-use Rattle.shapes.proofs.machine.Tests.{by_test, test_true, test_false, eqb_false}
-use Rattle.shapes.proofs.machine_laws.Maps.{odd-bit, half-bit, named_zero}
-use Rattle.shapes.specs.queue.Queue.{list_of}
-use Rattle.shapes.specs.channel.declared.Channel.{Channel}
-use Rattle.shapes.specs.channel.Channel.{channel_in, channel_of, lowest_from}
-use Rattle.shapes.proofs.channel.Single.{lowest_pow, lowest_none}
+use Rattle.machine.specs.State.{Write, Channel as ChannelM, Lock, free}
+use Rattle.machine.specs.Maps.{odd, half, bit, lowest, named}
+use Rattle.machine.specs.Sound.{sound_waiter}
+use Rattle.machine.proofs.Tests.{by_test, test_true, test_false, eqb_false}
+use Rattle.machine_laws.proofs.Maps.{odd-bit, half-bit, named_zero}
+use Rattle.queue.specs.Queue.{list_of}
+use Rattle.channel.specs.declared.Channel.{Channel}
+use Rattle.channel.specs.Channel.{channel_in, channel_of, lowest_from}
+use Rattle.channel.proofs.Single.{lowest_pow, lowest_none}
 use Rattle.entries.proofs.Cases.{and_off}
 
 -- the lowest bit of a map names its own channel alone

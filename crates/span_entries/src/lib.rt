@@ -2,18 +2,16 @@
 #![tactic(auto)]
 
 ghost use Rattle.std.specs.Prelude.{◌≡◌, not, ◌&&◌, map as each, ℕ, ◌<◌, eqb, length};
-ghost use Rattle.shapes.specs.memory.Splice.{block};
-ghost use Rattle.shapes.specs.queue.Queue.{list_of};
-ghost use Rattle.shapes.specs.channel.Channel.{channel_in};
-ghost use Rattle.shapes.specs.table.Entry.{span_entry};
-ghost use Rattle.shapes.specs.machine.Maps.{named};
-ghost use Rattle.shapes.specs.machine.State.{Write};
-ghost use Rattle.shapes.specs.store.Store.{lock_in};
+ghost use Rattle.memory.specs.Splice.{block};
+ghost use Rattle.queue.specs.Queue.{list_of};
+ghost use Rattle.channel.specs.Channel.{channel_in};
+ghost use Rattle.table.specs.Entry.{span_entry};
+ghost use Rattle.machine.specs.Maps.{named};
+ghost use Rattle.machine.specs.State.{Write};
+ghost use Rattle.store.specs.Store.{lock_in};
 ghost use Rattle.entries.specs.Entries.{same as same_m, lock_test, waiter_test};
 
-pub use shapes;
-use shapes::channel::Channel;
-use shapes::{channel, table};
+use channel::Channel;
 
 // Whether the entry is that of the lock, or of the WAITCYCLE, which can be read from it: `command` says which.
 fn is_span(table: &[u8], id: u8, command: u8) -> bool

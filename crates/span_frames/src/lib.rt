@@ -3,12 +3,11 @@
 #![tactic(auto)]
 
 ghost use Rattle.std.specs.Prelude.{◌≡◌, [], ◌*◌, ◌<◌, length, get_or};
-ghost use Rattle.sheet.specs.memory.Splice.{splice};
+ghost use Rattle.memory.specs.Splice.{splice};
 ghost use Rattle.sheet.specs.Sheet.{sheet, span_of, lock_taken, waiter_taken, Took};
 
-use sheet::store::State;
-use sheet::table::Head;
-use sheet::{memory, table};
+use store::State;
+use table::Head;
 
 // The entry of a lock or a WAITCYCLE.
 fn put_span(command: u8, f: &[u8], table: &mut [u8])

@@ -8,9 +8,9 @@ use native.Mathlib.Omega.{arith}
 use lib.Dec.{eqb}
 use lib.ListN.{length}
 use Rattle.std.specs.Prelude.{if◌then◌else◌}
-use Rattle.channel.specs.machine.State.{Channel, is_free}
-use Rattle.channel.specs.machine.Maps.{odd, half, bit}
-use Rattle.channel.proofs.machine_laws.Maps.{bit_of}
+use Rattle.machine.specs.State.{Channel, is_free}
+use Rattle.machine.specs.Maps.{odd, half, bit}
+use Rattle.machine_laws.proofs.Maps.{bit_of}
 use Rattle.standing.specs.declared.Standing.{Standing}
 use Rattle.standing.specs.Standing.{failing, Stood}
 

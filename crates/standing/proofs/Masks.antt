@@ -12,9 +12,9 @@ use lib.Dec.{eqb}
 use lib.ListN.{length}
 use lib.Pow.{pow_pos}
 use Rattle.std.specs.Prelude.{if◌then◌else◌}
-use Rattle.channel.specs.machine.State.{Channel}
-use Rattle.channel.specs.machine.Maps.{odd, half, bit, named}
-use Rattle.channel.proofs.machine_laws.Maps.{odd-bit, half-bit, bit_of}
+use Rattle.machine.specs.State.{Channel}
+use Rattle.machine.specs.Maps.{odd, half, bit, named}
+use Rattle.machine_laws.proofs.Maps.{odd-bit, half-bit, bit_of}
 use Rattle.standing.specs.Standing.{failing}
 
 -- ---- the bit step

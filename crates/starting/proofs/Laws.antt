@@ -3,12 +3,12 @@ use Prim.Native.Nat.{ℕ}
 use mathlib.Core.Path.{◌≡◌, refl, sym, subst, ◌∙◌}
 use mathlib.Core.List.{List}
 use lib.ListN.{length, replicate, length-replicate}
-use Rattle.encoding.specs.memory.Splice.{splice}
-use Rattle.encoding.specs.board.declared.Board.{Board}
-use Rattle.encoding.specs.board.Board.{fresh_board}
-use Rattle.encoding.proofs.board.Laws.{fresh_of}
-use Rattle.encoding.specs.image.Image.{Saved}
-use Rattle.encoding.proofs.image.Laws.{splice_whole}
+use Rattle.memory.specs.Splice.{splice}
+use Rattle.board.specs.declared.Board.{Board}
+use Rattle.board.specs.Board.{fresh_board}
+use Rattle.board.proofs.Laws.{fresh_of}
+use Rattle.image.specs.Image.{Saved}
+use Rattle.image.proofs.Laws.{splice_whole}
 use Rattle.starting.specs.Starting.{Fits, Started}
 
 module _ {w : ℕ} {st tb dp : List ℕ} where

@@ -6,10 +6,10 @@
 --   Fits w st tb dp            there is a board of w channels, and each memory has its size
 --   Started w st tb dp r st' tb' dp'   the promise of `fresh` for w channels
 use Rattle.std.specs.Prelude.{ℕ, ◌≡◌, List, T, length, replicate}
-use Rattle.encoding.specs.machine.State.{fresh_on}
-use Rattle.sizes.specs.display.Display.{DISPLAY, blank}
-use Rattle.encoding.specs.board.Board.{sized, struct_of}
-use Rattle.encoding.specs.image.Image.{STATE, Saved}
+use Rattle.machine.specs.State.{fresh_on}
+use Rattle.display.specs.Display.{DISPLAY, blank}
+use Rattle.board.specs.Board.{sized, struct_of}
+use Rattle.image.specs.Image.{STATE, Saved}
 use Rattle.sizes.specs.Sizes.{TABLE}
 
 pub record Begun (w : ℕ) (tb : List ℕ) (r : ℕ) (st' tb' dp' : List ℕ) : Type 0 where

@@ -3,11 +3,7 @@
 
 ghost use Rattle.starting.specs.Starting.{Started};
 
-use encoding::board::Board;
-use encoding::memory;
-pub use encoding::{board, image, machine, machine_laws, store, widening};
-pub use sizes;
-pub use sizes::display;
+use board::Board;
 
 // A fresh device of four or eight channels: 0. Another number of channels, or memory of another size: 1, and nothing moves.
 pub fn fresh(channels: u8, state: &mut [u8], table: &mut [u8], display: &mut [u8]) -> u8

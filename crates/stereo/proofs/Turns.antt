@@ -11,11 +11,11 @@ use lib.Dec.{T, not_T, eqb, eqb→eq}
 use lib.ListN.{length, length-append, drop, drop_of_length-le, get_or, set}
 use lib.Seq.{drop-cons}
 use Rattle.std.specs.Prelude.{if◌then◌else◌}
-use Rattle.wishes.specs.machine.Lists.{all, keep}
-use Rattle.wishes.proofs.machine.Tests.{test_true, test_false}
-use Rattle.wishes.proofs.machine_laws.Lists.{all_append, among_all}
-use Rattle.wishes.specs.memory.Splice.{splice}
-use Rattle.wishes.proofs.memory.Splice.{splice_none, splice_snoc, length-splice}
+use Rattle.machine.specs.Lists.{all, keep}
+use Rattle.machine.proofs.Tests.{test_true, test_false}
+use Rattle.machine_laws.proofs.Lists.{all_append, among_all}
+use Rattle.memory.specs.Splice.{splice}
+use Rattle.memory.proofs.Splice.{splice_none, splice_snoc, length-splice}
 use Rattle.wishes.specs.Wishes.{meets}
 use Rattle.stereo.specs.Stereo.{below, wished, refusal, count, made, Listed, Makes, times, accepts}
 use Rattle.stereo.specs.declared.Made.{Made}

@@ -4,19 +4,12 @@
 #![tactic(auto)]
 
 ghost use Rattle.std.specs.Prelude.{◌≡◌, set, ◌<◌};
-ghost use Rattle.open_keys.specs.machine.State.{fresh_on};
+ghost use Rattle.machine.specs.State.{fresh_on};
 ghost use Rattle.store.specs.Store.{struct_of};
 
-pub use channel;
 use channel::Channel;
-pub use channel::machine_laws;
-pub use open_keys;
 use open_keys::Keys;
-use open_keys::queue::Queue;
-pub use open_keys::{machine, queue};
-pub use reply;
-pub use reply::memory;
-pub use table;
+use queue::Queue;
 use table::Head;
 
 #[derive(Clone, Copy)]

@@ -3,16 +3,13 @@
 #![tactic(auto)]
 
 ghost use Rattle.std.specs.Prelude.{◌≡◌, ◌&&◌, ◌+◌, ◌-◌, ◌≤◌, ◌<◌, T, ltb, leb, length, take, drop};
-ghost use Rattle.placing.specs.memory.Splice.{block};
+ghost use Rattle.memory.specs.Splice.{block};
 ghost use Rattle.words.specs.Words.{zeros};
-ghost use Rattle.placing.specs.queue.Queue.{list_of};
-ghost use Rattle.placing.specs.machine.Lists.{all};
+ghost use Rattle.queue.specs.Queue.{list_of};
+ghost use Rattle.machine.specs.Lists.{all};
 ghost use Rattle.table_rest.specs.TableRest.{falling as falling_m, rest_idle};
 
-pub use placing;
-use placing::queue::Queue;
-pub use placing::shapes;
-use placing::table;
+use queue::Queue;
 
 // The waiting requests stand by precedence, highest first.
 pub fn falling(table: &[u8], q: Queue) -> bool

@@ -10,23 +10,23 @@ use native.Mathlib.Omega.{arith}
 use lib.Dec.{T, eqb, leb, le→leb, ltb, ltb→lt, lt→ltb}
 use lib.ListN.{length, get_or, take, drop}
 use Rattle.std.specs.Prelude.{if◌then◌else◌}
-use Rattle.gathering.specs.machine.Lists.{all}
-use Rattle.gathering.specs.machine.State.{State as StateM, Call}
-use Rattle.gathering.specs.machine.Sound.{sound}
-use Rattle.gathering.specs.machine.Commands.{silent}
-use Rattle.gathering.specs.machine.Call.{call, in_range}
-use Rattle.gathering.specs.machine.Log.{digit, joined, unhex, call_of, frame, outcome_of, feed}
-use Rattle.gathering.proofs.machine.Tests.{if_elim, and_both, and_left, and_right}
-use Rattle.channel_lines.proofs.machine_laws.Sound.{parts}
-use Rattle.channel_lines.specs.machine_laws.Keeping.{Counted}
-use Rattle.channel_lines.proofs.machine_laws.KeepingCalls.{bytes_count, call-sound}
-use Rattle.channel_lines.proofs.machine_laws.Board.{call-wide}
-use Rattle.channel_lines.specs.board.declared.Board.{Board}
-use Rattle.channel_lines.specs.store.Store.{table_of}
-use Rattle.channel_lines.specs.board.Board.{sized, struct_of, state_in, Held}
-use Rattle.channel_lines.proofs.board.Laws.{held_next}
+use Rattle.machine.specs.Lists.{all}
+use Rattle.machine.specs.State.{State as StateM, Call}
+use Rattle.machine.specs.Sound.{sound}
+use Rattle.machine.specs.Commands.{silent}
+use Rattle.machine.specs.Call.{call, in_range}
+use Rattle.machine.specs.Log.{digit, joined, unhex, call_of, frame, outcome_of, feed}
+use Rattle.machine.proofs.Tests.{if_elim, and_both, and_left, and_right}
+use Rattle.machine_laws.proofs.Sound.{parts}
+use Rattle.machine_laws.specs.Keeping.{Counted}
+use Rattle.machine_laws.proofs.KeepingCalls.{bytes_count, call-sound}
+use Rattle.machine_laws.proofs.Board.{call-wide}
+use Rattle.board.specs.declared.Board.{Board}
+use Rattle.store.specs.Store.{table_of}
+use Rattle.board.specs.Board.{sized, struct_of, state_in, Held}
+use Rattle.board.proofs.Laws.{held_next}
 use Rattle.gathering.specs.Lumps.{ended, used}
-use Rattle.gathering.proofs.digits.Laws.{Small, small-digit}
+use Rattle.digits.proofs.Laws.{Small, small-digit}
 use Rattle.taking.specs.declared.Show.{Show}
 use Rattle.taking.specs.Desk.{Taken, fed, Desk, gathered, answered, taken, fits, takes, filled, closed, finished, Leaves}
 

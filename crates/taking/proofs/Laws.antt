@@ -9,16 +9,16 @@ use borrow.Author.Tests.{eq-eqb, ne_eqb}
 use lib.Dec.{eqb}
 use lib.ListN.{length, take, length-take}
 use Rattle.std.specs.Prelude.{if◌then◌else◌}
-use Rattle.gathering.specs.machine.State.{State as StateM}
-use Rattle.gathering.specs.machine.Log.{Fed as FedM, feed}
-use Rattle.gathering.specs.memory.Splice.{splice}
-use Rattle.gathering.proofs.machine.Tests.{if_elim}
-use Rattle.channel_lines.specs.board.declared.Board.{Board}
-use Rattle.channel_lines.specs.store.Store.{table_of}
-use Rattle.channel_lines.specs.board.Board.{struct_of, state_in, Held}
+use Rattle.machine.specs.State.{State as StateM}
+use Rattle.machine.specs.Log.{Fed as FedM, feed}
+use Rattle.memory.specs.Splice.{splice}
+use Rattle.machine.proofs.Tests.{if_elim}
+use Rattle.board.specs.declared.Board.{Board}
+use Rattle.store.specs.Store.{table_of}
+use Rattle.board.specs.Board.{struct_of, state_in, Held}
 use Rattle.gathering.specs.declared.Gathered.{Gathered}
 use Rattle.gathering.specs.Lumps.{LINE, front, ended, used, kept, Gathers}
-use Rattle.serving.specs.unheard.Unheard.{Fed}
+use Rattle.unheard.specs.Unheard.{Fed}
 use Rattle.serving.specs.Serving.{Feeds, FeedsDisplay}
 use Rattle.taking.specs.declared.Show.{Show}
 use Rattle.taking.specs.Desk.{Taken, hidden, shown_of, fed, Desk, desk_of, gathered, answered, taken, closed, Leaves, Takes, Ends, Same}

@@ -28,14 +28,14 @@
 --   Same t t₂ l l₂ ..      the same is left, and the same bytes
 --   Takes, Ends            what `take` and `take_end` promise: on an empty page, and nothing shown
 use Rattle.std.specs.Prelude.{ℕ, zero, suc, ◌+◌, ◌≡◌, Bool, false, List, [], ◌∷◌, ◌++◌, eqb, leb, length, take, drop, if◌then◌else◌}
-use Rattle.gathering.specs.machine.State.{State as StateM, fresh_on}
-use Rattle.gathering.specs.machine.Log.{Fed as FedM, lines, unhex, frame, feed}
-use Rattle.serving.specs.display.Display.{blank, displayed_by, display_lines}
-use Rattle.gathering.specs.memory.Splice.{splice}
-use Rattle.channel_lines.specs.board.declared.Board.{Board}
-use Rattle.channel_lines.specs.store.Store.{table_of}
-use Rattle.channel_lines.specs.board.Board.{struct_of, state_in}
-use Rattle.serving.specs.image.Image.{state_of}
+use Rattle.machine.specs.State.{State as StateM, fresh_on}
+use Rattle.machine.specs.Log.{Fed as FedM, lines, unhex, frame, feed}
+use Rattle.display.specs.Display.{blank, displayed_by, display_lines}
+use Rattle.memory.specs.Splice.{splice}
+use Rattle.board.specs.declared.Board.{Board}
+use Rattle.store.specs.Store.{table_of}
+use Rattle.board.specs.Board.{struct_of, state_in}
+use Rattle.image.specs.Image.{state_of}
 use Rattle.channel_lines.specs.ChannelLines.{board_lines}
 use Rattle.gathering.specs.Lumps.{ended, used, kept}
 use Rattle.taking.specs.declared.Show.{Show}

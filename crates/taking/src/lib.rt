@@ -3,17 +3,11 @@
 #![tactic(auto)]
 
 ghost use Rattle.std.specs.Prelude.{◌≤◌, length, take};
-ghost use Rattle.channel_lines.specs.board.Board.{Held};
-ghost use Rattle.serving.specs.image.Image.{state_of, Whole};
+ghost use Rattle.board.specs.Board.{Held};
+ghost use Rattle.image.specs.Image.{state_of, Whole};
 ghost use Rattle.serving.specs.Serving.{Feeds, FeedsDisplay};
 ghost use Rattle.gathering.specs.Lumps.{LINE};
 ghost use Rattle.taking.specs.Desk.{taken_in, Takes, Ends};
-
-pub use channel_lines;
-pub use gathering;
-pub use serving;
-use serving::audio;
-pub use serving::{encoding, lines};
 
 // What is told behind each line's answer: the board's channels, the wall display.
 #[derive(Clone, Copy)]

@@ -10,11 +10,11 @@ use borrow.Author.Tests.{eqb-true, eqb-false}
 use lib.Dec.{eqb}
 use lib.ListN.{length, take, drop}
 use lib.Seq.{take_at}
-use Rattle.pouring.specs.memory.Splice.{splice}
-use Rattle.pouring.proofs.memory.Splice.{length-splice}
-use Rattle.admitting.specs.display.Display.{DISPLAY}
+use Rattle.memory.specs.Splice.{splice}
+use Rattle.memory.proofs.Splice.{length-splice}
+use Rattle.display.specs.Display.{DISPLAY}
 use Rattle.pouring.specs.Pouring.{Pours}
-use Rattle.admitting.specs.sizes.Sizes.{ROOM}
+use Rattle.sizes.specs.Sizes.{ROOM}
 use Rattle.admitting.specs.Admitting.{refusal, Proper}
 use Rattle.admitting.proofs.Laws.{allowed}
 use Rattle.hearing.specs.Hearing.{Hears, Tells, Same}

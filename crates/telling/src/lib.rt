@@ -5,12 +5,6 @@
 ghost use Rattle.std.specs.Prelude.{◌≡◌, ◌≤◌, length};
 ghost use Rattle.telling.specs.Telling.{Says};
 
-pub use admitting;
-pub use admitting::{digits, gathering, port, sizes};
-pub use hearing;
-pub use hearing::{serving, unheard};
-pub use pouring::memory;
-
 // The first n bytes of the line, as a line.
 pub fn answer(
     line: &[u8],

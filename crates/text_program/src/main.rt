@@ -6,10 +6,9 @@
 #![tactic(auto)]
 
 ghost use Rattle.std.specs.Prelude.{T};
-ghost use Rattle.accepting2.specs.board.Board.{sized};
+ghost use Rattle.board.specs.Board.{sized};
 
-use accepting2::accepting;
-use accepting2::board::Board;
+use board::Board;
 use std::env::Env;
 use std::io::{ErrorKind, Write};
 

@@ -9,17 +9,17 @@ use native.Mathlib.Nat.{div-one}
 use lib.Dec.{T_not, eqb, eqb→eq, eqb_refl}
 use lib.ListN.{length, drop, get_or, replicate, length-append, length-take, length-drop, length-replicate, length-set, drop_of_length-le}
 use lib.Seq.{drop-cons}
-use Rattle.numbers.specs.memory.Splice.{splice, block}
-use Rattle.numbers.proofs.memory.Splice.{length-splice, block_same, block_other}
+use Rattle.memory.specs.Splice.{splice, block}
+use Rattle.memory.proofs.Splice.{length-splice, block_same, block_other}
 use Rattle.std.specs.Prelude.{if◌then◌else◌}
-use Rattle.numbers.specs.machine.Maps.{odd, half}
-use Rattle.numbers.proofs.machine.Tests.{by_test}
-use Rattle.fronts.specs.channel.declared.Channel.{Channel}
-use Rattle.fronts.proofs.channel.Turns.{half_pow}
-use Rattle.numbers.specs.table.Entry.{head_bytes, padded, key_in, list_in}
+use Rattle.machine.specs.Maps.{odd, half}
+use Rattle.machine.proofs.Tests.{by_test}
+use Rattle.channel.specs.declared.Channel.{Channel}
+use Rattle.channel.proofs.Turns.{half_pow}
+use Rattle.table.specs.Entry.{head_bytes, padded, key_in, list_in}
 use Rattle.retuning.specs.declared.Tune.{Tune}
 use Rattle.retuning.specs.declared.Tune.TheVariants.{Set, Later, Finish, Next}
-use Rattle.retuning.proofs.cycles.Laws.{next_long}
+use Rattle.cycles.proofs.Laws.{next_long}
 use Rattle.retuning.specs.Retuning.{retuned_of}
 use Rattle.tuning.specs.Tuning.{tuned_entry, tuned_at, front_of, tune_each, Tunable}
 

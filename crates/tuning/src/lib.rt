@@ -3,22 +3,18 @@
 #![tactic(auto)]
 
 ghost use Rattle.std.specs.Prelude.{◌≡◌, ◌⊎◌, ◌<◌, length, get_or};
-ghost use Rattle.numbers.specs.memory.Splice.{block};
-ghost use Rattle.answers.specs.store.Store.{Held};
-ghost use Rattle.answers.specs.store.Work.{Ready};
+ghost use Rattle.memory.specs.Splice.{block};
+ghost use Rattle.store.specs.Store.{Held};
+ghost use Rattle.store.specs.Work.{Ready};
 ghost use Rattle.answers.specs.Answers.{Does};
 ghost use Rattle.tuning.specs.Tuning.{tuned_at, tune_each, Tunable, Tunes, tuned_of};
 
-use answers::store::State;
 use answers::{Outcome, Request};
-use fronts::channel::Channel;
-pub use fronts::queue;
-use fronts::{Front, channel};
-use numbers::table::Head;
-use numbers::{memory, table};
-pub use retuning;
+use channel::Channel;
+use fronts::Front;
 use retuning::Tune;
-pub use retuning::cycles;
+use store::State;
+use table::Head;
 
 // The write of an id.
 fn tune(table: &mut [u8], id: u8, new: [u8; Head::NUMBERS], how: Tune)

@@ -4,10 +4,10 @@ use mathlib.Core.Path.{◌≡◌, refl, ap, sym, ◌∙◌}
 use mathlib.Core.List.{List}
 use mathlib.Core.Option.{none}
 use lib.ListN.{length}
-use Rattle.answers.specs.machine.Commands.{done}
-use Rattle.answers.specs.machine.Log.{unhex, frame, answer_line}
-use Rattle.answers.specs.memory.Splice.{splice}
-use Rattle.lines.specs.board.declared.Board.{Board}
+use Rattle.machine.specs.Commands.{done}
+use Rattle.machine.specs.Log.{unhex, frame, answer_line}
+use Rattle.memory.specs.Splice.{splice}
+use Rattle.board.specs.declared.Board.{Board}
 use Rattle.answers.specs.declared.Answer.{Answer}
 use Rattle.answers.specs.Answers.{answer_of, answer_in}
 use Rattle.frames.specs.declared.Frame.{Frame}

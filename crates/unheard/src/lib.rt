@@ -2,15 +2,10 @@
 // Assumes nothing.
 #![tactic(auto)]
 
-ghost use Rattle.lines.specs.board.declared.Board.{Board};
+ghost use Rattle.board.specs.declared.Board.{Board};
 ghost use Rattle.unheard.specs.Unheard.{Dull, Unheard};
 
-pub use answers::{machine, machine_laws, memory, reply, store};
-pub use frames;
 use frames::Line;
-pub use frames::refusals;
-pub use lines;
-pub use lines::{audio, board, halves};
 
 // A line that is no frame: 7, map 0, key 0. How many bytes of output there are; the state, whatever it is, stays.
 pub fn malformed(out: &mut [u8; audio::ROOM_SIZE]) -> usize

@@ -12,19 +12,19 @@
 --   Turned ..     the promise of a turn: what the look leaves and replies; after a grant settling starts again, else it goes on at the
 --                 next place and no channel has changed; one look is done; and who left has its word in `left`
 use Rattle.std.specs.Prelude.{ℕ, suc, ◌+◌, ◌-◌, ◌≤◌, ◌<◌, ◌≡◌, Bool, true, false, List, length, take, drop}
-use Rattle.lanes.specs.machine.State.{Reply, State}
-use Rattle.lanes.specs.machine.Choosing.{Look, fails, held, grants}
-use Rattle.lanes.specs.machine.Settling.{Settled, settle}
-use Rattle.lanes.specs.machine_laws.Looking.{resume}
-use Rattle.lanes.specs.display.Looks.{looks as looks_m, further}
+use Rattle.machine.specs.State.{Reply, State}
+use Rattle.machine.specs.Choosing.{Look, fails, held, grants}
+use Rattle.machine.specs.Settling.{Settled, settle}
+use Rattle.machine_laws.specs.Looking.{resume}
+use Rattle.display.specs.Looks.{looks as looks_m, further}
 use Rattle.lanes.specs.Lanes.{weights}
-use Rattle.one_request.specs.reply.Replies.{sent}
-use Rattle.one_request.specs.choosing.declared.Look.{Look as LookC}
-use Rattle.one_request.specs.choosing.Choosing.{look_of}
-use Rattle.one_request.specs.store.declared.State.{State as Struct}
-use Rattle.one_request.specs.store.Store.{state_in, Held}
-use Rattle.one_request.specs.store.Work.{Ready, Did}
-use Rattle.one_request.specs.waiting.Waiting.{comes, waiter, look_at}
+use Rattle.reply.specs.Replies.{sent}
+use Rattle.choosing.specs.declared.Look.{Look as LookC}
+use Rattle.choosing.specs.Choosing.{look_of}
+use Rattle.store.specs.declared.State.{State as Struct}
+use Rattle.store.specs.Store.{state_in, Held}
+use Rattle.store.specs.Work.{Ready, Did}
+use Rattle.waiting.specs.Waiting.{comes, waiter, look_at}
 use Rattle.one_request.specs.OneRequest.{out_at, dropped_replies, granted_at, granted_replies, stolen, without_locks}
 use Rattle.visiting.specs.declared.Turn.{Turn}
 

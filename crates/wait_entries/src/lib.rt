@@ -2,15 +2,13 @@
 #![tactic(auto)]
 
 ghost use Rattle.std.specs.Prelude.{◌≡◌, ◌+◌, ◌≤◌, ◌<◌, ltb, length, get_or, if◌then◌else◌};
-ghost use Rattle.entries.specs.memory.Splice.{block};
-ghost use Rattle.entries.specs.table.Entry.{wait_entry};
-ghost use Rattle.entries.specs.machine.Lists.{all};
-ghost use Rattle.entries.specs.store.Store.{request_in};
+ghost use Rattle.memory.specs.Splice.{block};
+ghost use Rattle.table.specs.Entry.{wait_entry};
+ghost use Rattle.machine.specs.Lists.{all};
+ghost use Rattle.store.specs.Store.{request_in};
 ghost use Rattle.entries.specs.Entries.{same as same_m, wait_test};
 
-pub use entries;
-use entries::store::State;
-pub use entries::{channel, machine, machine_laws, memory, open_shape, queue, store, table};
+use store::State;
 
 // Whether each combination is at most the highest map.
 fn low(combos: &[u8], top: u8) -> bool

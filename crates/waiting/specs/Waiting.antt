@@ -10,10 +10,10 @@
 --   Readable q tb the entries of a queue's ids can be read
 --   Finds ..      the promise of `next`: from a place on nothing comes of the requests passed, and something of the one found
 use Rattle.std.specs.Prelude.{ℕ, ◌≤◌, ◌<◌, max, ◌≡◌, Bool, true, false, List, [], length, get_or}
-use Rattle.choosing.specs.machine.State.{Channel, Request, State}
-use Rattle.choosing.specs.machine.Choosing.{Look, fails, held, grants, look}
-use Rattle.store.specs.memory.Splice.{block}
-use Rattle.choosing.specs.queue.declared.Queue.{Queue}
+use Rattle.machine.specs.State.{Channel, Request, State}
+use Rattle.machine.specs.Choosing.{Look, fails, held, grants, look}
+use Rattle.memory.specs.Splice.{block}
+use Rattle.queue.specs.declared.Queue.{Queue}
 use Rattle.choosing.specs.declared.Look.TheVariants.{Fails}
 use Rattle.choosing.specs.Choosing.{look_of}
 use Rattle.store.specs.Store.{request_in}

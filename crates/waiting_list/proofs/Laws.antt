@@ -6,11 +6,11 @@ use mathlib.Core.List.{List}
 use native.Mathlib.Omega.{arith}
 use lib.Dec.{T_not, leb, leb→le, nleb→lt}
 use lib.ListN.{length}
-use Rattle.decoding.proofs.machine.Tests.{by_test, test_true}
+use Rattle.machine.proofs.Tests.{by_test, test_true}
 use Rattle.refusing.proofs.Laws.{false_true}
-use Rattle.records.specs.board.declared.Board.{Board}
-use Rattle.records.specs.board.Board.{Held}
-use Rattle.decoding.specs.image.Image.{state_of, is_whole, Whole}
+use Rattle.board.specs.declared.Board.{Board}
+use Rattle.board.specs.Board.{Held}
+use Rattle.image.specs.Image.{state_of, is_whole, Whole}
 use Rattle.sound.specs.Sound.{Decides, board_test}
 use Rattle.sound.proofs.Laws.{yes_T}
 use Rattle.sound.proofs.Own.{decides}

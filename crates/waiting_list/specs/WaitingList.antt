@@ -7,9 +7,9 @@
 --   Full st tb l e n l'      0, and the records of all that wait
 --   Tells st tb l e n l'     the promise of `waiting`: 1 comes before 5
 use Rattle.std.specs.Prelude.{ℕ, ◌≤◌, ◌<◌, ◌≡◌, List, length}
-use Rattle.decoding.specs.machine.Numbers.{UNSOUND, NOROOM}
-use Rattle.records.specs.board.Board.{Held}
-use Rattle.decoding.specs.image.Image.{state_of, Whole}
+use Rattle.machine.specs.Numbers.{UNSOUND, NOROOM}
+use Rattle.board.specs.Board.{Held}
+use Rattle.image.specs.Image.{state_of, Whole}
 use Rattle.sizes.specs.Sizes.{RECORDS}
 use Rattle.records.specs.Records.{Lists}
 

@@ -4,15 +4,6 @@
 
 ghost use Rattle.waiting_list.specs.WaitingList.{Tells};
 
-pub use decoding;
-pub use decoding::{image, machine, memory, store};
-pub use records;
-pub use records::board;
-pub use refusing::audio;
-pub use sizes;
-pub use sizes::display;
-pub use sound;
-
 // The refusal, or 0; how many records stand in front of the list.
 #[derive(Clone, Copy)]
 pub struct Listed {

@@ -12,29 +12,29 @@ use borrow.Author.Tests.{leb-true, le-leb, leb-false}
 use lib.Dec.{T, leb, leb→le, eqb}
 use lib.ListN.{length, take, drop, length-append, length-drop, length-map}
 use Rattle.std.specs.Prelude.{if◌then◌else◌}
-use Rattle.finishing.specs.machine.State.{State as StateM, Call}
-use Rattle.finishing.specs.machine.Log.{unhex, frame, feed}
-use Rattle.finishing.specs.display.Display.{displayed_by, display_lines}
-use Rattle.finishing.proofs.display.Display.{displayed-length}
-use Rattle.finishing.proofs.machine.Tests.{if_elim, by_test, test_true, test_false}
-use Rattle.finishing.specs.memory.Splice.{splice}
-use Rattle.finishing.proofs.memory.Splice.{length-splice}
-use Rattle.finishing.specs.channel.Channel.{channel_of}
-use Rattle.finishing.specs.board.declared.Board.{Board}
-use Rattle.finishing.specs.board.Board.{struct_of, state_in, Held}
-use Rattle.finishing.specs.machine_laws.Sound.{Parts}
-use Rattle.finishing.proofs.machine_laws.Sound.{parts, ids_few}
-use Rattle.finishing.proofs.board.Laws.{struct-eight}
-use Rattle.finishing.specs.channel_lines.ChannelLines.{board_lines}
-use Rattle.finishing.proofs.channel_lines.ChannelLines.{board_few}
-use Rattle.finishing.proofs.display_lines.DisplayLines.{display_few}
-use Rattle.finishing.specs.gathering.Lumps.{LINE, ended, used}
-use Rattle.finishing.proofs.gathering.Lumps.{used-within}
-use Rattle.finishing.proofs.serving.Laws.{feed_few}
-use Rattle.finishing.specs.taking.declared.Show.{Show}
-use Rattle.finishing.specs.taking.Desk.{Taken, shown_of, display_after, fed, Desk, desk_of, gathered, answered, taken, needed, fits, takes, filled, closed, finished, Leaves}
-use Rattle.finishing.proofs.taking.Kept.{Fine, held_fine, feed_fine, answered_fine, leaves_held}
-use Rattle.finishing.proofs.taking.Laws.{kept_few, taken-used, used_some}
+use Rattle.machine.specs.State.{State as StateM, Call}
+use Rattle.machine.specs.Log.{unhex, frame, feed}
+use Rattle.display.specs.Display.{displayed_by, display_lines}
+use Rattle.display.proofs.Display.{displayed-length}
+use Rattle.machine.proofs.Tests.{if_elim, by_test, test_true, test_false}
+use Rattle.memory.specs.Splice.{splice}
+use Rattle.memory.proofs.Splice.{length-splice}
+use Rattle.channel.specs.Channel.{channel_of}
+use Rattle.board.specs.declared.Board.{Board}
+use Rattle.board.specs.Board.{struct_of, state_in, Held}
+use Rattle.machine_laws.specs.Sound.{Parts}
+use Rattle.machine_laws.proofs.Sound.{parts, ids_few}
+use Rattle.board.proofs.Laws.{struct-eight}
+use Rattle.channel_lines.specs.ChannelLines.{board_lines}
+use Rattle.channel_lines.proofs.ChannelLines.{board_few}
+use Rattle.display_lines.proofs.DisplayLines.{display_few}
+use Rattle.gathering.specs.Lumps.{LINE, ended, used}
+use Rattle.gathering.proofs.Lumps.{used-within}
+use Rattle.serving.proofs.Laws.{feed_few}
+use Rattle.taking.specs.declared.Show.{Show}
+use Rattle.taking.specs.Desk.{Taken, shown_of, display_after, fed, Desk, desk_of, gathered, answered, taken, needed, fits, takes, filled, closed, finished, Leaves}
+use Rattle.taking.proofs.Kept.{Fine, held_fine, feed_fine, answered_fine, leaves_held}
+use Rattle.taking.proofs.Laws.{kept_few, taken-used, used_some}
 use Rattle.paging.specs.Paging.{Fills}
 use Rattle.finishing.specs.Finishing.{Finishes}
 use Rattle.paging.proofs.Laws.{takes_more}

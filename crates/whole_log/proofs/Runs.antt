@@ -8,16 +8,16 @@ use borrow.Author.Tests.{eqb-true, le-leb}
 use lib.Dec.{T, eqb}
 use lib.ListN.{length, take, drop, length-drop}
 use Rattle.std.specs.Prelude.{if◌then◌else◌}
-use Rattle.finishing.specs.machine.State.{fresh_on}
-use Rattle.finishing.specs.display.Display.{blank}
-use Rattle.finishing.proofs.machine.Tests.{if_elim, test_true}
-use Rattle.finishing.specs.board.declared.Board.{Board}
-use Rattle.finishing.specs.store.Store.{table_of}
-use Rattle.finishing.specs.board.Board.{sized, struct_of, state_in, Held}
-use Rattle.finishing.specs.gathering.Lumps.{LINE}
-use Rattle.finishing.specs.taking.declared.Show.{Show}
-use Rattle.finishing.specs.taking.Desk.{Taken, Desk, desk_of, needed, fits, filled, closed, finished, Leaves}
-use Rattle.finishing.proofs.taking.Kept.{held_fine}
+use Rattle.machine.specs.State.{fresh_on}
+use Rattle.display.specs.Display.{blank}
+use Rattle.machine.proofs.Tests.{if_elim, test_true}
+use Rattle.board.specs.declared.Board.{Board}
+use Rattle.store.specs.Store.{table_of}
+use Rattle.board.specs.Board.{sized, struct_of, state_in, Held}
+use Rattle.gathering.specs.Lumps.{LINE}
+use Rattle.taking.specs.declared.Show.{Show}
+use Rattle.taking.specs.Desk.{Taken, Desk, desk_of, needed, fits, filled, closed, finished, Leaves}
+use Rattle.taking.proofs.Kept.{held_fine}
 use Rattle.paging.specs.Paging.{Fills}
 use Rattle.finishing.specs.Finishing.{Finishes}
 use Rattle.finishing.proofs.Laws.{finished_fits}

@@ -11,23 +11,23 @@ use lib.Dec.{T, eqb}
 use lib.ListN.{length, take, drop, drop_of_length-le, length-append}
 use lib.Seq.{take_at, drop-drop, length-take-le}
 use Rattle.std.specs.Prelude.{if◌then◌else◌}
-use Rattle.finishing.specs.machine.State.{State as StateM, frees, fresh_on}
-use Rattle.finishing.specs.machine.Log.{Fed as FedM, lines, feed, run, log}
-use Rattle.finishing.specs.display.Display.{blank, displayed_by}
-use Rattle.finishing.proofs.machine.Tests.{if_elim, by_test, test_true, test_false}
-use Rattle.finishing.proofs.machine_laws.Sound.{parts}
-use Rattle.finishing.proofs.widening.Maps.{length-frees}
-use Rattle.finishing.specs.memory.Splice.{splice}
-use Rattle.finishing.specs.board.declared.Board.{Board}
-use Rattle.finishing.specs.store.Store.{table_of}
-use Rattle.finishing.specs.board.Board.{sized, struct_of, state_in, Held}
-use Rattle.finishing.proofs.board.Laws.{held_of, state_in_of, fresh-sane}
-use Rattle.finishing.specs.gathering.Lumps.{LINE, front, ended, used, kept, gathered_of, Gathers, Stands}
-use Rattle.finishing.proofs.gathering.Lumps.{stands_none, stands_more, stands-frame, stands-feed, stands-within, front_open, used_open, lines_none, lines_last, lines_step, lines_on}
-use Rattle.finishing.specs.taking.declared.Show.{Show}
-use Rattle.finishing.specs.taking.Desk.{Taken, hidden, shown_of, display_after, fed, run_shown, log_shown, Desk, desk_of, gathered, answered, taken, fits, takes, filled, closed, finished, Leaves}
-use Rattle.finishing.proofs.taking.Kept.{leaves-state}
-use Rattle.finishing.proofs.taking.Laws.{fed-hidden, taken_open, taken-ended, taken-used, closed_none, closed_some}
+use Rattle.machine.specs.State.{State as StateM, frees, fresh_on}
+use Rattle.machine.specs.Log.{Fed as FedM, lines, feed, run, log}
+use Rattle.display.specs.Display.{blank, displayed_by}
+use Rattle.machine.proofs.Tests.{if_elim, by_test, test_true, test_false}
+use Rattle.machine_laws.proofs.Sound.{parts}
+use Rattle.widening.proofs.Maps.{length-frees}
+use Rattle.memory.specs.Splice.{splice}
+use Rattle.board.specs.declared.Board.{Board}
+use Rattle.store.specs.Store.{table_of}
+use Rattle.board.specs.Board.{sized, struct_of, state_in, Held}
+use Rattle.board.proofs.Laws.{held_of, state_in_of, fresh-sane}
+use Rattle.gathering.specs.Lumps.{LINE, front, ended, used, kept, gathered_of, Gathers, Stands}
+use Rattle.gathering.proofs.Lumps.{stands_none, stands_more, stands-frame, stands-feed, stands-within, front_open, used_open, lines_none, lines_last, lines_step, lines_on}
+use Rattle.taking.specs.declared.Show.{Show}
+use Rattle.taking.specs.Desk.{Taken, hidden, shown_of, display_after, fed, run_shown, log_shown, Desk, desk_of, gathered, answered, taken, fits, takes, filled, closed, finished, Leaves}
+use Rattle.taking.proofs.Kept.{leaves-state}
+use Rattle.taking.proofs.Laws.{fed-hidden, taken_open, taken-ended, taken-used, closed_none, closed_some}
 use Rattle.paging.specs.Paging.{Fills}
 use Rattle.finishing.specs.Finishing.{Finishes}
 use Rattle.whole_log.specs.Whole.{joined, Ran, fills, used_up, finishes, writes, over, board_at, table_at, Ended}

@@ -14,14 +14,14 @@
 --   Runs show s tb dp l n page bss   there is such a run, from an empty page
 --   Ended s ls b tb              the struct b and the table tb hold the state that the machine comes to after the lines ls
 use Rattle.std.specs.Prelude.{ℕ, ◌≡◌, List, [], ◌∷◌, ◌++◌, take, drop}
-use Rattle.finishing.specs.board.declared.Board.{Board}
-use Rattle.finishing.specs.taking.declared.Show.{Show}
-use Rattle.finishing.specs.taking.Desk.{Taken}
+use Rattle.board.specs.declared.Board.{Board}
+use Rattle.taking.specs.declared.Show.{Show}
+use Rattle.taking.specs.Desk.{Taken}
 use Rattle.paging.specs.Paging.{Fills}
 use Rattle.finishing.specs.Finishing.{Finishes}
-use Rattle.finishing.specs.machine.State.{State as StateM}
-use Rattle.finishing.specs.machine.Log.{run}
-use Rattle.finishing.specs.board.Board.{state_in, Held}
+use Rattle.machine.specs.State.{State as StateM}
+use Rattle.machine.specs.Log.{run}
+use Rattle.board.specs.Board.{state_in, Held}
 
 abbrev pub joined : List (List ℕ) → List ℕ
 joined [] = []

@@ -4,9 +4,7 @@
 ghost use Rattle.std.specs.Prelude.{◌≡◌, ◌≤◌, ◌<◌};
 ghost use Rattle.wishes.specs.Wishes.{named as named_of, lefts as leftsOf, rights as rightsOf, meets as meets_of};
 
-pub use board;
 use board::Board;
-pub use board::{machine, machine_laws, memory};
 
 // 1 where the map names channel c, else 0.
 fn named(map: u8, c: u8) -> u8

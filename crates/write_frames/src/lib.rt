@@ -5,10 +5,9 @@
 ghost use Rattle.std.specs.Prelude.{◌≡◌, length};
 ghost use Rattle.sheet.specs.Sheet.{sheet, numbers_from, write_taken, Took};
 
-use sheet::queue::Queue;
-use sheet::store::State;
-use sheet::table::Head;
-use sheet::{memory, table};
+use queue::Queue;
+use store::State;
+use table::Head;
 
 // The numbers of a write: its own, and for the first of a channel what is remembered there.
 fn numbers(f: &[u8], q: Queue, kept: &[u8]) -> [u8; 12]

@@ -3,12 +3,12 @@
 --   joined r ms       the write that a request with the numbers ms makes
 --   Joins i r ms s .. the promise of `join`: the write at the back of channel i, and its entry in the table
 use Rattle.std.specs.Prelude.{ℕ, ◌*◌, ◌≡◌, List}
-use Rattle.numbers.specs.memory.Splice.{splice}
-use Rattle.numbers.specs.table.Entry.{write_entry}
-use Rattle.numbers.specs.machine.State.{Write}
+use Rattle.memory.specs.Splice.{splice}
+use Rattle.table.specs.Entry.{write_entry}
+use Rattle.machine.specs.State.{Write}
 use Rattle.numbers.specs.Numbers.{carried}
-use Rattle.answers.specs.store.declared.State.{State}
-use Rattle.answers.specs.store.Store.{struct_of, state_in}
+use Rattle.store.specs.declared.State.{State}
+use Rattle.store.specs.Store.{struct_of, state_in}
 use Rattle.answers.specs.declared.Request.{Request}
 use Rattle.play.specs.Play.{with_back}
 

@@ -1,7 +1,7 @@
 -- `blank` meets its contract: all of the table is cleared. Assumes nothing.
 use mathlib.Core.Path.{sym, ◌∙◌}
 use lib.ListN.{replicate}
-use Rattle.read_back.proofs.memory.Splice.{splice_all}
+use Rattle.memory.proofs.Splice.{splice_all}
 use Rattle.accepting.proofs.Accepting.{blank-found}
 use Rattle.accepting.proofs.blank.Goals as goal
 

@@ -8,7 +8,7 @@ use Rattle.accepting2.proofs.accept2.Statement.{statement}
 use Rattle.accepting2.proofs.accept2.Tie as tie
 use Rattle.accepting2.proofs.accept2.Reads as reads
 use Rattle.accepting2.proofs.accept2.Lts as lts
-use Rattle.saving2.proofs.accepting.blank.Reads as blank-reads
+use Rattle.accepting.proofs.blank.Reads as blank-reads
 use Rattle.accepting2.proofs.compare2.Reads as compare2_reads
 
 compare2-requires : tie.Need-compare2-requires

@@ -4,21 +4,21 @@ use native.Mathlib.Omega.{arith}
 use lib.ListN.{length, drop}
 use lib.Seq.{length-take-le}
 use borrow.Author.Tests.{not-true, not-false}
-use Rattle.saving2.proofs.saving.Laws.{page-within}
+use Rattle.saving.proofs.Laws.{page-within}
 use Rattle.saving2.proofs.Laws2.{text2_fits}
-use Rattle.saving2.proofs.accepting.Accepting.{false_true}
+use Rattle.accepting.proofs.Accepting.{false_true}
 use Rattle.accepting2.proofs.Accepting2.{took_from, too_short, unopened, unsound, compared}
 use borrow.Author.Rules.{rules}
 use Rattle.accepting2.proofs.compare2.Statement.{statement}
 use Rattle.accepting2.proofs.compare2.Tie as tie
 use Rattle.accepting2.proofs.compare2.Reads as reads
 use Rattle.accepting2.proofs.compare2.Lts as lts
-use Rattle.saving2.proofs.accepting.opens.Reads as opens-reads
-use Rattle.saving2.proofs.accepting.same.Reads as same_reads
-use Rattle.read_back2.proofs.board.Board.fresh.Reads as fresh-reads
-use Rattle.read_back2.proofs.reading.read.Reads as read_reads
+use Rattle.accepting.proofs.opens.Reads as opens-reads
+use Rattle.accepting.proofs.same.Reads as same_reads
+use Rattle.board.proofs.Board.fresh.Reads as fresh-reads
+use Rattle.reading.proofs.read.Reads as read_reads
 use Rattle.saving2.proofs.spell2.Reads as spell2_reads
-use Rattle.saving2.proofs.sound.sound.Reads as sound-reads
+use Rattle.sound.proofs.sound.Reads as sound-reads
 
 fresh-requires : tie.Need-fresh-requires
 fresh-requires c κs = search rules

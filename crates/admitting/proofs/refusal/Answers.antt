@@ -1,6 +1,6 @@
 -- `refusal` meets its contract, test by test. Assumes nothing.
 use native.Mathlib.Omega.{arith}
-use Rattle.port.proofs.image.Laws.{bytes_all}
+use Rattle.image.proofs.Laws.{bytes_all}
 use Rattle.admitting.proofs.Laws.{bad_size, bad_display, bad_count, small_room, no_refusal}
 use borrow.Author.Rules.{rules}
 use Rattle.admitting.proofs.refusal.Goals as goal

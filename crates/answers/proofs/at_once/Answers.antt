@@ -2,8 +2,8 @@
 use mathlib.Core.Path.{refl, sym}
 use native.Mathlib.Nat.{add-zero}
 use borrow.Author.Tests.{eq-eqb, ne_eqb}
-use Rattle.store.specs.machine.Numbers.{quick}
-use Rattle.store.proofs.memory.Splice.{splice_none}
+use Rattle.machine.specs.Numbers.{quick}
+use Rattle.memory.proofs.Splice.{splice_none}
 use Rattle.answers.proofs.at_once.Goals as goal
 
 pub returns-then-r-eq1 : goal.returns-then-r-eq1

@@ -1,7 +1,7 @@
 -- `keep2` meets its contract: a text of either board has room on the page. Assumes nothing.
 use mathlib.Core.Path.{sym}
 use lib.Seq.{length-take-le}
-use Rattle.beginning.proofs.saving2.Laws2.{page-within, text2_fits}
+use Rattle.saving2.proofs.Laws2.{page-within, text2_fits}
 use Rattle.arbiter_log.proofs.keep2.Goals as goal
 
 pub slice_bounds-page-end : goal.slice_bounds-page-end

@@ -8,7 +8,7 @@ use Rattle.beginning.proofs.begin.Statement.{statement}
 use Rattle.beginning.proofs.begin.Tie as tie
 use Rattle.beginning.proofs.begin.Reads as reads
 use Rattle.beginning.proofs.begin.Lts as lts
-use Rattle.carrying.proofs.board.Board.fresh.Reads as fresh-reads
+use Rattle.board.proofs.Board.fresh.Reads as fresh-reads
 use Rattle.carrying.proofs.resume.Reads as resume-reads
 use Rattle.carrying.proofs.resume2.Reads as resume2_reads
 use Rattle.io.proofs.read_full.Reads as read_full-reads

@@ -2,13 +2,13 @@
 use mathlib.Core.Path.{refl, sym, ◌∙◌}
 use borrow.Author.Tests.{not-true, not-false}
 use borrow.Author.Rules.{rules}
-use Rattle.accepting2.proofs.accepting.Accepting.{false_true}
+use Rattle.accepting.proofs.Accepting.{false_true}
 use Rattle.carrying.proofs.resume.Statement.{statement}
 use Rattle.carrying.proofs.resume.Tie as tie
 use Rattle.carrying.proofs.resume.Reads as reads
 use Rattle.carrying.proofs.resume.Lts as lts
-use Rattle.accepting2.proofs.accepting.accept.Reads as accept-reads
-use Rattle.accepting2.proofs.recounting.recount.Reads as recount_reads
+use Rattle.accepting.proofs.accept.Reads as accept-reads
+use Rattle.recounting.proofs.recount.Reads as recount_reads
 
 -- src/lib.rt:13:9
 accept-requires : tie.Need-accept-requires

@@ -2,13 +2,13 @@
 use mathlib.Core.Path.{refl, sym, ◌∙◌}
 use borrow.Author.Tests.{not-true, not-false}
 use borrow.Author.Rules.{rules}
-use Rattle.accepting2.proofs.accepting.Accepting.{false_true}
+use Rattle.accepting.proofs.Accepting.{false_true}
 use Rattle.carrying.proofs.resume2.Statement.{statement}
 use Rattle.carrying.proofs.resume2.Tie as tie
 use Rattle.carrying.proofs.resume2.Reads as reads
 use Rattle.carrying.proofs.resume2.Lts as lts
 use Rattle.accepting2.proofs.accept2.Reads as accept2_reads
-use Rattle.accepting2.proofs.recounting.recount.Reads as recount_reads
+use Rattle.recounting.proofs.recount.Reads as recount_reads
 
 accept2-requires : tie.Need-accept2-requires
 accept2-requires c κs = search rules

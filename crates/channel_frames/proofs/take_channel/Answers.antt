@@ -4,7 +4,7 @@ use Prim.Native.Nat.{◌*◌, ◌<◌}
 use mathlib.Core.Path.{◌≡◌, ap, ◌∙◌}
 use native.Mathlib.Omega.{arith}
 use lib.ListN.{length}
-use Rattle.sheet.specs.memory.Splice.{splice}
+use Rattle.memory.specs.Splice.{splice}
 use Rattle.sheet.proofs.Taking.{rest_is_drop, has_channel_lem, channel-passed, channel-took}
 use Rattle.channel_frames.proofs.take_channel.Goals as goal
 

@@ -6,7 +6,7 @@ use Prim.Native.Nat.{ℕ}
 use native.Mathlib.Omega.{arith}
 use lib.ListN.{take}
 use lib.Seq.{length-take-le}
-use Rattle.channel_numbers.specs.memory.Splice.{splice}
+use Rattle.memory.specs.Splice.{splice}
 use Rattle.channel_numbers.proofs.Laws.{length_moved}
 use Rattle.correcting.proofs.Laws.{whole_display}
 use Rattle.correcting.proofs.show.Goals as goal

@@ -3,7 +3,7 @@ use mathlib.Core.Path.{ap}
 use mathlib.Core.List.{List}
 use lib.ListN.{get_or}
 use Prim.Native.Nat.{ℕ}
-use Rattle.image.specs.open_keys.declared.Keys.{Keys}
+use Rattle.open_keys.specs.declared.Keys.{Keys}
 use Rattle.image.specs.Image.{open_at}
 use Rattle.decoding.proofs.open_at.Goals as goal
 

@@ -3,8 +3,8 @@ use Prim.Native.Nat.{◌<◌}
 use mathlib.Core.Path.{sym, ◌∙◌}
 use native.Mathlib.Omega.{arith}
 use lib.ListN.{length}
-use Rattle.locks.specs.machine.State.{free}
-use Rattle.locks.specs.channel.Channel.{channel_of}
+use Rattle.machine.specs.State.{free}
+use Rattle.channel.specs.Channel.{channel_of}
 use Rattle.dropped_writes.proofs.Turns.{in_start, in_room, in_named, in_passed, in_end, in_fits, writable_at}
 use borrow.Author.Rules.{rules}
 use Rattle.dropped_writes.proofs.abort_named.Goals.{else-names, then-names}

@@ -4,7 +4,7 @@ use mathlib.Core.Path.{◌≡◌, refl, ap, ◌∙◌}
 use native.Mathlib.Omega.{arith}
 use borrow.Author.Rules.{rules}
 use lib.ListN.{length}
-use Rattle.image.proofs.memory.Splice.{length-splice}
+use Rattle.memory.proofs.Splice.{length-splice}
 use Rattle.image.proofs.Laws.{keys_start, keys_turn, keys_all}
 use Rattle.encoding.proofs.put_keys.Goals as goal
 

@@ -1,6 +1,6 @@
 -- `same` meets its contract: what was gathered so far, and the test of the bytes left, are the test of all. Assumes nothing.
 use Prim.Native.Nat.{◌-◌}
-use Rattle.numbers.proofs.memory.Splice.{block_byte}
+use Rattle.memory.proofs.Splice.{block_byte}
 use Rattle.entries.proofs.Cases.{length-entry}
 use Rattle.entries.proofs.Turns.{alike_start, alike_more, alike_end}
 use borrow.Author.Rules.{rules}

@@ -1,6 +1,6 @@
 -- `same` meets its contract: what was gathered so far, and the test of the bytes left, are the test of all. Assumes nothing.
 use Prim.Native.Nat.{◌-◌, ◌≤◌}
-use Rattle.numbers.specs.memory.Splice.{block}
+use Rattle.memory.specs.Splice.{block}
 use Rattle.entries.proofs.Turns.{Alike}
 use Rattle.entries.proofs.same.Given as goal
 

@@ -7,9 +7,9 @@ use Rattle.finishing.proofs.finish.Statement.{statement}
 use Rattle.finishing.proofs.finish.Tie as tie
 use Rattle.finishing.proofs.finish.Reads as reads
 use Rattle.finishing.proofs.finish.Lts as lts
-use Rattle.one_line.proofs.putting.put.Reads as put_reads
+use Rattle.putting.proofs.put.Reads as put_reads
 use Rattle.one_line.proofs.room.Reads as room_reads
-use Rattle.one_line.proofs.taking.take_end.Reads as take_end_reads
+use Rattle.taking.proofs.take_end.Reads as take_end_reads
 
 room-requires : tie.Need-room-requires
 room-requires c κs = search rules

@@ -4,10 +4,10 @@ use mathlib.Core.Path.{◌≡◌, sym, ◌∙◌}
 use native.Mathlib.Omega.{arith}
 use borrow.Author.Tests.{not-true, not-false}
 use lib.ListN.{length}
-use Rattle.telling.specs.gathering.Lumps.{LINE}
-use Rattle.telling.specs.sizes.Sizes.{ROOM}
-use Rattle.telling.specs.admitting.Admitting.{Proper}
-use Rattle.telling.proofs.admitting.Laws.{allowed}
+use Rattle.gathering.specs.Lumps.{LINE}
+use Rattle.sizes.specs.Sizes.{ROOM}
+use Rattle.admitting.specs.Admitting.{Proper}
+use Rattle.admitting.proofs.Laws.{allowed}
 use Rattle.telling.proofs.Laws.{is_refused, is_served}
 use Rattle.fragments.proofs.Laws.{open_moves, ended-moves, gathered-within, gathered-length, gathered-used, open_used}
 use borrow.Author.Rules.{rules}

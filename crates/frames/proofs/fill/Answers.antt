@@ -2,7 +2,7 @@
 -- Assumes nothing.
 use mathlib.Core.Path.{◌≡◌, sym, ◌∙◌}
 use native.Mathlib.Omega.{arith}
-use Rattle.answers.proofs.memory.Splice.{splice_none}
+use Rattle.memory.proofs.Splice.{splice_none}
 use Rattle.frames.proofs.Laws.{filled-length, filled_turn, filled_all}
 use Rattle.frames.proofs.fill.Goals as goal
 

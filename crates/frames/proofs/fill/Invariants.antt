@@ -3,7 +3,7 @@
 use Prim.Native.Nat.{◌-◌, ◌≤◌}
 use mathlib.Core.Path.{◌≡◌}
 use lib.ListN.{take, drop}
-use Rattle.answers.specs.memory.Splice.{splice}
+use Rattle.memory.specs.Splice.{splice}
 use Rattle.digits.specs.Digits.{pairs}
 use Rattle.frames.proofs.fill.Given as goal
 

@@ -4,8 +4,8 @@ use mathlib.Core.List.{List}
 use mathlib.Core.Path.{◌≡◌, refl, sym, ap, ◌∙◌}
 use native.Mathlib.Omega.{arith}
 use lib.ListN.{length}
-use Rattle.reply.specs.memory.Splice.{splice}
-use Rattle.reply.proofs.memory.Splice.{splice_none}
+use Rattle.memory.specs.Splice.{splice}
+use Rattle.memory.proofs.Splice.{splice_none}
 use Rattle.halves.specs.Halves.{one, picked}
 use Rattle.halves.proofs.Laws.{length_more, picked_grows, room_left, turn}
 use Rattle.halves.proofs.fill.Goals as goal

@@ -2,7 +2,7 @@
 use Prim.Native.Nat.{◌≤◌, ◌-◌, ◌*◌}
 use mathlib.Core.Path.{◌≡◌}
 use lib.ListN.{length}
-use Rattle.reply.specs.memory.Splice.{splice}
+use Rattle.memory.specs.Splice.{splice}
 use Rattle.halves.specs.Halves.{picked}
 use Rattle.halves.proofs.fill.Given as goal
 

@@ -3,9 +3,9 @@ use Prim.Native.Nat.{◌≤◌}
 use mathlib.Core.Path.{◌≡◌, refl, ap, sym, ◌∙◌}
 use native.Mathlib.Omega.{arith}
 use lib.ListN.{length, length-drop}
-use Rattle.telling.specs.sizes.Sizes.{ROOM}
-use Rattle.telling.specs.admitting.Admitting.{Proper}
-use Rattle.telling.proofs.admitting.Laws.{allowed}
+use Rattle.sizes.specs.Sizes.{ROOM}
+use Rattle.admitting.specs.Admitting.{Proper}
+use Rattle.admitting.proofs.Laws.{allowed}
 use Rattle.telling.proofs.Laws.{is_refused, is_served}
 use Rattle.last_line.proofs.Laws.{none_moves, last_moves}
 use borrow.Author.Rules.{rules}

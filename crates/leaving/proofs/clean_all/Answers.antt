@@ -4,7 +4,7 @@ use mathlib.Core.Path.{refl, ◌∙◌}
 use native.Mathlib.Numerals.{add-one}
 use native.Mathlib.Omega.{arith}
 use lib.ListN.{length, length-set}
-use Rattle.granting.specs.channel.declared.Channel.{Channel}
+use Rattle.channel.specs.declared.Channel.{Channel}
 use Rattle.leaving.specs.Leaving.{Tidy}
 use Rattle.leaving.proofs.Queues.{each_at, each_more, done_more, done_end}
 use borrow.Author.Rules.{rules}

@@ -3,8 +3,8 @@ use Prim.Native.Nat.{◌≤◌, ◌-◌}
 use mathlib.Core.Path.{◌≡◌}
 use mathlib.Core.List.{map}
 use lib.ListN.{length, drop}
-use Rattle.granting.specs.channel.declared.Channel.{Channel}
-use Rattle.granting.specs.store.Store.{Each}
+use Rattle.channel.specs.declared.Channel.{Channel}
+use Rattle.store.specs.Store.{Each}
 use Rattle.leaving.specs.Leaving.{Tidy, cleaned}
 use Rattle.leaving.proofs.Queues.{done_to}
 use Rattle.leaving.proofs.clean_all.Given as goal

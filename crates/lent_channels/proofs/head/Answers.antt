@@ -1,6 +1,6 @@
 -- `head` meets its contract: six bytes of channel i. Assumes nothing.
 use mathlib.Core.Path.{ap, sym}
-use Rattle.lent.specs.image.Image.{channel_at, queue_at}
+use Rattle.image.specs.Image.{channel_at, queue_at}
 use Rattle.lent_channels.specs.Heads.{head_in}
 use Rattle.lent.proofs.Puts.{channel_read}
 use Rattle.lent_channels.proofs.head.Goals as goal

@@ -1,7 +1,7 @@
 -- `key` meets its contract: the key of channel i stands there. Assumes nothing.
 use mathlib.Core.Path.{ap, sym, ◌∙◌}
-use Rattle.lent.specs.channel.declared.Channel.{Channel}
-use Rattle.lent.specs.image.Image.{channel_at}
+use Rattle.channel.specs.declared.Channel.{Channel}
+use Rattle.image.specs.Image.{channel_at}
 use Rattle.lent.proofs.Puts.{channel_read}
 use Rattle.lent_channels.proofs.key.Goals as goal
 

@@ -2,9 +2,9 @@
 use mathlib.Core.Path.{ap, ◌∙◌}
 use native.Mathlib.Omega.{arith}
 use Prim.Native.Nat.{ℕ, ◌+◌, ◌*◌}
-use Rattle.lent_queues.specs.machine.InBytes.{two_bytes}
-use Rattle.lent_queues.specs.memory.Splice.{splice}
-use Rattle.lent_queues.specs.image.Image.{state_of, open_at}
+use Rattle.machine.specs.InBytes.{two_bytes}
+use Rattle.memory.specs.Splice.{splice}
+use Rattle.image.specs.Image.{state_of, open_at}
 use Rattle.lent_opens.proofs.Opens.{put_added}
 use borrow.Author.Rules.{rules}
 use Rattle.lent_opens.proofs.add_open.Goals as goal

@@ -1,6 +1,6 @@
 -- `close_open` meets its contract: two bytes go from the place of the key, and their number is stored. Assumes nothing.
 use native.Mathlib.Omega.{arith}
-use Rattle.lent_queues.specs.image.Image.{state_of, open_at}
+use Rattle.image.specs.Image.{state_of, open_at}
 use Rattle.lent_opens.proofs.Opens.{put-closed, put_same}
 use borrow.Author.Rules.{rules}
 use Rattle.lent_opens.proofs.close_open.Goals as goal

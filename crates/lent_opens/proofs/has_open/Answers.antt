@@ -1,8 +1,8 @@
 -- `has_open` meets its contract: the key stands before the end. Assumes nothing.
 use mathlib.Core.Path.{ap₂, ◌∙◌}
 use lib.Dec.{ltb}
-use Rattle.lent_queues.proofs.open_keys.Laws.{has_is}
-use Rattle.lent_queues.specs.image.Image.{state_of, open_at}
+use Rattle.open_keys.proofs.Laws.{has_is}
+use Rattle.image.specs.Image.{state_of, open_at}
 use Rattle.lent_opens.proofs.Opens.{keys-full}
 use Rattle.lent_opens.proofs.has_open.Goals as goal
 

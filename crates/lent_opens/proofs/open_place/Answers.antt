@@ -5,9 +5,9 @@ use native.Mathlib.Omega.{arith}
 use mathlib.Core.List.{[]}
 use native.Mathlib.Numerals.{add-one}
 use lib.ListN.{length, drop, drop_of_length-le}
-use Rattle.lent_queues.specs.open_keys.OpenKeys.{keys_in}
-use Rattle.lent_queues.proofs.open_keys.Laws.{index_here, index_turn}
-use Rattle.lent_queues.specs.image.Image.{open_at}
+use Rattle.open_keys.specs.OpenKeys.{keys_in}
+use Rattle.open_keys.proofs.Laws.{index_here, index_turn}
+use Rattle.image.specs.Image.{open_at}
 use Rattle.lent_opens.proofs.Opens.{open_long, open_key}
 use Rattle.lent_opens.proofs.open_place.Goals as goal
 

@@ -2,8 +2,8 @@
 use Prim.Native.Nat.{◌≤◌, ◌-◌, ◌+◌}
 use mathlib.Core.Path.{◌≡◌}
 use lib.ListN.{get_or, drop}
-use Rattle.lent_queues.specs.open_keys.OpenKeys.{index_of, keys_in}
-use Rattle.lent_queues.specs.image.Image.{open_at}
+use Rattle.open_keys.specs.OpenKeys.{index_of, keys_in}
+use Rattle.image.specs.Image.{open_at}
 use Rattle.lent_opens.proofs.open_place.Given as goal
 
 abbrev pub invariant-loop-i : goal.invariant-loop-i

@@ -1,5 +1,5 @@
 -- `count` meets its contract: the number stands in front. Assumes nothing.
-use Rattle.lent.specs.image.Image.{queue_at}
+use Rattle.image.specs.Image.{queue_at}
 use Rattle.lent_queues.proofs.count.Goals as goal
 
 pub returns : goal.returns

@@ -5,9 +5,9 @@ use native.Mathlib.Omega.{arith}
 use mathlib.Core.List.{[]}
 use native.Mathlib.Numerals.{add-one}
 use lib.ListN.{length, drop, drop_of_length-le}
-use Rattle.lent.specs.queue.Queue.{list_of}
-use Rattle.lent.proofs.queue.Laws.{index_here, index_turn}
-use Rattle.lent.specs.image.Image.{queue_at}
+use Rattle.queue.specs.Queue.{list_of}
+use Rattle.queue.proofs.Laws.{index_here, index_turn}
+use Rattle.image.specs.Image.{queue_at}
 use Rattle.lent.proofs.Puts.{listed, listed-long}
 use Rattle.lent_queues.proofs.find.Goals as goal
 

@@ -2,8 +2,8 @@
 use Prim.Native.Nat.{◌≤◌, ◌-◌, ◌+◌}
 use mathlib.Core.Path.{◌≡◌}
 use lib.ListN.{get_or, drop}
-use Rattle.lent.specs.queue.Queue.{index_of, list_of}
-use Rattle.lent.specs.image.Image.{queue_at}
+use Rattle.queue.specs.Queue.{index_of, list_of}
+use Rattle.image.specs.Image.{queue_at}
 use Rattle.lent_queues.proofs.find.Given as goal
 
 abbrev pub invariant-loop-i : goal.invariant-loop-i

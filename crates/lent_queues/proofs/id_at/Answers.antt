@@ -3,7 +3,7 @@ use mathlib.Core.Path.{sym, ◌∙◌}
 use Prim.Native.Nat.{◌+◌}
 use lib.ListN.{drop}
 use lib.Seq.{get_or-take, get_or-drop}
-use Rattle.lent.specs.image.Image.{queue_at}
+use Rattle.image.specs.Image.{queue_at}
 use Rattle.lent_queues.proofs.id_at.Goals as goal
 
 pub returns : goal.returns

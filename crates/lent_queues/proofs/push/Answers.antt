@@ -3,7 +3,7 @@ use mathlib.Core.Path.{ap}
 use native.Mathlib.Omega.{arith}
 use Prim.Native.Nat.{ℕ, ◌+◌}
 use lib.ListN.{get_or, set, length-set}
-use Rattle.lent.specs.image.Image.{queue_at}
+use Rattle.image.specs.Image.{queue_at}
 use Rattle.lent_queues.proofs.Moves.{put_push}
 use Rattle.lent_queues.proofs.push.Goals as goal
 

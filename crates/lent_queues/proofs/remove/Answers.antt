@@ -3,7 +3,7 @@ use mathlib.Core.Path.{ap, ◌∙◌}
 use Prim.Native.Nat.{ℕ, ◌+◌, ◌-◌}
 use mathlib.Core.List.{List}
 use lib.ListN.{get_or, set}
-use Rattle.lent.specs.image.Image.{queue_at}
+use Rattle.image.specs.Image.{queue_at}
 use Rattle.lent_queues.specs.Moves.{shut}
 use Rattle.lent_queues.proofs.Moves.{put_remove}
 use Rattle.lent_queues.proofs.remove.Goals as goal

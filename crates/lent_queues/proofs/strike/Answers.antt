@@ -1,6 +1,6 @@
 -- `strike` meets its contract: the id goes from its first place. Assumes nothing.
 use native.Mathlib.Omega.{arith}
-use Rattle.lent.specs.image.Image.{queue_at}
+use Rattle.image.specs.Image.{queue_at}
 use Rattle.lent_queues.proofs.Moves.{put-struck, put_absent}
 use Rattle.lent_queues.proofs.strike.Goals as goal
 

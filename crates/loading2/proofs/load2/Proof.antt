@@ -3,11 +3,11 @@ use mathlib.Core.Path.{◌≡◌, refl, sym, ◌∙◌}
 use native.Mathlib.Omega.{arith}
 use borrow.Author.Tests.{not-true, not-false}
 use lib.Dec.{T}
-use Rattle.loading.specs.board.Board.{sized}
-use Rattle.loading.proofs.board.Laws.{held_length}
-use Rattle.loading.proofs.sound.Laws.{yes_T}
+use Rattle.board.specs.Board.{sized}
+use Rattle.board.proofs.Laws.{held_length}
+use Rattle.sound.proofs.Laws.{yes_T}
 use Rattle.loading.specs.Loading.{Fits}
-use Rattle.loading.proofs.memory.Splice.{splice_all}
+use Rattle.memory.proofs.Splice.{splice_all}
 use Rattle.loading2.proofs.Laws2.{no_T, does_not_fit, no_board, not_saved, was_saved}
 use borrow.Author.Rules.{rules}
 use Rattle.loading2.proofs.load2.Statement.{statement}
@@ -15,10 +15,10 @@ use Rattle.loading2.proofs.load2.Tie as tie
 use Rattle.loading2.proofs.load2.Reads as reads
 use Rattle.loading2.proofs.load2.Lts as lts
 use Rattle.accepting2.proofs.accept2.Reads as accept2_reads
-use Rattle.loading.proofs.board.Board.sized.Reads as sized_reads
-use Rattle.loading.proofs.encoding.save.Reads as save_reads
-use Rattle.loading.proofs.memory.copy.Reads as copy_reads
-use Rattle.loading.proofs.recounting.recount.Reads as recount_reads
+use Rattle.board.proofs.Board.sized.Reads as sized_reads
+use Rattle.encoding.proofs.save.Reads as save_reads
+use Rattle.memory.proofs.copy.Reads as copy_reads
+use Rattle.recounting.proofs.recount.Reads as recount_reads
 
 returns : tie.Need-returns
 returns c = does_not_fit (λ f. let l = f.state in absurd (omega arith))

@@ -1,17 +1,17 @@
 -- `to_new` meets its contract: a text that is accepted is that of the board that was read, and the board's text of the second form is handed over. Assumes nothing.
 use mathlib.Core.Path.{◌≡◌, refl, sym, ◌∙◌}
 use borrow.Author.Tests.{not-true, not-false}
-use Rattle.loading.proofs.saving.Laws.{page-within}
-use Rattle.accepting2.proofs.saving2.Laws2.{text2_fits}
+use Rattle.saving.proofs.Laws.{page-within}
+use Rattle.saving2.proofs.Laws2.{text2_fits}
 use Rattle.moving.proofs.Laws.{no_old_text, moved_new}
 use borrow.Author.Rules.{rules}
 use Rattle.moving.proofs.to_new.Statement.{statement}
 use Rattle.moving.proofs.to_new.Tie as tie
 use Rattle.moving.proofs.to_new.Reads as reads
 use Rattle.moving.proofs.to_new.Lts as lts
-use Rattle.loading.proofs.accepting.accept.Reads as accept-reads
-use Rattle.accepting2.proofs.saving2.hand_over.Reads as hand_over-reads
-use Rattle.accepting2.proofs.saving2.spell2.Reads as spell2_reads
+use Rattle.accepting.proofs.accept.Reads as accept-reads
+use Rattle.saving2.proofs.hand_over.Reads as hand_over-reads
+use Rattle.saving2.proofs.spell2.Reads as spell2_reads
 
 slice-aggregate-accept : tie.Need-slice-aggregate-accept
 slice-aggregate-accept c = search rules

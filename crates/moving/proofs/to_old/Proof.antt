@@ -1,9 +1,9 @@
 -- `to_old` meets its contract: a text names its board, so one that the eight-channel board takes is none of four; else the board that was read has the text of the first form. Assumes nothing.
 use mathlib.Core.Path.{◌≡◌, refl, sym, ◌∙◌}
 use borrow.Author.Tests.{not-true, not-false}
-use Rattle.loading.proofs.saving.Laws.{page-within}
-use Rattle.loading.proofs.board.Laws.{held_width}
-use Rattle.loading.proofs.saving.Laws.{text_fits}
+use Rattle.saving.proofs.Laws.{page-within}
+use Rattle.board.proofs.Laws.{held_width}
+use Rattle.saving.proofs.Laws.{text_fits}
 use Rattle.moving.proofs.Laws.{no_new_text, has_eight, moved_old}
 use borrow.Author.Rules.{rules}
 use Rattle.moving.proofs.to_old.Statement.{statement}
@@ -11,8 +11,8 @@ use Rattle.moving.proofs.to_old.Tie as tie
 use Rattle.moving.proofs.to_old.Reads as reads
 use Rattle.moving.proofs.to_old.Lts as lts
 use Rattle.accepting2.proofs.accept2.Reads as accept2_reads
-use Rattle.accepting2.proofs.saving2.hand_over.Reads as hand_over-reads
-use Rattle.loading.proofs.saving.spell.Reads as spell_reads
+use Rattle.saving2.proofs.hand_over.Reads as hand_over-reads
+use Rattle.saving.proofs.spell.Reads as spell_reads
 
 slice-aggregate-accept2 : tie.Need-slice-aggregate-accept2
 slice-aggregate-accept2 c = search rules

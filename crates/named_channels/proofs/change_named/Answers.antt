@@ -2,7 +2,7 @@
 use mathlib.Core.Path.{refl, sym, ◌∙◌}
 use native.Mathlib.Omega.{arith}
 use Rattle.named_channels.proofs.Turning.{turned_start, turned_tidy, turned_more, turned_end}
-use Rattle.lent_channels.proofs.image.Laws.{whole_long}
+use Rattle.image.proofs.Laws.{whole_long}
 use Rattle.named_channels.proofs.change_named.Goals as goal
 
 pub loop-i-init : goal.loop-i-init

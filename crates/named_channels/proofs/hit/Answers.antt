@@ -1,7 +1,7 @@
 -- `hit` meets its contract, by what `names` and `key` ensure. Assumes nothing.
 use mathlib.Core.Path.{◌≡◌}
 use borrow.Author.Tests.{eq-eqb, ne_eqb}
-use Rattle.lent_channels.specs.channel.Channel.{hits, has_key}
+use Rattle.channel.specs.Channel.{hits, has_key}
 use Rattle.named_channels.proofs.hit.Goals as goal
 
 pub returns-then-key-ne0 : goal.returns-then-key-ne0

@@ -1,7 +1,7 @@
 -- `matching` meets its contract: the bits found and what the channels from i on add make the map. Assumes nothing.
-use Rattle.lent_channels.specs.machine.State.{free}
-use Rattle.lent_channels.specs.channel.Channel.{channel_of}
-use Rattle.lent_channels.proofs.channel.Turns.{matched_start, matched_hit, matched_miss, matched_end}
+use Rattle.machine.specs.State.{free}
+use Rattle.channel.specs.Channel.{channel_of}
+use Rattle.channel.proofs.Turns.{matched_start, matched_hit, matched_miss, matched_end}
 use mathlib.Core.Path.{sym, ◌∙◌}
 use native.Mathlib.Omega.{arith}
 use Rattle.named_channels.proofs.Turning.{eight}

@@ -1,8 +1,8 @@
 -- `matching` meets its contract: the bits found and what the channels from i on add make the map. Assumes nothing.
 use Prim.Native.Nat.{◌≤◌, ◌-◌}
-use Rattle.lent_channels.specs.channel.Channel.{hits}
-use Rattle.lent_channels.proofs.channel.Turns.{Matched}
-use Rattle.lent_channels.specs.image.Image.{state_of}
+use Rattle.channel.specs.Channel.{hits}
+use Rattle.channel.proofs.Turns.{Matched}
+use Rattle.image.specs.Image.{state_of}
 use Rattle.named_channels.proofs.matching.Given as goal
 
 abbrev pub invariant-loop-i : goal.invariant-loop-i

@@ -1,6 +1,6 @@
 -- `once` meets its contract: where the map names the channel its head is stored again. Assumes nothing.
 use mathlib.Core.Path.{ap, sym, ◌∙◌}
-use Rattle.lent_channels.proofs.image.Laws.{whole_long}
+use Rattle.image.proofs.Laws.{whole_long}
 use Rattle.lent_channels.specs.declared.Channel.{Channel as Head}
 use Rattle.named_channels.specs.Named.{changed_head}
 use Rattle.named_channels.proofs.Turning.{once-named, once-passed}

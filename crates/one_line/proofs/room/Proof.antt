@@ -5,7 +5,7 @@ use native.Mathlib.Omega.{arith}
 use borrow.Author.Tests.{lt-leb}
 use lib.Dec.{leb}
 use lib.ListN.{length}
-use Rattle.putting.specs.taking.Desk.{needed}
+use Rattle.taking.specs.Desk.{needed}
 use Rattle.one_line.proofs.Laws.{room_behind}
 use borrow.Author.Rules.{rules}
 use Rattle.one_line.proofs.room.Statement.{statement}

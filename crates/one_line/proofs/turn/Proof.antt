@@ -7,7 +7,7 @@ use Rattle.one_line.proofs.turn.Tie as tie
 use Rattle.one_line.proofs.turn.Reads as reads
 use Rattle.one_line.proofs.turn.Lts as lts
 use Rattle.putting.proofs.put.Reads as put_reads
-use Rattle.putting.proofs.taking.take.Reads as take-reads
+use Rattle.taking.proofs.take.Reads as take-reads
 
 take-requires : tie.Need-take-requires
 take-requires c κs = search rules

@@ -5,8 +5,8 @@ use mathlib.Core.Path.{◌≡◌, refl, sym, ◌∙◌}
 use native.Mathlib.Omega.{arith}
 use borrow.Author.Tests.{not-true, not-false, leb-true}
 use lib.ListN.{length}
-use Rattle.one_line.specs.image.Image.{state_of, Whole}
-use Rattle.one_line.specs.taking.Desk.{desk_of}
+use Rattle.image.specs.Image.{state_of, Whole}
+use Rattle.taking.specs.Desk.{desk_of}
 use Rattle.paging.proofs.Laws.{Filling, filling_start, filling_on, filling_step, filling_full, filling_end}
 use borrow.Author.Rules.{rules}
 use Rattle.paging.proofs.fill.Statement.{statement}

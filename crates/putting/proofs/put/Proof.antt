@@ -4,15 +4,15 @@ use mathlib.Core.Path.{sym}
 use native.Mathlib.Omega.{arith}
 use lib.ListN.{length}
 use lib.Seq.{length-take-le}
-use Rattle.lent.proofs.board.Laws.{held_eight}
-use Rattle.lent.specs.image.Image.{state_of}
+use Rattle.board.proofs.Laws.{held_eight}
+use Rattle.image.specs.Image.{state_of}
 use Rattle.putting.proofs.Laws.{channels_few, put_none, put_some}
 use borrow.Author.Rules.{rules}
 use Rattle.putting.proofs.put.Statement.{statement}
 use Rattle.putting.proofs.put.Tie as tie
 use Rattle.putting.proofs.put.Reads as reads
 use Rattle.putting.proofs.put.Lts as lts
-use Rattle.lent.proofs.memory.copy.Reads as copy_reads
+use Rattle.memory.proofs.copy.Reads as copy_reads
 use Rattle.putting.proofs.put_channels.Reads as put-channels-reads
 use Rattle.putting.proofs.put_display.Reads as put-display-reads
 

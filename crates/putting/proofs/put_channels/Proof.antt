@@ -4,15 +4,15 @@ use native.Mathlib.Omega.{arith}
 use borrow.Author.Tests.{not-true, not-false}
 use lib.ListN.{length}
 use lib.Seq.{length-take-le}
-use Rattle.lent.specs.image.Image.{state_of}
+use Rattle.image.specs.Image.{state_of}
 use Rattle.putting.proofs.Laws.{shown_room, shown_few, shown-long, few_within, channels-hidden, channels-shown}
 use borrow.Author.Rules.{rules}
 use Rattle.putting.proofs.put_channels.Statement.{statement}
 use Rattle.putting.proofs.put_channels.Tie as tie
 use Rattle.putting.proofs.put_channels.Reads as reads
 use Rattle.putting.proofs.put_channels.Lts as lts
-use Rattle.taking.proofs.channel_lines.channels.Reads as channels-reads
-use Rattle.lent.proofs.memory.copy.Reads as copy_reads
+use Rattle.channel_lines.proofs.channels.Reads as channels-reads
+use Rattle.memory.proofs.copy.Reads as copy_reads
 
 returns : tie.Need-returns
 returns c = channels-hidden (state_of c.before.before.before.args.state.now) _ _

@@ -6,7 +6,7 @@ use borrow.Author.Tests.{not-true, not-false}
 use lib.Dec.{lit≤}
 use lib.ListN.{length}
 use lib.Seq.{length-take-le}
-use Rattle.lent.proofs.image.Laws.{whole_long}
+use Rattle.image.proofs.Laws.{whole_long}
 use Rattle.putting.proofs.Laws.{shown_room, few_within, wide-eight, listed_few, spelt-long, display-hidden, display-shown}
 use borrow.Author.Rules.{rules}
 use Rattle.putting.proofs.put_display.Statement.{statement}
@@ -15,8 +15,8 @@ use Rattle.putting.proofs.put_display.Reads as reads
 use Rattle.putting.proofs.put_display.Lts as lts
 use Rattle.display_lines.proofs.spell.Reads as spell_reads
 use Rattle.lent.proofs.width.Reads as width-reads
-use Rattle.lent.proofs.memory.copy.Reads as copy_reads
-use Rattle.display_lines.proofs.record_structs.in_array.Reads as in_array_reads
+use Rattle.memory.proofs.copy.Reads as copy_reads
+use Rattle.record_structs.proofs.in_array.Reads as in_array_reads
 
 returns : tie.Need-returns
 returns c = display-hidden _ _ _ _ (not-true c.before.before.before.before.args.show c.if1.true)

@@ -5,10 +5,10 @@ use mathlib.Core.List.{List}
 use native.Mathlib.Omega.{arith}
 use lib.ListN.{length, take, drop, replicate}
 use lib.Seq.{length-take-le}
-use Rattle.gathering.proofs.memory.Splice.{length-splice}
+use Rattle.memory.proofs.Splice.{length-splice}
 use Rattle.gathering.specs.Lumps.{front}
 use Rattle.hex_lines.specs.HexLines.{octets_of}
-use Rattle.saved_frames.specs.sheet.Sheet.{Sheet, sheet, taken, taken_all}
+use Rattle.sheet.specs.Sheet.{Sheet, sheet, taken, taken_all}
 use Rattle.reading.specs.Reading.{frames_in}
 use Rattle.reading.proofs.Turns.{octets_most, front_put, end_within, line_is_front, sheet_turn, after, still_eight, fresh-eight, from_fresh, at_end}
 use borrow.Author.Rules.{rules}

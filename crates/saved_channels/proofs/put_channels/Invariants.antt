@@ -3,8 +3,8 @@ use Prim.Native.Nat.{◌+◌, ◌-◌, ◌≤◌}
 use mathlib.Core.Path.{◌≡◌}
 use mathlib.Core.List.{map}
 use lib.ListN.{length, take}
-use Rattle.frame_lines.specs.hex_lines.HexLines.{Put}
-use Rattle.frame_lines.specs.saved.Saved.{spelt}
+use Rattle.hex_lines.specs.HexLines.{Put}
+use Rattle.saved.specs.Saved.{spelt}
 use Rattle.frame_lines.specs.FrameLines.{channel_line, AllListed}
 use Rattle.saved_channels.proofs.put_channels.Given as goal
 

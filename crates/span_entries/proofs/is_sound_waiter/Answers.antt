@@ -5,11 +5,11 @@ use mathlib.Core.Path.{◌≡◌, refl, ap, sym, ◌∙◌}
 use mathlib.Core.Bool.{false, not, ◌&&◌}
 use lib.Dec.{eqb}
 use lib.ListN.{length, get_or}
-use Rattle.shapes.specs.queue.Queue.{list_of}
+use Rattle.queue.specs.Queue.{list_of}
 use mathlib.Core.List.{[]}
-use Rattle.shapes.specs.channel.declared.Channel.{Channel}
-use Rattle.shapes.specs.channel.Channel.{lowest_from}
-use Rattle.shapes.specs.store.Store.{write_in, lock_in}
+use Rattle.channel.specs.declared.Channel.{Channel}
+use Rattle.channel.specs.Channel.{lowest_from}
+use Rattle.store.specs.Store.{write_in, lock_in}
 use Rattle.entries.specs.Entries.{waiter_test}
 use Rattle.span_entries.proofs.Waiters.{nowhere, other_bits, waits_at}
 use borrow.Author.Rules.{rules}

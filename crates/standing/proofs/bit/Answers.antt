@@ -1,6 +1,6 @@
 -- `bit` meets its contract: each return is a case of the definition. Assumes nothing.
 use native.Mathlib.Omega.{arith}
-use Rattle.channel.specs.machine.Maps.{bit}
+use Rattle.machine.specs.Maps.{bit}
 use Rattle.standing.proofs.bit.Goals as goal
 
 pub returns-then-b : goal.returns-then-b

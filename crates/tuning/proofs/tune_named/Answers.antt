@@ -3,8 +3,8 @@ use Prim.Native.Nat.{◌<◌}
 use mathlib.Core.Path.{sym, ◌∙◌}
 use native.Mathlib.Omega.{arith}
 use lib.ListN.{length}
-use Rattle.numbers.specs.machine.State.{free}
-use Rattle.fronts.specs.channel.Channel.{channel_of}
+use Rattle.machine.specs.State.{free}
+use Rattle.channel.specs.Channel.{channel_of}
 use Rattle.tuning.proofs.Turns.{tuning_start, tuning_front, tuning-named, tuning-passed, tuning_end}
 use borrow.Author.Rules.{rules}
 use Rattle.tuning.proofs.tune_named.Goals.{else-names, then-names}

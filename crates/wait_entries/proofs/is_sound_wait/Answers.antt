@@ -2,8 +2,8 @@
 use Prim.Native.Nat.{◌+◌, ◌≤◌}
 use mathlib.Core.Path.{◌≡◌, sym, ◌∙◌}
 use lib.ListN.{length, get_or}
-use Rattle.entries.specs.memory.Splice.{block}
-use Rattle.entries.specs.store.Store.{request_in}
+use Rattle.memory.specs.Splice.{block}
+use Rattle.store.specs.Store.{request_in}
 use Rattle.entries.proofs.Cases.{counted, too_many}
 use native.Mathlib.Omega.{arith}
 use borrow.Author.Tests.{le-leb}

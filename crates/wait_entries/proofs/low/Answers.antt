@@ -2,7 +2,7 @@
 use Prim.Native.Nat.{◌+◌, ◌≤◌, ◌<◌}
 use borrow.Author.Tests.{lt-ltb, le-ltb}
 use lib.ListN.{get_or}
-use Rattle.entries.proofs.open_shape.Turns.{passed_start, passed_stop, passed_more, passed_end}
+use Rattle.open_shape.proofs.Turns.{passed_start, passed_stop, passed_more, passed_end}
 use borrow.Author.Rules.{rules}
 use Rattle.wait_entries.proofs.low.Goals as goal
 

@@ -2,7 +2,7 @@
 use Prim.Native.Nat.{◌+◌, ◌-◌}
 use lib.ListN.{length}
 use lib.Dec.{ltb}
-use Rattle.entries.proofs.open_shape.Turns.{Passed}
+use Rattle.open_shape.proofs.Turns.{Passed}
 use Rattle.wait_entries.proofs.low.Given as goal
 
 abbrev pub invariant-loop-i : goal.invariant-loop-i

@@ -6,10 +6,10 @@ use mathlib.Core.Bool.{false}
 use mathlib.Core.List.{[]}
 use native.Mathlib.Omega.{arith}
 use lib.ListN.{length, get_or}
-use Rattle.sheet.specs.machine.State.{free}
-use Rattle.sheet.specs.queue.declared.Queue.{Queue}
-use Rattle.sheet.specs.channel.declared.Channel.{Channel}
-use Rattle.sheet.specs.channel.Channel.{channel_of, with_writes}
+use Rattle.machine.specs.State.{free}
+use Rattle.queue.specs.declared.Queue.{Queue}
+use Rattle.channel.specs.declared.Channel.{Channel}
+use Rattle.channel.specs.Channel.{channel_of, with_writes}
 use Rattle.sheet.specs.Sheet.{write_of}
 use Rattle.sheet.proofs.Taking.{get_d_there, has_write_lem, write_passed, write_took}
 use Rattle.write_frames.proofs.take_write.Goals as goal

@@ -1,7 +1,7 @@
 -- `cut` is safe: no more is lent than there is, and what was saved is whole. Assumes nothing.
 use mathlib.Core.Path.{sym}
 use lib.Seq.{length-take-le}
-use Rattle.handed.proofs.image.Laws.{whole_long}
+use Rattle.image.proofs.Laws.{whole_long}
 use borrow.Author.Rules.{rules}
 use Rattle.any_bytes.proofs.scene.cut.Statement.{statement}
 use Rattle.any_bytes.proofs.scene.cut.Tie as tie

@@ -1,3 +1,0 @@
-pub use Rattle.channel_numbers.specs as channel_numbers
-pub use Rattle.channel_numbers.specs.display as display
-pub use Rattle.channel_numbers.specs.lanes as lanes

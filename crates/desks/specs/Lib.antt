@@ -1,1 +1,0 @@
-pub use Rattle.machine.specs as machine

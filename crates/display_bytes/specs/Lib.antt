@@ -1,2 +1,0 @@
-pub use Rattle.image.specs as image
-pub use Rattle.image.specs.machine as machine

@@ -1,9 +1,0 @@
-pub use Rattle.image.specs.board as board
-pub use Rattle.image.specs.channel as channel
-pub use Rattle.image.specs as image
-pub use Rattle.image.specs.machine as machine
-pub use Rattle.image.specs.machine_laws as machine_laws
-pub use Rattle.image.specs.memory as memory
-pub use Rattle.image.specs.reply as reply
-pub use Rattle.image.specs.store as store
-pub use Rattle.image.specs.table as table

@@ -1,2 +1,0 @@
-pub use Rattle.channel_frames.specs.sheet as sheet
-pub use Rattle.channel_frames.specs.store as store

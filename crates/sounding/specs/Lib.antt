@@ -1,2 +1,0 @@
-pub use Rattle.changing.specs as changing
-pub use Rattle.changing.specs.freeing as freeing

@@ -1,1 +1,0 @@
-pub use Rattle.shapes.specs as shapes

@@ -1,9 +1,0 @@
-pub use Rattle.entries.specs.channel as channel
-pub use Rattle.entries.specs as entries
-pub use Rattle.entries.specs.machine as machine
-pub use Rattle.entries.specs.machine_laws as machine_laws
-pub use Rattle.entries.specs.memory as memory
-pub use Rattle.entries.specs.open_shape as open_shape
-pub use Rattle.entries.specs.queue as queue
-pub use Rattle.entries.specs.store as store
-pub use Rattle.entries.specs.table as table
