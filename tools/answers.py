@@ -42,6 +42,8 @@ class Function:
         self.crate, self.path, self.e = crate, path, entry
         self.notes = []
         self.place = {}
+        self.params = entry.get("params", {})
+        self.callee = {p[0]: p[3] for p in entry["places"]}
         for (old, parent, field, callee, _), new in zip(entry["places"], entry["places_by_name"]):
             self.place[old] = (parent, field[0], field[1], new)
         self.arms = {p[0]: a for p, a in zip(entry["places"], entry["arms"]) if a}
@@ -55,6 +57,7 @@ class Function:
             self.loops[norm(old)] = (new, names, changed)
         self.arg_names = {}
         self.cited = {}
+        self.top = None
         self.goals = set()
         self.src = ""
         for a, b in entry["args"]:
@@ -73,6 +76,8 @@ class Function:
             return up, None
         first = parts[k]
         rest = parts[k + 1:]
+        if first == "pre":
+            first = "requires"
         if first in ("args", "requires", "ranges", "well_formed", "utf8", "well-formed"):
             if first in ("args", "ranges") and rest:
                 rest[0] = self.arg_names.get(rest[0], rest[0])
@@ -92,9 +97,21 @@ class Function:
             if norm(self.place[p][1]) == norm(first):
                 if seen:
                     self.notes.append(f"{first} stands {seen} places higher")
-                return None, "." + ".".join([self.place[p][2]] + rest)
+                return None, "." + ".".join([self.place[p][2]] + self.by_parameter(p, rest))
             p, seen = self.place[p][0], seen + 1
         # lower than it should
+        p, found, above = self.top, None, set()
+        q = at
+        while q:
+            above.add(q)
+            q = self.place[q][0]
+        while p and p not in above:
+            if norm(self.place[p][1]) == norm(first):
+                found = p
+            p = self.place[p][0]
+        if found:
+            self.notes.append(f"{first} stands lower")
+            return None, "." + ".".join([self.place[found][2]] + self.by_parameter(found, rest))
         p = at
         while p:
             if norm(self.place[p][1]) == norm(first):
@@ -110,8 +127,20 @@ class Function:
         self.notes.append(f"no step {first} at {at}")
         return None, "." + ".".join([first] + rest)
 
+    def by_parameter(self, p, rest):
+        """`new.1.0`, what the call left in its second argument, goes by the parameter's name."""
+        names = self.params.get(self.callee.get(p) or "", [])
+        if rest and rest[0] in ("new", "auto") and len(rest) > 1:
+            k = 1
+            while k < len(rest) and rest[k] == "1":
+                k += 1
+            if k < len(rest) and rest[k] == "0" and k - 1 < len(names):
+                return [rest[0], names[k - 1]] + rest[k + 1:]
+        return rest
+
     def body(self, text, at, helpers):
         env = {"c": at}
+        self.top = at
         names_of_args = set()
         out, pos = "", 0
         binds = re.compile(r"let ([A-Za-z]\w*) = ([A-Za-z]\w*)((?:\.before)*) in\s*")
@@ -159,16 +188,14 @@ class Function:
             i += 1
         # the test of `if !x` says that x is false
         out = self.elims(out)
-        out = re.sub(r"\(λ (\w+)\. \(c\.(?:shared_)?slice_known-[\w-]+\.given \1\)\.fits\)", r"(λ \1. search rules)", out)
+        out = re.sub(r"\(λ (\w+)\. \(c\.(?:shared[_-])?slice[_-]known(?:-[\w-]+)?\.given \1\)\.fits\)", r"(λ \1. search rules)", out)
 
         def negated(m):
             if not self.direct(m[3]):
                 return m[0]
-            if m[1]:
-                return m[2]
-            return m[0] if m[0].startswith("not-") else f"(ap not {m[2]})"
+            return "§" + m[2] if m[1] else f"(ap not §{m[2]})"
 
-        return re.sub(r"(\bnot-(?:true|false) _ )?((?<![\w.])\w\.if-not-([\w+'-]+)\.(?:true|false))(?![\w.'-])", negated, out)
+        return re.sub(r"(\bnot-(?:true|false) (?:_|[\w.]+) )?((?<![\w.§])\w\.if-not-([\w+'-]+)\.(?:true|false))(?![\w.'-])", negated, out)
 
     def direct(self, name):
         """Whether the test `if !x` is of a call or a variable, and not of a field."""
@@ -257,6 +284,8 @@ class Function:
                 self.notes.append(f"{loop}: {a} is bound again")
 
         def one(m):
+            if re.match(r"\s*=(?![\w=])", text[m.end():]) and not m[2]:
+                return m[0]
             return to.get(m[1], m[1]) + m[2]
 
         return PATH.sub(one, text)
@@ -327,7 +356,7 @@ def turn(crate, folder, where, entry):
         body, t = it["body"], it["type"]
         m = re.match(r"tie\.Need-([^\s]+)", t)
         if m:
-            got = f.need.get(norm(m[1]))
+            got = f.need.get(norm(m[1])) or f.need.get(norm(re.sub(r"^(?:part|slice[-_]bounds)-(.*)$", r"slice_bounds-\1", m[1]))) or f.need.get(norm(re.sub(r"^(?:part|slice[-_]bounds)-(.*)$", r"part-\1", m[1])))
             unfolding = ""
             u = re.match(r"(unfolding [^\n]*\n)+", body)
             if u:
@@ -417,6 +446,7 @@ def turn(crate, folder, where, entry):
                 continue
             done.add(name)
             out += "\n".join(comment + [f"pub {name} : goal.{name}"]) + "\n" + unfolding + f"{name} c{more} =" + (" " if "\n" not in b else "\n    ") + f"{b}\n\n"
+        out = re.sub(r"(?<=[ (])\(§(\w\.[\w+.'-]+)\)", r"\1", out).replace("§", "")
         open(os.path.join(where, "Answers.antt"), "w", encoding="utf-8").write(out.rstrip() + "\n")
     os.remove(path)
     return [f"{folder}: {n}" for n in lost + sorted(set(f.notes))]
