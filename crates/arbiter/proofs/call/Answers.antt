@@ -15,11 +15,11 @@ returns-then-not-whole c =
     { answer = c.done-unread.ensures; count = refl; state = refl; table = refl; list = refl; display = refl }
 
 pub load-b-requires : goal.load-b-requires
-load-b-requires c = (yes_T _ (sym c.whole.ensures ∙ (ap not c.if-not-whole.false)))
+load-b-requires c = (yes_T _ (sym c.whole.ensures ∙ c.if-not-whole.false))
 
 pub returns-then-not-sound : goal.returns-then-not-sound
 returns-then-not-sound c =
-    let w = (yes_T _ (sym c.whole.ensures ∙ (ap not c.if-not-whole.false))) in
+    let w = (yes_T _ (sym c.whole.ensures ∙ c.if-not-whole.false)) in
     let s = rw c.load-b.ensures at c.sound.ensures in
     lent_read w (
       w,
@@ -32,7 +32,7 @@ pub on_board-d-requires : goal.on_board-d-requires
 on_board-d-requires c = c.sound.ensures.only (c.if-not-sound.false)
 
 pub save-requires : goal.save-requires
-save-requires c = whole_long _ ((yes_T _ (sym c.whole.ensures ∙ (ap not c.if-not-whole.false))))
+save-requires c = whole_long _ ((yes_T _ (sym c.whole.ensures ∙ c.if-not-whole.false)))
 
 pub returns : goal.returns
 returns c =
@@ -40,5 +40,5 @@ returns c =
     let b = c.load-b.ensures in
     let q = rw b at (c.sound.ensures.only (c.if-not-sound.false)) in
     let d = rw b at c.on_board-d.ensures in
-    lent_read ((yes_T _ (sym c.whole.ensures ∙ (ap not c.if-not-whole.false))))
+    lent_read ((yes_T _ (sym c.whole.ensures ∙ c.if-not-whole.false)))
     (v.whole, sound-called q (handled_lent v d.0).told, sound-shows q d.1)
