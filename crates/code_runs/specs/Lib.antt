@@ -1,0 +1,3 @@
+pub mod CodeRuns
+pub mod Stored
+pub mod Made
