@@ -1,3 +1,0 @@
-pub mod CodeRuns
-pub mod Stored
-pub mod Made

@@ -1,2 +1,0 @@
-pub mod Port
-pub mod Witness

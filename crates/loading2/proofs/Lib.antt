@@ -1,2 +1,0 @@
-pub mod Laws2
-pub mod RoundTrip2

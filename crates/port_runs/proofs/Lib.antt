@@ -1,2 +1,0 @@
-pub mod PortRuns
-pub mod Witness

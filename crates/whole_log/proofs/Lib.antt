@@ -1,3 +1,0 @@
-pub mod Progress
-pub mod Whole
-pub mod Runs

@@ -1,3 +1,0 @@
-// That the pages of a log, put together, are the machine's log is a statement (specs/) and its proof (proofs/) over what `paging` and
-// `finishing` promise. Assumes nothing.
-#![tactic(auto)]
