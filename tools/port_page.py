@@ -59,7 +59,7 @@ for e in sorted(glob.glob("crates/*/must-fail/*.edit")):
         continue
     changed += 1
     s = said.get((c, name), "")
-    m = re.search(r"refused, as it must be(?: \([^)]*\))?: (\S+?):\d+:\d+: (?:error: )?(?:`([^`]*)`)?", s)
+    m = re.search(r"refused, as it must be(?: \([^)]*\))?: (?:note: )?(\S+?):\d+:\d+: (?:error: )?(?:[^`]*\()?(?:`([^`]*)`)?", s)
     where = f"`{m[2]}` in {m[1].removeprefix('./')}" if m and m[2] else (m[1] if m else "not tried yet")
     unseen += not m
     out.append(f"| {c}/{name.removesuffix('.edit')} | {where} |")
