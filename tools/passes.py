@@ -1,19 +1,19 @@
 #!/usr/bin/env python3
 """Lets some crates pass on a crate that they stand on, so that crates.txt has fewer paths.
 
-usage: python3 tools/passes.py [N]      at the top of the repository; N: how many edges to save, 100 if left out
+usage: python3 tools/passes.py      at the top of the repository
 
-Today's rt walks each path down crates.txt, and reads a crate's files on each: with every crate that is named listed, eight million. Here the N
-edges that cost most, and that another edge implies, are saved: the crate takes what it used through another that lists it. `pub use memory;` in
-reply/src/lib.rt and `pub use Rattle.memory.specs as memory` in reply/specs/Lib.antt let a crate over reply write `use reply::memory;`,
-`Rattle.reply.specs.memory.Splice` and `Rattle.reply.proofs.memory.Splice`. To save all such edges was tried: a line passes on all that the other
-crate passes on, and libraries grew from 5 MB to 94.
+Today's rt walks each path down crates.txt, and reads a crate's files on each: with every crate that is named listed, eight million. Here edges that
+another edge implies are saved: the crate takes what it used through another that lists it. `pub use memory;` in reply/src/lib.rt and
+`pub use Rattle.memory.specs as memory` in reply/specs/Lib.antt let a crate over reply write `use reply::memory;`,
+`Rattle.reply.specs.memory.Splice` and `Rattle.reply.proofs.memory.Splice`. A line passes on all that the other crate passes on, and each check above
+reads it: to save all such edges made libraries of 94 MB from 5. So the edge that gains most is saved first: twice the seconds of its walks, as rt ci walks
+twice, less what reading the passed modules costs; until none gains.
 """
 
 import glob
 import os
 import re
-import sys
 
 LINE = re.compile(r"^([a-z0-9_]+)((?: [a-z_=0-9]+)*):(.*)$")
 lines = open("crates.txt", encoding="utf-8").read().split("\n")
@@ -63,7 +63,7 @@ def visit(c):
 
 for c in order:
     visit(c)
-below, keeps = {}, {}
+below = {}
 for c in top:
     below[c] = set().union(*[{d} | below[d] for d in uses[c]]) if uses[c] else set()
 
@@ -79,71 +79,81 @@ def clashes(c, d):
 
 
 programs = {c for c in order if os.path.exists(f"crates/{c}/src/main.rt")}
+clash = {(e, d): clashes(e, d) for e in order for d in below[e]}
+users = {c: [x for x in order if c in uses[x]] for c in order}
+keeps = {c: list(uses[c]) for c in order}
 passes, through = {c: set() for c in order}, {c: {} for c in order}
 
-
-def provider(c, d):
-    """The crate of keeps[c] through which c takes d, where there is one."""
-    for e in sorted((e for e in keeps[c] if d in below[e]), key=lambda e: (d not in keeps[e], len(below[e]), e)):
-        if can(e, d):
-            return e
-    return None
-
-
-def can(e, d):
-    return e not in programs and not clashes(e, d) and (d in keeps[e] or provider(e, d) is not None)
-
-
-weight = {}
+# Milliseconds of one visit of a crate, as measured; its modules; the checks that read its library: of each crate above, and of their edits.
+weight, own, readers = {}, {}, {}
 for c in order:
     read = [p for part in ("src", "specs", "proofs") for p in glob.glob(f"crates/{c}/{part}/**/*", recursive=True) if os.path.isfile(p)]
     weight[c] = 0.04 * len(read) + sum(map(os.path.getsize, read)) / 125000
-implied = {(c, d) for c in order for d in uses[c] if any(d in below[e] for e in uses[c] if e != d)}
-users = {c: [x for x in order if c in uses[x]] for c in order}
-saved, refused = set(), set()
+    own[c] = 2 + sum("/src/" not in p for p in read)
+    readers[c] = sum(1 + len(glob.glob(f"crates/{x}/must-fail/*.edit")) for x in order if c in below[x])
+# Seconds to read one passed module once: estimated from libraries' sizes, 8 KB a module.
+READ = 0.0001
 
 
-def cost():
+def walks():
     """What a walk from each crate costs, and how many walks come to each."""
     down, up = {}, {}
     for c in top:
-        down[c] = weight[c] + sum(down[d] for d in uses[c] if (c, d) not in saved)
+        down[c] = weight[c] + sum(down[d] for d in keeps[c])
     for c in reversed(top):
-        up[c] = 1 + sum(up[x] for x in users[c] if (x, c) not in saved)
+        up[c] = 1 + sum(up[x] for x in users[c] if c in keeps[x])
     return down, up
 
 
-def kept():
+def passed():
+    """How many modules each crate passes on, and how often what it passes is read."""
+    count, often = {}, {}
     for c in top:
-        keeps[c] = [d for d in uses[c] if (c, d) not in saved]
+        count[c] = sum(own[d] + count[d] for d in passes[c])
+    for c in reversed(top):
+        often[c] = readers[c] + sum(often[x] for x in order if c in passes[x])
+    return count, often
 
 
-kept()
-while len(saved) < (int(sys.argv[1]) if len(sys.argv) == 2 else 100) and implied - saved - refused:
-    down, up = cost()
-    _, c, d = max((up[c] * down[d], c, d) for c, d in implied - saved - refused)
-    saved.add((c, d))
-    kept()
-    if clashes(c, d) or provider(c, d) is None or any(provider(x, y) is None for x, y in saved):
-        saved.remove((c, d))
-        refused.add((c, d))
-        kept()
+def plan(c, d, count, often):
+    """The cheapest way in which c, which does not list d, takes it: what it costs, and who takes it through whom."""
+    best = None
+    for e in keeps[c]:
+        if e == d or d not in below[e] or e in programs or clash[e, d]:
+            continue
+        if d in passes[e]:
+            return 0, [(c, d, e)]
+        cost, ways = often[e] * (own[d] + count[d]), [(c, d, e)]
+        if d not in keeps[e] and d not in through[e]:
+            more = plan(e, d, count, often)
+            if more is None:
+                continue
+            cost, ways = cost + more[0], ways + more[1]
+        if best is None or cost < best[0]:
+            best = cost, ways
+    return best
 
 
-def takes(c, d):
-    """Notes that c takes d through another crate, and that this one passes it on."""
-    if d in keeps[c]:
-        return
-    e = provider(c, d)
-    if through[c].get(d) != e:
-        through[c][d] = e
-        passes[e].add(d)
-        takes(e, d)
-
-
-for c in top:
-    for d in uses[c]:
-        takes(c, d)
+refused = set()
+while True:
+    (down, up), (count, often) = walks(), passed()
+    best = 0.02, None
+    edges = ((up[c] * down[d], c, d) for c in order for d in keeps[c] if (c, d) not in refused and d not in through[c].values())
+    for saves, c, d in sorted((it for it in edges if any(it[2] in below[e] for e in keeps[it[1]])), reverse=True)[:250]:
+        keeps[c].remove(d)
+        way = plan(c, d, count, often)
+        keeps[c].append(d)
+        if way is None:
+            refused.add((c, d))
+        else:
+            best = max(best, (2 * saves / 1000 - READ * way[0], (c, d, way[1])), key=lambda it: it[0])
+    if best[1] is None:
+        break
+    c, d, ways = best[1]
+    keeps[c].remove(d)
+    for x, y, e in ways:
+        through[x][y] = e
+        passes[e].add(y)
 
 
 def turn(c, root):
@@ -180,7 +190,8 @@ def turn(c, root):
     if passes[c]:
         p = os.path.join(root, f"crates/{c}/specs/Lib.antt")
         t = open(p, encoding="utf-8").read() if os.path.exists(p) else ""
-        for d in sorted(passes[c]):
+        # a crate of laws alone has no specs to pass on
+        for d in sorted(d for d in passes[c] if os.path.isdir(f"crates/{d}/specs") or "fn " in texts[d][f"crates/{d}/src/lib.rt"]):
             line = f"pub use Rattle.{d}.specs as {d}" if d in keeps[c] else f"pub use Rattle.{through[c][d]}.specs.{d} as {d}"
             if line not in t.split("\n"):
                 t = t.rstrip("\n") + ("\n" if t else "") + line + "\n"
@@ -188,10 +199,6 @@ def turn(c, root):
         open(p, "w", encoding="utf-8").write(t)
 
 
-if len(sys.argv) > 2:
-    # for a crate that was changed elsewhere meanwhile: passes.py ROOT CRATE, over the plan of this tree as it was
-    turn(sys.argv[2], sys.argv[1])
-    sys.exit()
 for c in order:
     turn(c, ".")
 out = []

@@ -9,17 +9,17 @@ use native.Mathlib.Omega.{arith}
 use lib.Dec.{T, eqb, eqb→eq}
 use lib.ListN.{length}
 use Rattle.memory.specs.Splice.{splice}
-use Rattle.table.specs.Entry.{idle}
+use Rattle.locks.specs.table.Entry.{idle}
 use Rattle.std.specs.Prelude.{if◌then◌else◌}
-use Rattle.machine.specs.Lists.{any, among, keep, distinct}
-use Rattle.machine.specs.State.{Channel as ChannelM, Lock, Reply, State as StateM}
-use Rattle.machine.specs.Commands.{without, leaving}
-use Rattle.machine.proofs.Tests.{by_test, test_true, test_false, nor_left, nor_right, and_left, and_right}
-use Rattle.machine_laws.proofs.Lists.{among-append, keep_append, keep_length, sub_keep}
-use Rattle.machine_laws.specs.Sound.{Parts}
-use Rattle.store.specs.Store.{Item, write_item, lock_item, waiter_item, wait_item, write_items, items, lookup, entries, table_of, Long, Good}
-use Rattle.store.proofs.Entries.{entries-splice, lookup_there, good_sub}
-use Rattle.store.proofs.Store.{parts_long, good_of}
+use Rattle.answers.specs.machine.Lists.{any, among, keep, distinct}
+use Rattle.answers.specs.machine.State.{Channel as ChannelM, Lock, Reply, State as StateM}
+use Rattle.answers.specs.machine.Commands.{without, leaving}
+use Rattle.answers.proofs.machine.Tests.{by_test, test_true, test_false, nor_left, nor_right, and_left, and_right}
+use Rattle.channel.proofs.machine_laws.Lists.{among-append, keep_append, keep_length, sub_keep}
+use Rattle.channel.specs.machine_laws.Sound.{Parts}
+use Rattle.answers.specs.store.Store.{Item, write_item, lock_item, waiter_item, wait_item, write_items, items, lookup, entries, table_of, Long, Good}
+use Rattle.answers.proofs.store.Entries.{entries-splice, lookup_there, good_sub}
+use Rattle.answers.proofs.store.Store.{parts_long, good_of}
 
 -- ---- items
 

@@ -5,16 +5,17 @@
 
 ghost use Rattle.std.specs.Prelude.{◌≡◌, true, [], ◌<◌, get_or};
 ghost use Rattle.memory.specs.Splice.{block};
-ghost use Rattle.machine.specs.Commands.{do_abort};
-ghost use Rattle.store.specs.Work.{Ready};
+ghost use Rattle.answers.specs.machine.Commands.{do_abort};
+ghost use Rattle.answers.specs.store.Work.{Ready};
 ghost use Rattle.answers.specs.Answers.{call_of, Does};
 ghost use Rattle.aborting.specs.Aborting.{cancels as cancels_m};
 
-use answers::{Outcome, Request};
-use fates::End;
+use answers::reply::Reply;
+use answers::store::State;
+use answers::{Outcome, Request, reply};
 use fronts::Front;
-use reply::Reply;
-use store::State;
+use locks::fates::End;
+use locks::table;
 
 fn cancels(command: u8) -> bool
     ensures { result ≡ cancels_m command }

@@ -9,23 +9,23 @@ use native.Mathlib.Numerals.{add-one}
 use lib.Dec.{T, T_not, eqb, eqb→eq, eqb_refl, leb, leb→le, nleb→lt}
 use lib.ListN.{length, get_or, take, drop, replicate}
 use lib.Seq.{take-suc, take_all}
-use Rattle.machine.specs.State.{State}
-use Rattle.machine.specs.Log.{line, hex_digit}
-use Rattle.machine.proofs.Tests.{by_test}
+use Rattle.machine_laws.specs.machine.State.{State}
+use Rattle.machine_laws.specs.machine.Log.{line, hex_digit}
+use Rattle.machine_laws.proofs.machine.Tests.{by_test}
 use Rattle.machine_laws.proofs.Sound.{parts}
-use Rattle.store.specs.declared.State.{State as Struct}
-use Rattle.store.specs.Store.{table_of}
+use Rattle.board.specs.store.declared.State.{State as Struct}
+use Rattle.board.specs.store.Store.{table_of}
 use Rattle.board.specs.declared.Board.{Board}
 use Rattle.memory.specs.Splice.{splice}
 use Rattle.board.specs.Board.{sized, fresh_board, struct_of, state_in, Held}
 use Rattle.board.proofs.Laws.{held_of, held_width, one_state, state_in_of}
-use Rattle.sound.specs.Sound.{Decides, board_test}
-use Rattle.sound.proofs.Own.{decides}
-use Rattle.saved.specs.Saved.{spelt, text, TextOf}
-use Rattle.sheet.specs.Sheet.{Sheet, Took}
-use Rattle.reading.specs.Reading.{read_from}
+use Rattle.saving.specs.sound.Sound.{Decides, board_test}
+use Rattle.saving.proofs.sound.Own.{decides}
+use Rattle.read_back.specs.saved.Saved.{spelt, text, TextOf}
+use Rattle.read_back.specs.sheet.Sheet.{Sheet, Took}
+use Rattle.read_back.specs.reading.Reading.{read_from}
 use Rattle.read_back.proofs.WholeText.{text_read}
-use Rattle.hex_lines.specs.HexLines.{Put}
+use Rattle.read_back.specs.hex_lines.HexLines.{Put}
 use Rattle.saving.proofs.Laws.{front}
 use Rattle.accepting.specs.declared.Found.{Found}
 use Rattle.accepting.specs.Accepting.{opening, Finds, Accepts}

@@ -7,10 +7,10 @@
 --   Blank w f tb'        a fresh board of w channels, and a table of zeros
 --   Accepts t f tb'      the promise of `accept`: so it is, or it was saved of no state, and nothing of it is handed back
 use Rattle.std.specs.Prelude.{◌≡◌, true, false, List, ℕ, replicate}
-use Rattle.machine.specs.State.{State}
-use Rattle.machine.specs.Log.{line}
+use Rattle.machine_laws.specs.machine.State.{State}
+use Rattle.machine_laws.specs.machine.Log.{line}
 use Rattle.board.specs.Board.{fresh_board, state_in, Held}
-use Rattle.saved.specs.Saved.{FIRST, TextOf}
+use Rattle.read_back.specs.saved.Saved.{FIRST, TextOf}
 use Rattle.accepting.specs.declared.Found.{Found}
 
 -- "and opens with the line D001"

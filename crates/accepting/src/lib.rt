@@ -4,10 +4,14 @@
 
 ghost use Rattle.std.specs.Prelude.{◌≡◌, false, length, take, replicate};
 ghost use Rattle.board.specs.Board.{fresh_board};
-ghost use Rattle.sound.specs.Sound.{Decides};
+ghost use Rattle.saving.specs.sound.Sound.{Decides};
 ghost use Rattle.accepting.specs.Accepting.{Finds, Accepts};
 
 use board::Board;
+use read_back::reading;
+pub use read_back::saved;
+pub use saving;
+pub use saving::{decoding, saved_lines, sizes, sound, waiting_list};
 
 // What was read, and whether it is what was saved.
 #[derive(Clone, Copy)]

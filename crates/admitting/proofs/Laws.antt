@@ -15,7 +15,7 @@ use Rattle.display.specs.Display.{DISPLAY}
 use Rattle.image.specs.Image.{is_byte}
 use Rattle.image.proofs.Round.{bytes_each}
 use Rattle.gathering.specs.Lumps.{LINE}
-use Rattle.sizes.specs.Sizes.{PORT, ROOM}
+use Rattle.port.specs.sizes.Sizes.{PORT, ROOM}
 use Rattle.port.specs.Port.{started_in, line_in, port_of}
 use Rattle.admitting.specs.Admitting.{is_port, refusal_for, refusal, Proper}
 

@@ -11,7 +11,7 @@ use Rattle.machine.specs.Numbers.{TOOSMALL}
 use Rattle.display.specs.Display.{DISPLAY}
 use Rattle.image.specs.Image.{is_byte}
 use Rattle.gathering.specs.Lumps.{LINE}
-use Rattle.sizes.specs.Sizes.{PORT, ROOM}
+use Rattle.port.specs.sizes.Sizes.{PORT, ROOM}
 use Rattle.port.specs.Port.{started_in}
 
 -- "memory stays at one line"

@@ -1,1 +1,3 @@
 pub mod Admitting
+pub use Rattle.port.specs as port
+pub use Rattle.port.specs.sizes as sizes

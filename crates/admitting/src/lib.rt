@@ -4,6 +4,9 @@
 ghost use Rattle.std.specs.Prelude.{◌≡◌};
 ghost use Rattle.admitting.specs.Admitting.{refusal as refusal_of};
 
+pub use port;
+pub use port::sizes;
+
 // Why a call with this port and so much display and room is refused, or 0.
 pub fn refusal(port: &[u8], display: usize, room: usize) -> u8
     ensures { result ≡ refusal_of port.now display room }

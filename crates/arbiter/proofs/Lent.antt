@@ -5,14 +5,14 @@ use mathlib.Core.Path.{◌≡◌, refl, ap, sym, subst, ◌∙◌}
 use mathlib.Core.Bool.{Bool, true, false}
 use mathlib.Core.List.{List}
 use lib.Dec.{T}
-use Rattle.machine.proofs.Tests.{test_true}
+use Rattle.answers.proofs.machine.Tests.{test_true}
 use Rattle.answers.specs.declared.Request.{Request}
-use Rattle.board.specs.declared.Board.{Board}
-use Rattle.board.specs.declared.Outcome.{Outcome}
+use Rattle.image.specs.board.declared.Board.{Board}
+use Rattle.image.specs.board.declared.Outcome.{Outcome}
 use Rattle.image.specs.Image.{state_of, is_whole, Whole, Saved}
 use Rattle.image.proofs.Round.{saved-state, one_state}
-use Rattle.refusals.specs.declared.Op.{Op}
-use Rattle.refusing.proofs.Laws.{false_true}
+use Rattle.deciding.specs.refusals.declared.Op.{Op}
+use Rattle.deciding.proofs.refusing.Laws.{false_true}
 use Rattle.arbiter.specs.declared.Answered.{Answered}
 use Rattle.arbiter.specs.Arbiter.{outcome_in, Handled, Called, Shows, Unread, Lent}
 use Rattle.arbiter.specs.Lent.{Same}

@@ -7,32 +7,32 @@ use mathlib.Core.List.{List, []}
 use lib.Dec.{T, leb, le→leb}
 use lib.ListN.{length, get_or}
 use Rattle.memory.proofs.Splice.{splice_none}
-use Rattle.machine.specs.Numbers.{UNSOUND}
-use Rattle.machine.specs.Lists.{any, among}
-use Rattle.machine.specs.State.{Reply, Outcome as OutcomeM}
-use Rattle.machine.specs.Commands.{done}
-use Rattle.machine.specs.Call.{call, in_range}
-use Rattle.machine.proofs.Tests.{and_both}
-use Rattle.machine_laws.proofs.Sound.{parts}
-use Rattle.machine_laws.specs.Refusals.{refusals, mute, heard, own_reply}
-use Rattle.machine_laws.proofs.Refusals.{refused_same, refused-mute, refused-heard}
-use Rattle.machine_laws.specs.Keeping.{Counted}
-use Rattle.machine_laws.proofs.KeepingCalls.{call-sound}
-use Rattle.machine_laws.proofs.Board.{call-wide}
-use Rattle.reply.specs.Replies.{sent}
-use Rattle.store.specs.Store.{table_of}
-use Rattle.board.specs.declared.Board.{Board}
-use Rattle.board.specs.declared.Outcome.{Outcome}
-use Rattle.board.specs.Board.{sized, struct_of, state_in, Held, Told}
-use Rattle.board.proofs.Laws.{held_next}
+use Rattle.answers.specs.machine.Numbers.{UNSOUND}
+use Rattle.answers.specs.machine.Lists.{any, among}
+use Rattle.answers.specs.machine.State.{Reply, Outcome as OutcomeM}
+use Rattle.answers.specs.machine.Commands.{done}
+use Rattle.answers.specs.machine.Call.{call, in_range}
+use Rattle.answers.proofs.machine.Tests.{and_both}
+use Rattle.display.proofs.machine_laws.Sound.{parts}
+use Rattle.display.specs.machine_laws.Refusals.{refusals, mute, heard, own_reply}
+use Rattle.display.proofs.machine_laws.Refusals.{refused_same, refused-mute, refused-heard}
+use Rattle.display.specs.machine_laws.Keeping.{Counted}
+use Rattle.display.proofs.machine_laws.KeepingCalls.{call-sound}
+use Rattle.display.proofs.machine_laws.Board.{call-wide}
+use Rattle.answers.specs.reply.Replies.{sent}
+use Rattle.answers.specs.store.Store.{table_of}
+use Rattle.image.specs.board.declared.Board.{Board}
+use Rattle.image.specs.board.declared.Outcome.{Outcome}
+use Rattle.image.specs.board.Board.{sized, struct_of, state_in, Held, Told}
+use Rattle.image.proofs.board.Laws.{held_next}
 use Rattle.sound.specs.Sound.{Decides, board_test}
 use Rattle.sound.proofs.Own.{decides}
 use Rattle.answers.specs.declared.Request.{Request}
 use Rattle.answers.specs.declared.Answer.{Answer}
-use Rattle.refusals.specs.declared.Op.{Op}
-use Rattle.refusals.specs.Refusals.{op_in, asked_of}
+use Rattle.deciding.specs.refusals.declared.Op.{Op}
+use Rattle.deciding.specs.refusals.Refusals.{op_in, asked_of}
 use Rattle.arbiter.specs.Arbiter.{Unmoved, Handled, Called}
-use Rattle.refusing.proofs.Laws.{false_true}
+use Rattle.deciding.proofs.refusing.Laws.{false_true}
 use Rattle.deciding.proofs.Laws.{bytes-cycles}
 use Rattle.arbiter.specs.Outcome.{Same}
 

@@ -7,27 +7,27 @@ use mathlib.Core.List.{List}
 use native.Mathlib.Omega.{arith}
 use lib.Dec.{T, leb, le→leb, leb→le}
 use lib.ListN.{length, get_or}
-use Rattle.machine.specs.State.{State as StateM, Call}
-use Rattle.machine.specs.Refusals.{Refusal, accepted, refusal}
-use Rattle.machine.specs.Call.{answering, call, in_range}
-use Rattle.machine.proofs.Tests.{and_both}
-use Rattle.machine_laws.proofs.Board.{call-wide as call_as_wide}
+use Rattle.answers.specs.machine.State.{State as StateM, Call}
+use Rattle.answers.specs.machine.Refusals.{Refusal, accepted, refusal}
+use Rattle.answers.specs.machine.Call.{answering, call, in_range}
+use Rattle.answers.proofs.machine.Tests.{and_both}
+use Rattle.display.proofs.machine_laws.Board.{call-wide as call_as_wide}
 use Rattle.widening.specs.Widening.{widen, widen_o}
 use Rattle.widening.proofs.Calls.{call-wide, accepted-wide}
-use Rattle.store.specs.Store.{state_in as wide_in, struct_of as wide_of}
+use Rattle.answers.specs.store.Store.{state_in as wide_in, struct_of as wide_of}
 use Rattle.sound.specs.Sound.{Decides}
 use Rattle.answers.specs.declared.Request.{Request}
 use Rattle.answers.specs.declared.Outcome.{Outcome as WideOutcome}
 use Rattle.answers.specs.Answers.{Told as WideTold}
 use Rattle.answers.proofs.Laws.{told_as}
-use Rattle.board.specs.declared.Board.{Board}
-use Rattle.board.specs.declared.Outcome.{Outcome}
-use Rattle.board.specs.Board.{state_in, Held, Told}
-use Rattle.board.proofs.Laws.{table-wide, held_parts, held_width, held_wide}
-use Rattle.steps.specs.Steps.{number_of}
-use Rattle.refusals.specs.declared.Op.{Op}
-use Rattle.refusals.specs.Refusals.{op_in, asked_of, Refuses}
-use Rattle.refusing.proofs.Laws.{false_true}
+use Rattle.image.specs.board.declared.Board.{Board}
+use Rattle.image.specs.board.declared.Outcome.{Outcome}
+use Rattle.image.specs.board.Board.{state_in, Held, Told}
+use Rattle.image.proofs.board.Laws.{table-wide, held_parts, held_width, held_wide}
+use Rattle.deciding.specs.steps.Steps.{number_of}
+use Rattle.deciding.specs.refusals.declared.Op.{Op}
+use Rattle.deciding.specs.refusals.Refusals.{op_in, asked_of, Refuses}
+use Rattle.deciding.proofs.refusing.Laws.{false_true}
 use Rattle.deciding.specs.Deciding.{decision_of, Decided}
 use Rattle.deciding.proofs.Laws.{number-refused, zero_accepted, late_room}
 use Rattle.arbiter.specs.Arbiter.{Unmoved, Called, Shown, Shows}

@@ -5,29 +5,29 @@ use mathlib.Core.List.{List, ◌++◌, map}
 use native.Mathlib.Omega.{arith}
 use lib.ListN.{length, get_or, take}
 use lib.Seq.{length-take-le}
-use Rattle.machine.specs.State.{State as StateM, Outcome, Call, Request as Waiting}
-use Rattle.machine.specs.Refusals.{Refusal, refusal}
-use Rattle.machine.specs.Call.{answering, call}
-use Rattle.machine.specs.InBytes.{two_bytes}
-use Rattle.machine_laws.proofs.Board.{call-wide as call_as_wide}
+use Rattle.answers.specs.machine.State.{State as StateM, Outcome, Call, Request as Waiting}
+use Rattle.answers.specs.machine.Refusals.{Refusal, refusal}
+use Rattle.answers.specs.machine.Call.{answering, call}
+use Rattle.answers.specs.machine.InBytes.{two_bytes}
+use Rattle.display.proofs.machine_laws.Board.{call-wide as call_as_wide}
 use Rattle.widening.specs.Widening.{widen}
 use Rattle.display.specs.Looks.{looked_by, looked}
 use Rattle.display.specs.Display.{NUMBERS, corrected, looks_of, displayed}
 use Rattle.display.proofs.Looks.{looked_most}
-use Rattle.lanes.specs.Lanes.{Balanced}
-use Rattle.channel_numbers.specs.ChannelNumbers.{count_at, moved, Moves}
-use Rattle.channel_numbers.proofs.Laws.{moves_held, moved-corrected}
+use Rattle.deciding.specs.lanes.Lanes.{Balanced}
+use Rattle.correcting.specs.channel_numbers.ChannelNumbers.{count_at, moved, Moves}
+use Rattle.correcting.proofs.channel_numbers.Laws.{moves_held, moved-corrected}
 use Rattle.display.proofs.Wide.{looked-wide, corrected-wide}
-use Rattle.store.specs.declared.State.{State}
-use Rattle.store.specs.Store.{state_in as wide_in, Held as WideHeld}
+use Rattle.answers.specs.store.declared.State.{State}
+use Rattle.answers.specs.store.Store.{state_in as wide_in, Held as WideHeld}
 use Rattle.answers.specs.declared.Request.{Request}
 use Rattle.answers.specs.declared.Outcome.{Outcome as WideOutcome}
 use Rattle.answers.specs.Answers.{Told as WideTold}
-use Rattle.board.specs.declared.Board.{Board}
-use Rattle.board.specs.Board.{state_in, Held}
-use Rattle.board.proofs.Laws.{held_parts, held_wide}
-use Rattle.refusals.specs.declared.Op.{Op}
-use Rattle.refusals.specs.Refusals.{asked_of, Refuses}
+use Rattle.image.specs.board.declared.Board.{Board}
+use Rattle.image.specs.board.Board.{state_in, Held}
+use Rattle.image.proofs.board.Laws.{held_parts, held_wide}
+use Rattle.deciding.specs.refusals.declared.Op.{Op}
+use Rattle.deciding.specs.refusals.Refusals.{asked_of, Refuses}
 use Rattle.deciding.specs.Deciding.{decision_of, Moved}
 use Rattle.arbiter.proofs.Own.{in_range_lem, decision, done-wide, own_told}
 use Rattle.arbiter.proofs.Outcome.{handled}

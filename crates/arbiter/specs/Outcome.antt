@@ -3,7 +3,7 @@
 --
 --   Same d d₂ tb tb₂ l l₂    the same answer, board, count, table and list
 use Rattle.std.specs.Prelude.{ℕ, ◌≡◌, List}
-use Rattle.board.specs.declared.Outcome.{Outcome}
+use Rattle.image.specs.board.declared.Outcome.{Outcome}
 
 pub record Same (d d₂ : Outcome) (tb tb₂ l l₂ : List ℕ) : Type 0 where
   pub outcome : d ≡ d₂

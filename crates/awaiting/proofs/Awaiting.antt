@@ -7,17 +7,17 @@ use mathlib.Core.List.{List, [], ◌∷◌, ◌++◌, map}
 use native.Mathlib.Omega.{arith}
 use lib.Dec.{T, ltb, lt→ltb}
 use lib.ListN.{length, get_or, length-append, length-map}
-use Rattle.memory.specs.Splice.{splice}
-use Rattle.memory.proofs.Splice.{splice_none}
+use Rattle.table.specs.memory.Splice.{splice}
+use Rattle.table.proofs.memory.Splice.{splice_none}
 use Rattle.table.specs.Entry.{waiter_entry}
-use Rattle.machine.specs.Numbers.{NONE, NOALLOCATION}
-use Rattle.machine.specs.Lists.{all, among, distinct}
-use Rattle.machine.specs.State.{Lock, State as StateM, free}
-use Rattle.machine.specs.Sound.{ids, writes_of}
-use Rattle.machine.specs.Commands.{playing, done, pending, finished, silent, do_waitcycle}
-use Rattle.machine.proofs.Tests.{and_both}
-use Rattle.machine_laws.proofs.Lists.{pigeon}
-use Rattle.machine_laws.specs.Sound.{Parts}
+use Rattle.answers.specs.machine.Numbers.{NONE, NOALLOCATION}
+use Rattle.answers.specs.machine.Lists.{all, among, distinct}
+use Rattle.answers.specs.machine.State.{Lock, State as StateM, free}
+use Rattle.answers.specs.machine.Sound.{ids, writes_of}
+use Rattle.answers.specs.machine.Commands.{playing, done, pending, finished, silent, do_waitcycle}
+use Rattle.answers.proofs.machine.Tests.{and_both}
+use Rattle.channel.proofs.machine_laws.Lists.{pigeon}
+use Rattle.channel.specs.machine_laws.Sound.{Parts}
 use Rattle.queue.specs.declared.Queue.{Queue}
 use Rattle.queue.specs.Queue.{queue_of, pushed}
 use Rattle.queue.proofs.Laws.{pushed_of}
@@ -27,12 +27,12 @@ use Rattle.channel.proofs.Single.{lowest_none, at_none}
 use Rattle.fronts.specs.declared.Front.TheVariants.{Plays}
 use Rattle.fronts.specs.Fronts.{on_air}
 use Rattle.fronts.proofs.Laws.{passes_is}
-use Rattle.store.specs.declared.State.{State}
-use Rattle.store.specs.Store.{lock_item, waiter_item, wait_item, write_items, items, struct_of, table_of, state_in, Held}
-use Rattle.store.specs.Work.{Stands}
-use Rattle.store.proofs.Entries.{Ins, ins_left, ins_right, ins_at, table_add}
-use Rattle.store.proofs.Store.{held_parts, held_eight, keys-items, long-items, short-waits, held_opens}
-use Rattle.granting.proofs.Laws.{held_channels}
+use Rattle.answers.specs.store.declared.State.{State}
+use Rattle.answers.specs.store.Store.{lock_item, waiter_item, wait_item, write_items, items, struct_of, table_of, state_in, Held}
+use Rattle.answers.specs.store.Work.{Stands}
+use Rattle.answers.proofs.store.Entries.{Ins, ins_left, ins_right, ins_at, table_add}
+use Rattle.answers.proofs.store.Store.{held_parts, held_eight, keys-items, long-items, short-waits, held_opens}
+use Rattle.play.proofs.granting.Laws.{held_channels}
 use Rattle.answers.specs.declared.Request.{Request}
 use Rattle.answers.specs.declared.Answer.{Answer}
 use Rattle.answers.specs.Answers.{call_of, answer_of, Told}

@@ -3,7 +3,7 @@
 --   waiter_of r m        the WAITCYCLE of a request, for the channel whose bit is m
 --   awaited_by r m s     the state with it, the youngest
 use Rattle.std.specs.Prelude.{ℕ, [], ◌∷◌, ◌++◌}
-use Rattle.machine.specs.State.{Lock, State as StateM, with_waiters}
+use Rattle.answers.specs.machine.State.{Lock, State as StateM, with_waiters}
 use Rattle.answers.specs.declared.Request.{Request}
 
 abbrev pub waiter_of : Request → ℕ → Lock

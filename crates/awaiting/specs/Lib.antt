@@ -1,1 +1,2 @@
 pub mod Awaiting
+pub use Rattle.play.specs as play

@@ -3,16 +3,17 @@
 #![tactic(auto)]
 
 ghost use Rattle.std.specs.Prelude.{◌≡◌, not, [], ◌<◌, T};
-ghost use Rattle.machine.specs.Lists.{among};
-ghost use Rattle.machine.specs.Sound.{ids};
-ghost use Rattle.machine.specs.Commands.{do_waitcycle};
-ghost use Rattle.store.specs.Store.{state_in, Held};
-ghost use Rattle.store.specs.Work.{Stands, Ready};
+ghost use Rattle.answers.specs.machine.Lists.{among};
+ghost use Rattle.answers.specs.machine.Sound.{ids};
+ghost use Rattle.answers.specs.machine.Commands.{do_waitcycle};
+ghost use Rattle.answers.specs.store.Store.{state_in, Held};
+ghost use Rattle.answers.specs.store.Work.{Stands, Ready};
 ghost use Rattle.answers.specs.Answers.{call_of, Does};
 ghost use Rattle.awaiting.specs.Awaiting.{awaited_by};
 
+use answers::store::State;
 use answers::{Outcome, Request};
-use store::State;
+pub use play;
 use table::Head;
 
 // One that is outstanding: its id last in the queue, its entry in the table.

@@ -9,20 +9,20 @@ use native.Mathlib.Omega.{arith}
 use lib.Dec.{T, eqb, eqb→eq, leb→le}
 use lib.ListN.{length, take, drop, length-map, length-take, take-append-drop}
 use lib.Seq.{take_at, drop_at}
-use Rattle.machine.specs.State.{Channel as ChannelM, State as StateM, Call, Op, frees, fresh_on, with_channels}
-use Rattle.machine.specs.Sound.{sound, sound_request}
-use Rattle.machine.specs.Numbers.{ENTRIES}
-use Rattle.machine.specs.Lists.{all}
-use Rattle.machine.specs.Machine.{machine}
-use Rattle.machine.specs.Refusals.{accepted, refusal}
-use Rattle.machine_laws.specs.Sound.{Parts}
-use Rattle.machine_laws.proofs.Sound.{parts, unparts}
+use Rattle.open_keys.specs.machine.State.{Channel as ChannelM, State as StateM, Call, Op, frees, fresh_on, with_channels}
+use Rattle.open_keys.specs.machine.Sound.{sound, sound_request}
+use Rattle.open_keys.specs.machine.Numbers.{ENTRIES}
+use Rattle.open_keys.specs.machine.Lists.{all}
+use Rattle.open_keys.specs.machine.Machine.{machine}
+use Rattle.open_keys.specs.machine.Refusals.{accepted, refusal}
+use Rattle.channel.specs.machine_laws.Sound.{Parts}
+use Rattle.channel.proofs.machine_laws.Sound.{parts, unparts}
 use Rattle.channel.specs.declared.Channel.{Channel}
 use Rattle.channel.specs.Channel.{channel_of, channel_in}
-use Rattle.store.specs.declared.State.{State}
-use Rattle.store.specs.Store.{struct_of as wide_of, state_in as wide_in, write_in, table_of, items, write_items, Held as WideHeld}
+use Rattle.answers.specs.store.declared.State.{State}
+use Rattle.answers.specs.store.Store.{struct_of as wide_of, state_in as wide_in, write_in, table_of, items, write_items, Held as WideHeld}
 use Rattle.open_keys.specs.OpenKeys.{keys_in}
-use Rattle.store.proofs.Store.{state_in_of as wide_in_of, held_next as wide_next, held_parts as wide_parts, opens-count, length_table_of, parts_long}
+use Rattle.answers.proofs.store.Store.{state_in_of as wide_in_of, held_next as wide_next, held_parts as wide_parts, opens-count, length_table_of, parts_long}
 use Rattle.widening.specs.Widening.{wider, widen}
 use Rattle.widening.proofs.Maps.{length-wider, length-frees}
 use Rattle.widening.proofs.Sound.{sound-wide, sound_narrow}

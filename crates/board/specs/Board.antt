@@ -10,12 +10,12 @@
 --   Held b tb           they hold a sound state of four or eight channels, and are the ones that stand for it
 --   Did, Told           what a call promises, of a board: the words of crates `store` and `answers`, said of the board's own channels
 use Rattle.std.specs.Prelude.{ℕ, ◌+◌, ◌-◌, ◌≡◌, Bool, ◌||◌, List, map, T, eqb, length, take, if◌then◌else◌}
-use Rattle.machine.specs.State.{State as StateM, Reply, Outcome as OutcomeM, fresh_on, with_channels}
-use Rattle.machine.specs.Sound.{sound}
+use Rattle.open_keys.specs.machine.State.{State as StateM, Reply, Outcome as OutcomeM, fresh_on, with_channels}
+use Rattle.open_keys.specs.machine.Sound.{sound}
 use Rattle.widening.specs.Widening.{widen}
 use Rattle.channel.specs.Channel.{channel_in}
-use Rattle.reply.specs.Replies.{sent}
-use Rattle.store.specs.Store.{struct_of as wide_of, state_in as wide_in, write_in, table_of}
+use Rattle.answers.specs.reply.Replies.{sent}
+use Rattle.answers.specs.store.Store.{struct_of as wide_of, state_in as wide_in, write_in, table_of}
 use Rattle.answers.specs.Answers.{answer_of}
 use Rattle.board.specs.declared.Board.{Board}
 use Rattle.board.specs.declared.Outcome.{Outcome}

@@ -6,7 +6,9 @@ ghost use Rattle.std.specs.Prelude.{◌≡◌};
 ghost use Rattle.board.specs.Board.{sized as sized_m, top_of, fresh_board};
 
 use answers::Answer;
-use store::State;
+pub use answers::store;
+use answers::store::State;
+pub use channel;
 
 #[derive(Clone, Copy)]
 pub struct Board {

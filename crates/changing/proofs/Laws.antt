@@ -7,22 +7,22 @@ use mathlib.Core.List.{List, [], ◌∷◌, map}
 use native.Mathlib.Omega.{arith}
 use lib.Dec.{T, ltb, lt→ltb}
 use lib.ListN.{length, length-append, length-map}
-use Rattle.machine.specs.Lists.{all, among, distinct}
-use Rattle.machine.specs.State.{Lock, State as StateM, Call}
-use Rattle.machine.specs.Maps.{minus}
-use Rattle.machine.specs.Granting.{dropped}
-use Rattle.machine.specs.Commands.{reset, same, set_stop, flushed, set_prec, cleared, is_empty, freeing_replies, each_change, do_free, do_read, do_write, do_waitcycle, do_lock}
-use Rattle.machine.specs.Sound.{writes_of, ids}
-use Rattle.machine.specs.Kinds.{kind}
-use Rattle.machine.specs.Call.{perform}
-use Rattle.machine.proofs.Tests.{and_both}
-use Rattle.machine_laws.proofs.Lists.{pigeon, keep_length}
-use Rattle.machine_laws.specs.Sound.{Parts}
-use Rattle.store.specs.declared.State.{State}
-use Rattle.store.specs.Store.{state_in}
-use Rattle.store.specs.Work.{Ready}
-use Rattle.store.proofs.Store.{held_parts}
-use Rattle.granting.proofs.Few.{dropped_few}
+use Rattle.answers.specs.machine.Lists.{all, among, distinct}
+use Rattle.answers.specs.machine.State.{Lock, State as StateM, Call}
+use Rattle.answers.specs.machine.Maps.{minus}
+use Rattle.answers.specs.machine.Granting.{dropped}
+use Rattle.answers.specs.machine.Commands.{reset, same, set_stop, flushed, set_prec, cleared, is_empty, freeing_replies, each_change, do_free, do_read, do_write, do_waitcycle, do_lock}
+use Rattle.answers.specs.machine.Sound.{writes_of, ids}
+use Rattle.answers.specs.machine.Kinds.{kind}
+use Rattle.answers.specs.machine.Call.{perform}
+use Rattle.answers.proofs.machine.Tests.{and_both}
+use Rattle.channel.proofs.machine_laws.Lists.{pigeon, keep_length}
+use Rattle.channel.specs.machine_laws.Sound.{Parts}
+use Rattle.answers.specs.store.declared.State.{State}
+use Rattle.answers.specs.store.Store.{state_in}
+use Rattle.answers.specs.store.Work.{Ready}
+use Rattle.answers.proofs.store.Store.{held_parts}
+use Rattle.sweep.proofs.granting.Few.{dropped_few}
 use Rattle.answers.specs.declared.Request.{Request}
 use Rattle.changing.specs.Changing.{Accepted, Among}
 

@@ -5,13 +5,13 @@
 --   Among n ns      n is one of the numbers ns
 --   Accepted ..     a sound state is held, the reply list is long enough, the id is valid and idle, the map is on the board
 use Rattle.std.specs.Prelude.{ℕ, ◌≤◌, ◌<◌, ◌≡◌, not, ◌⊎◌, List, [], ◌∷◌, T, length}
-use Rattle.machine.specs.Lists.{among}
-use Rattle.machine.specs.State.{State as StateM, Outcome as OutcomeM}
-use Rattle.machine.specs.Sound.{ids}
-use Rattle.machine.specs.Kinds.{kind}
-use Rattle.machine.specs.Call.{perform}
-use Rattle.store.specs.declared.State.{State}
-use Rattle.store.specs.Store.{state_in, Held}
+use Rattle.answers.specs.machine.Lists.{among}
+use Rattle.answers.specs.machine.State.{State as StateM, Outcome as OutcomeM}
+use Rattle.answers.specs.machine.Sound.{ids}
+use Rattle.answers.specs.machine.Kinds.{kind}
+use Rattle.answers.specs.machine.Call.{perform}
+use Rattle.answers.specs.store.declared.State.{State}
+use Rattle.answers.specs.store.Store.{state_in, Held}
 use Rattle.answers.specs.declared.Request.{Request}
 use Rattle.answers.specs.Answers.{call_of}
 

@@ -1,1 +1,2 @@
 pub mod Changing
+pub use Rattle.freeing.specs as freeing

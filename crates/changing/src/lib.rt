@@ -5,9 +5,10 @@ ghost use Rattle.std.specs.Prelude.{[], ◌∷◌};
 ghost use Rattle.answers.specs.Answers.{Does};
 ghost use Rattle.changing.specs.Changing.{command_of, Accepted, Among};
 
+use answers::store::State;
 use answers::{Outcome, Request};
 use channel::Change;
-use store::State;
+pub use freeing;
 
 // RESET, FLUSH and FREE: writes are aborted.
 pub fn dropping(r: Request, s: State, table: &mut [u8], replies: &mut [u8]) -> Outcome

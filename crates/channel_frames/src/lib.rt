@@ -7,6 +7,7 @@ ghost use Rattle.sheet.specs.Sheet.{sheet, channel_from, channel_taken, Takes};
 
 use channel::Channel;
 use queue::Queue;
+pub use sheet;
 use sheet::Draft;
 
 // The channel of a frame D1, without its writes.

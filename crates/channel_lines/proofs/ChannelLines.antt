@@ -11,12 +11,12 @@ use borrow.Author.Tests.{ltb-true, ltb-false}
 use lib.Dec.{ltb}
 use lib.ListN.{length, take, get_or, length-append, length-take}
 use lib.Seq.{take-suc, take_all, length-take-le}
-use Rattle.memory.specs.Splice.{splice}
-use Rattle.memory.proofs.Splice.{splice_then}
-use Rattle.machine.specs.Log.{line, hex_digit}
-use Rattle.channel.specs.declared.Channel.{Channel}
+use Rattle.spelling.specs.memory.Splice.{splice}
+use Rattle.spelling.proofs.memory.Splice.{splice_then}
+use Rattle.spelling.specs.machine.Log.{line, hex_digit}
+use Rattle.board.specs.channel.declared.Channel.{Channel}
 use Rattle.std.specs.Prelude.{if◌then◌else◌}
-use Rattle.machine.proofs.Tests.{by_test, test_true, test_false}
+use Rattle.spelling.proofs.machine.Tests.{by_test, test_true, test_false}
 use Rattle.board.specs.declared.Board.{Board}
 use Rattle.channel_lines.specs.ChannelLines.{channel_line, channel_lines, board_lines, Shows}
 

@@ -3,11 +3,11 @@
 #![tactic(auto)]
 
 ghost use Rattle.std.specs.Prelude.{◌≡◌, ◌+◌, ◌*◌, ◌≤◌, ◌<◌, ◌%◌, ltb, length, take, if◌then◌else◌};
-ghost use Rattle.memory.specs.Splice.{splice};
+ghost use Rattle.spelling.specs.memory.Splice.{splice};
 ghost use Rattle.channel_lines.specs.ChannelLines.{marks_of, channel_line, channel_lines, Shows};
 
 use board::Board;
-use channel::Channel;
+use board::channel::Channel;
 
 // 1 locked, 2 stopped.
 fn marks(locked: bool, stopped: bool) -> u8

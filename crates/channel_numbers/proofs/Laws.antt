@@ -9,25 +9,25 @@ use native.Mathlib.Omega.{arith}
 use lib.Dec.{T, eqb, eqb→eq}
 use lib.ListN.{length, get_or, set, take, drop, replicate, length-append, length-map, get_or-map}
 use lib.Seq.{drop-cons, take-suc, take_all, length-take-le, get_or-append-add}
-use Rattle.machine.specs.Numbers.{ADCMD_ALLOCATE}
+use Rattle.store.specs.machine.Numbers.{ADCMD_ALLOCATE}
 use Rattle.std.specs.Prelude.{if◌then◌else◌}
-use Rattle.machine.specs.Lists.{any, keep, among, distinct}
-use Rattle.machine.specs.State.{Write, Channel as ChannelM, Lock, Request, State as StateM, free}
-use Rattle.machine.specs.Maps.{odd, half}
-use Rattle.machine_laws.specs.Sound.{Parts}
+use Rattle.store.specs.machine.Lists.{any, keep, among, distinct}
+use Rattle.store.specs.machine.State.{Write, Channel as ChannelM, Lock, Request, State as StateM, free}
+use Rattle.store.specs.machine.Maps.{odd, half}
+use Rattle.display.specs.machine_laws.Sound.{Parts}
 use Rattle.channel.specs.declared.Channel.{Channel}
 use Rattle.channel.specs.Channel.{channel_of}
 use Rattle.channel.proofs.Laws.{Few}
-use Rattle.machine.proofs.Tests.{and_left, and_right, by_test, test_true, test_false, nor_right}
-use Rattle.memory.specs.Splice.{splice, block}
-use Rattle.memory.proofs.Splice.{splice_none, splice_snoc, splice_then}
+use Rattle.store.proofs.machine.Tests.{and_left, and_right, by_test, test_true, test_false, nor_right}
+use Rattle.table.specs.memory.Splice.{splice, block}
+use Rattle.table.proofs.memory.Splice.{splice_none, splice_snoc, splice_then}
 use Rattle.table.specs.Entry.{write_entry, span_entry, wait_entry}
 use Rattle.queue.specs.declared.Queue.{Queue}
 use Rattle.queue.specs.Queue.{list_of}
 use Rattle.store.specs.declared.State.{State}
 use Rattle.store.specs.Store.{Item, write_item, lock_item, waiter_item, wait_item, write_items, items, keys, Each, lookup, request_in, state_in, Held}
 use Rattle.store.proofs.Store.{parts_long, block_table_of, apart-items, held_parts, held_waiting, waiting-count, writes_few}
-use Rattle.machine_laws.specs.Keeping.{wait_ids}
+use Rattle.display.specs.machine_laws.Keeping.{wait_ids}
 use Rattle.display.specs.Display.{names, naming, writes_on, number, corrected}
 use Rattle.display.proofs.Acting.{waiting-apart}
 use Rattle.lanes.specs.Lanes.{lane, Balanced}

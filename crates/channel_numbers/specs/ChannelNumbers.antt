@@ -5,8 +5,8 @@
 --   moved m l j bs        the numbers bs, which stand from place j on: at each place what joined is added, and what left taken away
 --   Moves s t m l         from state s to t each count moves by what joins and what leaves at its place
 use Rattle.std.specs.Prelude.{ℕ, suc, ◌+◌, ◌≤◌, ◌<◌, ◌≡◌, List, [], ◌∷◌, get_or, if◌then◌else◌}
-use Rattle.machine.specs.State.{State}
-use Rattle.machine.specs.Maps.{odd, half}
+use Rattle.store.specs.machine.State.{State}
+use Rattle.store.specs.machine.Maps.{odd, half}
 use Rattle.display.specs.Display.{NUMBERS, number}
 use Rattle.lanes.specs.Lanes.{lane}
 use Rattle.shifting.specs.Shifting.{shifted}

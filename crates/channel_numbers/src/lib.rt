@@ -4,10 +4,12 @@
 #![tactic(auto)]
 
 ghost use Rattle.std.specs.Prelude.{◌≡◌, map, length, take};
-ghost use Rattle.memory.specs.Splice.{splice};
+ghost use Rattle.table.specs.memory.Splice.{splice};
 ghost use Rattle.channel_numbers.specs.ChannelNumbers.{count_at, moved};
 
 use channel::Channel;
+pub use lanes;
+pub use store;
 use store::State;
 
 // How many writes each channel has.

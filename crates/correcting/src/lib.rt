@@ -6,7 +6,9 @@ ghost use Rattle.machine.specs.InBytes.{two_bytes};
 ghost use Rattle.display.specs.Display.{looks_of};
 ghost use Rattle.channel_numbers.specs.ChannelNumbers.{count_at, moved};
 
-use store::State;
+pub use channel_numbers;
+pub use channel_numbers::lanes;
+use channel_numbers::store::State;
 
 // The looks of the last settling, as a display has them.
 pub fn looks(display: &[u8]) -> usize

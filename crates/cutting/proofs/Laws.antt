@@ -6,29 +6,29 @@ use mathlib.Core.Bool.{false, ◌&&◌}
 use mathlib.Core.List.{List, [], ◌∷◌, ◌++◌, map}
 use native.Mathlib.Omega.{arith}
 use lib.ListN.{length, take}
-use Rattle.machine.specs.Numbers.{synced}
-use Rattle.machine.specs.State.{Write, Channel as ChannelM, Reply}
-use Rattle.machine.specs.Maps.{odd, half, bit, change}
-use Rattle.machine.specs.Granting.{aborted_in, cut_replies}
-use Rattle.machine.specs.Commands.{matching, done, each, playing, in_progress, back, front_only, front_gone, cut_fronts, front_replies, do_finish}
-use Rattle.machine.specs.Sound.{writes_of}
-use Rattle.machine.proofs.Tests.{if_elim}
-use Rattle.machine_laws.specs.Lists.{Sub, end, skip, take as both}
-use Rattle.machine_laws.proofs.Lists.{sub_refl, sub_nil, sub_append, sub_map, sub_length}
-use Rattle.machine_laws.proofs.Sound.{ids_few}
+use Rattle.answers.specs.machine.Numbers.{synced}
+use Rattle.answers.specs.machine.State.{Write, Channel as ChannelM, Reply}
+use Rattle.answers.specs.machine.Maps.{odd, half, bit, change}
+use Rattle.answers.specs.machine.Granting.{aborted_in, cut_replies}
+use Rattle.answers.specs.machine.Commands.{matching, done, each, playing, in_progress, back, front_only, front_gone, cut_fronts, front_replies, do_finish}
+use Rattle.answers.specs.machine.Sound.{writes_of}
+use Rattle.answers.proofs.machine.Tests.{if_elim}
+use Rattle.channel.specs.machine_laws.Lists.{Sub, end, skip, take as both}
+use Rattle.channel.proofs.machine_laws.Lists.{sub_refl, sub_nil, sub_append, sub_map, sub_length}
+use Rattle.channel.proofs.machine_laws.Sound.{ids_few}
 use Rattle.channel.specs.declared.Channel.{Channel}
 use Rattle.channel.specs.declared.Change.TheVariants.{FrontGone, FrontOnly}
 use Rattle.channel.specs.Channel.{channel_of, changed_of, change_each, map_where, matching_each}
 use Rattle.fronts.specs.declared.Front.TheVariants.{Plays}
 use Rattle.fronts.specs.Fronts.{named}
 use Rattle.fronts.proofs.Laws.{in_progress_is}
-use Rattle.store.specs.declared.State.{State}
-use Rattle.store.specs.Store.{write_item, state_in, Held, Small}
-use Rattle.store.specs.Work.{Ready, Did}
-use Rattle.store.proofs.Store.{held_parts, held_eight, write_ids}
-use Rattle.dropped_writes.specs.declared.Dropped.{Dropped}
-use Rattle.dropped_writes.specs.DroppedWrites.{writes_in, Writables, held_in, Dropping, Drops}
-use Rattle.granting.proofs.Laws.{Splits, Cuts, aborted_of, writes_of_lem, aborted_changed, writes_changed, writables_of, held_channels, held_changed, dropping, cuts}
+use Rattle.answers.specs.store.declared.State.{State}
+use Rattle.answers.specs.store.Store.{write_item, state_in, Held, Small}
+use Rattle.answers.specs.store.Work.{Ready, Did}
+use Rattle.answers.proofs.store.Store.{held_parts, held_eight, write_ids}
+use Rattle.sweep.specs.dropped_writes.declared.Dropped.{Dropped}
+use Rattle.sweep.specs.dropped_writes.DroppedWrites.{writes_in, Writables, held_in, Dropping, Drops}
+use Rattle.sweep.proofs.granting.Laws.{Splits, Cuts, aborted_of, writes_of_lem, aborted_changed, writes_changed, writables_of, held_channels, held_changed, dropping, cuts}
 use Rattle.answers.specs.declared.Request.{Request}
 use Rattle.answers.specs.declared.Answer.{Answer}
 use Rattle.answers.specs.declared.Outcome.{Outcome}

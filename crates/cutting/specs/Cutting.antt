@@ -5,11 +5,11 @@
 --                       those to who waited for a cycle of theirs
 --   finish_replies r s   what FINISH replies before its own: the writes in progress at the channels that match are cut
 use Rattle.std.specs.Prelude.{ℕ, List}
-use Rattle.machine.specs.State.{State as StateM, Reply}
-use Rattle.machine.specs.Commands.{matching, in_progress, cut_fronts, front_replies}
-use Rattle.store.specs.declared.State.{State}
-use Rattle.store.specs.Store.{state_in}
-use Rattle.store.specs.Work.{Did}
+use Rattle.answers.specs.machine.State.{State as StateM, Reply}
+use Rattle.answers.specs.machine.Commands.{matching, in_progress, cut_fronts, front_replies}
+use Rattle.answers.specs.store.declared.State.{State}
+use Rattle.answers.specs.store.Store.{state_in}
+use Rattle.answers.specs.store.Work.{Did}
 use Rattle.answers.specs.declared.Request.{Request}
 use Rattle.cutting.specs.declared.Cut.{Cut}
 

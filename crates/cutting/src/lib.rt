@@ -3,17 +3,20 @@
 #![tactic(auto)]
 
 ghost use Rattle.std.specs.Prelude.{◌≡◌, false, [], ◌+◌, ◌<◌, length};
-ghost use Rattle.machine.specs.Numbers.{synced};
-ghost use Rattle.machine.specs.Commands.{front_replies, do_finish};
-ghost use Rattle.store.specs.Store.{state_in};
-ghost use Rattle.store.specs.Work.{Ready};
+ghost use Rattle.answers.specs.machine.Numbers.{synced};
+ghost use Rattle.answers.specs.machine.Commands.{front_replies, do_finish};
+ghost use Rattle.answers.specs.store.Store.{state_in};
+ghost use Rattle.answers.specs.store.Work.{Ready};
 ghost use Rattle.answers.specs.Answers.{call_of, Does};
 ghost use Rattle.cutting.specs.Cutting.{CutsFronts, finish_replies};
 
+use answers::store::State;
 use answers::{Outcome, Request};
 use channel::Change;
+pub use fronts;
 use fronts::Front;
-use store::State;
+use sweep::dropped_writes;
+pub use sweep::granting;
 
 // The state without the front writes, and how many replies there are.
 #[derive(Clone, Copy)]

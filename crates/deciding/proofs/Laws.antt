@@ -10,44 +10,44 @@ use lib.Dec.{T, eqb, leb, ltb, nltb→le, le→leb, leb→le, nleb→lt}
 use lib.ListN.{length, get_or, length-append}
 use borrow.Author.Tests.{le-ltb, lt-ltb}
 use Rattle.std.specs.Prelude.{if◌then◌else◌}
-use Rattle.machine.specs.Lists.{all}
-use Rattle.machine.specs.State.{State as StateM, Outcome as OutcomeM, Call, Op as OpM, OPEN, CLOSE, ABORT, EVENT, COMMAND}
-use Rattle.machine.specs.Choosing.{look}
-use Rattle.machine.specs.Numbers.{CYCLES}
-use Rattle.machine.specs.Commands.{finished, silent, done, cycles_in}
-use Rattle.machine.specs.Allocating.{do_open}
-use Rattle.machine.specs.Settling.{settle}
-use Rattle.machine.specs.Kinds.{kind}
-use Rattle.machine.specs.Refusals.{Refusal, accepted, refused, first, refusal, refuse}
-use Rattle.machine.specs.Call.{settling, open_settling, accept, answering, call, in_range}
-use Rattle.machine.proofs.Tests.{by_test, test_true, test_false, and_right, and_both}
-use Rattle.machine_laws.proofs.Refusals.{first_past}
-use Rattle.machine.proofs.Steps.{first_none}
-use Rattle.machine_laws.specs.Sound.{Parts}
-use Rattle.machine_laws.proofs.Replies.{call-replies}
-use Rattle.machine_laws.proofs.KeepingSettle.{look_unlocked}
-use Rattle.machine_laws.proofs.KeepingCalls.{id-small, range-prec, range-key, open_sound, close_sound, abort_sound, event_sound, perform-sound}
-use Rattle.machine_laws.specs.Board.{Wide}
-use Rattle.machine_laws.proofs.Board.{open_wide, close_wide, abort_wide, event_wide, perform-wide}
-use Rattle.reply.specs.Replies.{sent}
-use Rattle.reply.proofs.Laws.{sent-append, length-sent}
-use Rattle.store.specs.declared.State.{State}
-use Rattle.store.specs.Store.{state_in, Held}
-use Rattle.store.specs.Work.{Ready, Did}
-use Rattle.store.proofs.Store.{held_parts, held_eight, held_next}
+use Rattle.answers.specs.machine.Lists.{all}
+use Rattle.answers.specs.machine.State.{State as StateM, Outcome as OutcomeM, Call, Op as OpM, OPEN, CLOSE, ABORT, EVENT, COMMAND}
+use Rattle.answers.specs.machine.Choosing.{look}
+use Rattle.answers.specs.machine.Numbers.{CYCLES}
+use Rattle.answers.specs.machine.Commands.{finished, silent, done, cycles_in}
+use Rattle.answers.specs.machine.Allocating.{do_open}
+use Rattle.answers.specs.machine.Settling.{settle}
+use Rattle.answers.specs.machine.Kinds.{kind}
+use Rattle.answers.specs.machine.Refusals.{Refusal, accepted, refused, first, refusal, refuse}
+use Rattle.answers.specs.machine.Call.{settling, open_settling, accept, answering, call, in_range}
+use Rattle.answers.proofs.machine.Tests.{by_test, test_true, test_false, and_right, and_both}
+use Rattle.display.proofs.machine_laws.Refusals.{first_past}
+use Rattle.answers.proofs.machine.Steps.{first_none}
+use Rattle.display.specs.machine_laws.Sound.{Parts}
+use Rattle.display.proofs.machine_laws.Replies.{call-replies}
+use Rattle.display.proofs.machine_laws.KeepingSettle.{look_unlocked}
+use Rattle.display.proofs.machine_laws.KeepingCalls.{id-small, range-prec, range-key, open_sound, close_sound, abort_sound, event_sound, perform-sound}
+use Rattle.display.specs.machine_laws.Board.{Wide}
+use Rattle.display.proofs.machine_laws.Board.{open_wide, close_wide, abort_wide, event_wide, perform-wide}
+use Rattle.answers.specs.reply.Replies.{sent}
+use Rattle.answers.proofs.reply.Laws.{sent-append, length-sent}
+use Rattle.answers.specs.store.declared.State.{State}
+use Rattle.answers.specs.store.Store.{state_in, Held}
+use Rattle.answers.specs.store.Work.{Ready, Did}
+use Rattle.answers.proofs.store.Store.{held_parts, held_eight, held_next}
 use Rattle.answers.specs.declared.Request.{Request}
 use Rattle.answers.specs.declared.Answer.{Answer}
 use Rattle.answers.specs.declared.Outcome.{Outcome}
 use Rattle.answers.specs.Answers.{Told}
 use Rattle.answers.proofs.Laws.{told_as}
-use Rattle.refusals.specs.declared.Op.{Op}
-use Rattle.refusals.specs.declared.Op.TheVariants.{Open, Close, Abort, CycleEnded, GaveUp, Command}
-use Rattle.refusals.specs.Refusals.{op_in, asked_of}
-use Rattle.steps.specs.Steps.{number_of}
+use Rattle.operations.specs.refusals.declared.Op.{Op}
+use Rattle.operations.specs.refusals.declared.Op.TheVariants.{Open, Close, Abort, CycleEnded, GaveUp, Command}
+use Rattle.operations.specs.refusals.Refusals.{op_in, asked_of}
+use Rattle.operations.specs.steps.Steps.{number_of}
 use Rattle.operations.specs.Operations.{act, Allowed}
 use Rattle.display.specs.Looks.{looks, acting, looks_after, looked_by}
-use Rattle.lanes.specs.Lanes.{weights, Balanced}
-use Rattle.lanes.proofs.Laws.{balanced_same}
+use Rattle.settling.specs.lanes.Lanes.{weights, Balanced}
+use Rattle.settling.proofs.lanes.Laws.{balanced_same}
 use Rattle.deciding.proofs.Moves.{acts, act-joins, settle_balanced}
 use Rattle.deciding.specs.Deciding.{rests_at, decision_of, joined_by, joined_of, Moved, Decided}
 use Rattle.refusing.specs.Refusing.{due_replies, Refused}

@@ -9,36 +9,36 @@ use native.Mathlib.Omega.{arith}
 use borrow.Author.Tests.{lt-ltb, le-ltb}
 use lib.Dec.{T, T_not, eqb, ltb, eqb→eq}
 use lib.ListN.{length, get_or, length-map}
-use Rattle.machine.specs.Numbers.{ADCMD_ALLOCATE}
+use Rattle.answers.specs.machine.Numbers.{ADCMD_ALLOCATE}
 use Rattle.std.specs.Prelude.{if◌then◌else◌}
-use Rattle.machine.specs.Lists.{any, keep, among, distinct}
-use Rattle.machine.specs.State.{Request as Waiting, State as StateM, Outcome as OutcomeM, Call, Op as OpM, OPEN, CLOSE, ABORT, EVENT, COMMAND}
-use Rattle.machine.specs.Allocating.{enqueue}
-use Rattle.machine.specs.Refusals.{Refusal, accepted, refusal}
-use Rattle.machine.specs.Settling.{settle}
-use Rattle.machine.specs.Call.{settling, answering}
-use Rattle.machine.proofs.Tests.{and_left, and_right, by_test, test_true, test_false, nor_left, nor_right, or_left, or_right}
-use Rattle.machine_laws.specs.Lists.{Sub}
-use Rattle.machine_laws.proofs.Lists.{sub_keep}
-use Rattle.machine_laws.specs.Keeping.{wait_ids}
+use Rattle.answers.specs.machine.Lists.{any, keep, among, distinct}
+use Rattle.answers.specs.machine.State.{Request as Waiting, State as StateM, Outcome as OutcomeM, Call, Op as OpM, OPEN, CLOSE, ABORT, EVENT, COMMAND}
+use Rattle.answers.specs.machine.Allocating.{enqueue}
+use Rattle.answers.specs.machine.Refusals.{Refusal, accepted, refusal}
+use Rattle.answers.specs.machine.Settling.{settle}
+use Rattle.answers.specs.machine.Call.{settling, answering}
+use Rattle.answers.proofs.machine.Tests.{and_left, and_right, by_test, test_true, test_false, nor_left, nor_right, or_left, or_right}
+use Rattle.display.specs.machine_laws.Lists.{Sub}
+use Rattle.display.proofs.machine_laws.Lists.{sub_keep}
+use Rattle.display.specs.machine_laws.Keeping.{wait_ids}
 use Rattle.display.specs.Looks.{acting}
 use Rattle.display.proofs.Acting.{asking, Stays, acting-stays, abort_keeps, waiting-apart, settle_sub}
-use Rattle.memory.specs.Splice.{block}
+use Rattle.table.specs.memory.Splice.{block}
 use Rattle.table.specs.Entry.{list_in}
 use Rattle.queue.specs.Queue.{list_of}
-use Rattle.store.specs.declared.State.{State}
-use Rattle.store.specs.Store.{struct_of, state_in, Held, Each, request_in}
-use Rattle.store.proofs.Store.{held_parts, waiting-count}
-use Rattle.waiting.proofs.Waiting.{id_at}
-use Rattle.waiting.proofs.Finding.{readable}
-use Rattle.lanes.specs.Lanes.{word_of, counted, weights, Balanced}
-use Rattle.lanes.proofs.Laws.{weights_in, weights_most, word_most, counted_sub, counted_in_lem, balanced_same}
+use Rattle.answers.specs.store.declared.State.{State}
+use Rattle.answers.specs.store.Store.{struct_of, state_in, Held, Each, request_in}
+use Rattle.answers.proofs.store.Store.{held_parts, waiting-count}
+use Rattle.settling.proofs.waiting.Waiting.{id_at}
+use Rattle.settling.proofs.waiting.Finding.{readable}
+use Rattle.settling.specs.lanes.Lanes.{word_of, counted, weights, Balanced}
+use Rattle.settling.proofs.lanes.Laws.{weights_in, weights_most, word_most, counted_sub, counted_in_lem, balanced_same}
 use Rattle.answers.specs.declared.Request.{Request}
 use Rattle.answers.specs.declared.Outcome.{Outcome}
 use Rattle.answers.specs.Answers.{Told}
-use Rattle.refusals.specs.declared.Op.{Op}
-use Rattle.refusals.specs.declared.Op.TheVariants.{Open, Close, Abort, CycleEnded, GaveUp, Command}
-use Rattle.refusals.specs.Refusals.{op_in, asked_of}
+use Rattle.operations.specs.refusals.declared.Op.{Op}
+use Rattle.operations.specs.refusals.declared.Op.TheVariants.{Open, Close, Abort, CycleEnded, GaveUp, Command}
+use Rattle.operations.specs.refusals.Refusals.{op_in, asked_of}
 use Rattle.operations.specs.Operations.{act, Allowed}
 use Rattle.operations.proofs.Laws.{allowed_abort}
 use Rattle.deciding.specs.Deciding.{waits_in, wait_word, gone_by, joined_by, joined_of, Moved}

@@ -6,17 +6,17 @@ use mathlib.Core.Bool.{Bool, true, false, not, ◌&&◌, ◌||◌}
 use mathlib.Core.List.{List, [], ◌∷◌, ◌++◌, map}
 use lib.Dec.{T, eqb, eqb→eq}
 use lib.ListN.{length, get_or}
-use Rattle.machine.specs.Numbers.{ADCMD_ALLOCATE}
+use Rattle.answers.specs.machine.Numbers.{ADCMD_ALLOCATE}
 use Rattle.std.specs.Prelude.{if◌then◌else◌}
-use Rattle.machine.specs.Lists.{any, among, distinct}
-use Rattle.machine.specs.State.{Write, Channel as ChannelM, Lock, Request, State as StateM}
-use Rattle.machine.proofs.Tests.{and_left, and_right, by_test, test_true, test_false, nor_right}
-use Rattle.machine_laws.specs.Keeping.{wait_ids}
-use Rattle.memory.specs.Splice.{block}
+use Rattle.answers.specs.machine.Lists.{any, among, distinct}
+use Rattle.answers.specs.machine.State.{Write, Channel as ChannelM, Lock, Request, State as StateM}
+use Rattle.answers.proofs.machine.Tests.{and_left, and_right, by_test, test_true, test_false, nor_right}
+use Rattle.display.specs.machine_laws.Keeping.{wait_ids}
+use Rattle.table.specs.memory.Splice.{block}
 use Rattle.table.specs.Entry.{write_entry, span_entry, wait_entry}
-use Rattle.store.specs.declared.State.{State}
-use Rattle.store.specs.Store.{Item, write_item, lock_item, waiter_item, wait_item, write_items, items, keys, Each, lookup, state_in, Held}
-use Rattle.store.proofs.Store.{parts_long, block_table_of, apart-items, held_parts}
+use Rattle.answers.specs.store.declared.State.{State}
+use Rattle.answers.specs.store.Store.{Item, write_item, lock_item, waiter_item, wait_item, write_items, items, keys, Each, lookup, state_in, Held}
+use Rattle.answers.proofs.store.Store.{parts_long, block_table_of, apart-items, held_parts}
 use Rattle.deciding.specs.Deciding.{waits_in}
 
 -- ---- who waits, by the table

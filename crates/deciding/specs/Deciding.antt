@@ -10,20 +10,20 @@
 --   Decided o e r s ms tb l   what `decided` asks: eight channels are held, the numbers fit their bytes, and e is the number of the
 --                             board's refusal
 use Rattle.std.specs.Prelude.{ℕ, zero, suc, ◌≤◌, ◌<◌, ◌≡◌, Bool, false, List, eqb, ltb, length, get_or, if◌then◌else◌}
-use Rattle.machine.specs.Numbers.{ALLOCFAILED, ADCMD_ALLOCATE}
-use Rattle.machine.specs.Refusals.{Refusal, accepted, refused, refusal}
-use Rattle.machine.specs.State.{State as StateM, Call}
-use Rattle.machine.specs.Call.{answering}
+use Rattle.answers.specs.machine.Numbers.{ALLOCFAILED, ADCMD_ALLOCATE}
+use Rattle.answers.specs.machine.Refusals.{Refusal, accepted, refused, refusal}
+use Rattle.answers.specs.machine.State.{State as StateM, Call}
+use Rattle.answers.specs.machine.Call.{answering}
 use Rattle.display.specs.Looks.{acting}
-use Rattle.memory.specs.Splice.{block}
+use Rattle.table.specs.memory.Splice.{block}
 use Rattle.table.specs.Entry.{list_in}
-use Rattle.lanes.specs.Lanes.{word_of, Balanced}
-use Rattle.store.specs.declared.State.{State}
-use Rattle.store.specs.Store.{state_in as wide_in, Held as WideHeld}
+use Rattle.settling.specs.lanes.Lanes.{word_of, Balanced}
+use Rattle.answers.specs.store.declared.State.{State}
+use Rattle.answers.specs.store.Store.{state_in as wide_in, Held as WideHeld}
 use Rattle.answers.specs.declared.Request.{Request}
-use Rattle.refusals.specs.declared.Op.{Op}
-use Rattle.refusals.specs.declared.Op.TheVariants.{Open, Close, Abort, CycleEnded, GaveUp, Command}
-use Rattle.refusals.specs.Refusals.{op_in, asked_of}
+use Rattle.operations.specs.refusals.declared.Op.{Op}
+use Rattle.operations.specs.refusals.declared.Op.TheVariants.{Open, Close, Abort, CycleEnded, GaveUp, Command}
+use Rattle.operations.specs.refusals.Refusals.{op_in, asked_of}
 
 -- "After every call, except .. an OPEN answered -11, walk from the head."
 abbrev pub rests_at : Op → ℕ → Bool

@@ -2,18 +2,21 @@
 #![tactic(auto)]
 
 ghost use Rattle.std.specs.Prelude.{◌≤◌, ◌<◌, ◌≡◌, true, length, get_or};
-ghost use Rattle.memory.specs.Splice.{block};
-ghost use Rattle.refusals.specs.declared.Op.TheVariants.{Abort};
-ghost use Rattle.machine.specs.Call.{answering};
+ghost use Rattle.table.specs.memory.Splice.{block};
+ghost use Rattle.operations.specs.refusals.declared.Op.TheVariants.{Abort};
+ghost use Rattle.answers.specs.machine.Call.{answering};
 ghost use Rattle.display.specs.Looks.{looked_by};
-ghost use Rattle.store.specs.Store.{state_in as wide_in};
+ghost use Rattle.answers.specs.store.Store.{state_in as wide_in};
 ghost use Rattle.answers.specs.Answers.{Told as WideTold};
-ghost use Rattle.refusals.specs.Refusals.{asked_of};
+ghost use Rattle.operations.specs.refusals.Refusals.{asked_of};
 ghost use Rattle.deciding.specs.Deciding.{rests_at, decision_of, waits_in, wait_word, gone_by, joined_by, Moved, Decided};
 
+use answers::store::State;
 use answers::{Answer, Request};
-use refusals::Op;
-use store::State;
+use operations::refusals::Op;
+pub use operations::{refusals, steps};
+pub use refusing;
+pub use settling::lanes;
 
 // An OPEN answered -11 is the one call, of those that are not refused, after which nothing settles.
 fn rests(op: Op, a: Answer) -> bool

@@ -4,11 +4,11 @@
 ghost use Rattle.std.specs.Prelude.{◌≡◌, ◌+◌, ◌≤◌, length};
 ghost use Rattle.image.specs.Image.{keys_from, open_at, queue_at, channel_at, channels_at, state_of, Whole};
 
-use board::Board;
 use channel::Channel;
+use image::board::Board;
+use image::store::State;
 use open_keys::Keys;
-use queue::Queue;
-use store::State;
+use open_keys::queue::Queue;
 
 fn queue_at(bytes: &[u8], at: usize) -> Queue
     requires { at + 65 ≤ length bytes.now }

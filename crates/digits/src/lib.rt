@@ -5,6 +5,8 @@ ghost use Rattle.std.specs.Prelude.{◌≡◌, true, ◌+◌, ◌*◌, ◌<◌, 
 ghost use Rattle.machine.specs.Log.{digit as digit_m};
 ghost use Rattle.digits.specs.Digits.{value_of, spells, pairs};
 
+pub use machine;
+
 // The value of an upper-case hexadecimal digit, and 16 for any other byte.
 fn digit(b: u8) -> u8
     ensures { result ≡ value_of (digit_m b) }

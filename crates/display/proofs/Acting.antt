@@ -13,27 +13,27 @@ use mathlib.Core.List.{List, [], ◌∷◌, ◌++◌}
 use native.Mathlib.Omega.{arith}
 use lib.Dec.{T, eqb, ltb}
 use lib.ListN.{length, length-map}
-use Rattle.machine.specs.Numbers.{nowait, synced, ALLOCFAILED}
+use Rattle.widening.specs.machine.Numbers.{nowait, synced, ALLOCFAILED}
 use Rattle.std.specs.Prelude.{if◌then◌else◌}
-use Rattle.machine.specs.Lists.{all, keep, among, distinct}
-use Rattle.machine.specs.State.{Channel, Lock, Request, State, Outcome, Call, Op, OPEN, CLOSE, ABORT, Event, CYCLE_ENDED, GAVE_UP, EVENT, COMMAND}
-use Rattle.machine.specs.Maps.{meets, at, lowest}
-use Rattle.machine.specs.Choosing.{Look, fails, held, grants, look}
-use Rattle.machine.specs.Granting.{granted, cut}
-use Rattle.machine.specs.Commands.{finished, silent, each, each_change, matches, mismatch, playing, freeing, happened, leaving, do_free, do_finish, do_pervol, do_lock, do_read, do_write, do_waitcycle, do_event, do_close, do_abort}
-use Rattle.machine.specs.Allocating.{enqueue, waits, allocating, do_allocate, opening, do_open}
-use Rattle.machine.specs.Settling.{Found, nobody, somebody, Walk, Settled, staying, saying, on_look, walk, walked, go_on, rounds, settle}
-use Rattle.machine.specs.Sound.{sound, ids, writes_of}
-use Rattle.machine.specs.Kinds.{Kind, RESET, READ, WRITE, UPDATE, CLEAR, STOP, START, FLUSH, FREE, SETPREC, FINISH, PERVOL, LOCK, WAITCYCLE, ALLOCATE, UNKNOWN, kind}
-use Rattle.machine.specs.Refusals.{accepted, refusal}
-use Rattle.machine.specs.Call.{perform, settling, open_settling, accept}
-use Rattle.machine.proofs.Tests.{if_elim}
-use Rattle.machine.proofs.Steps.{first_none}
-use Rattle.machine_laws.specs.Lists.{Sub, end, skip, take}
-use Rattle.machine_laws.proofs.Lists.{sub_refl, sub_keep, sub_map, sub_all, sub_among, sub_distinct, sub_right, sub_trans, ins_all, ins_distinct, pigeon}
-use Rattle.machine_laws.specs.Sound.{Parts}
-use Rattle.machine_laws.specs.Keeping.{lock_ids, wait_ids}
-use Rattle.machine_laws.proofs.KeepingCalls.{id-small, enqueue-ids}
+use Rattle.widening.specs.machine.Lists.{all, keep, among, distinct}
+use Rattle.widening.specs.machine.State.{Channel, Lock, Request, State, Outcome, Call, Op, OPEN, CLOSE, ABORT, Event, CYCLE_ENDED, GAVE_UP, EVENT, COMMAND}
+use Rattle.widening.specs.machine.Maps.{meets, at, lowest}
+use Rattle.widening.specs.machine.Choosing.{Look, fails, held, grants, look}
+use Rattle.widening.specs.machine.Granting.{granted, cut}
+use Rattle.widening.specs.machine.Commands.{finished, silent, each, each_change, matches, mismatch, playing, freeing, happened, leaving, do_free, do_finish, do_pervol, do_lock, do_read, do_write, do_waitcycle, do_event, do_close, do_abort}
+use Rattle.widening.specs.machine.Allocating.{enqueue, waits, allocating, do_allocate, opening, do_open}
+use Rattle.widening.specs.machine.Settling.{Found, nobody, somebody, Walk, Settled, staying, saying, on_look, walk, walked, go_on, rounds, settle}
+use Rattle.widening.specs.machine.Sound.{sound, ids, writes_of}
+use Rattle.widening.specs.machine.Kinds.{Kind, RESET, READ, WRITE, UPDATE, CLEAR, STOP, START, FLUSH, FREE, SETPREC, FINISH, PERVOL, LOCK, WAITCYCLE, ALLOCATE, UNKNOWN, kind}
+use Rattle.widening.specs.machine.Refusals.{accepted, refusal}
+use Rattle.widening.specs.machine.Call.{perform, settling, open_settling, accept}
+use Rattle.widening.proofs.machine.Tests.{if_elim}
+use Rattle.widening.proofs.machine.Steps.{first_none}
+use Rattle.widening.specs.machine_laws.Lists.{Sub, end, skip, take}
+use Rattle.widening.proofs.machine_laws.Lists.{sub_refl, sub_keep, sub_map, sub_all, sub_among, sub_distinct, sub_right, sub_trans, ins_all, ins_distinct, pigeon}
+use Rattle.widening.specs.machine_laws.Sound.{Parts}
+use Rattle.widening.specs.machine_laws.Keeping.{lock_ids, wait_ids}
+use Rattle.widening.proofs.machine_laws.KeepingCalls.{id-small, enqueue-ids}
 use Rattle.display.specs.Looks.{acting}
 use Rattle.display.proofs.Examples.{rows-shown}
 

@@ -9,16 +9,16 @@ use mathlib.Core.List.{List, [], ◌∷◌, ◌++◌}
 use native.Mathlib.Omega.{arith}
 use lib.Dec.{T, ltb, ltb→lt, nltb→le}
 use lib.ListN.{length, get_or, take, length-append, get_or-append}
-use Rattle.machine.specs.State.{State, Call, fresh_on}
-use Rattle.machine.specs.Sound.{sound}
-use Rattle.machine.specs.Refusals.{Refusal, refused, refusal}
-use Rattle.machine.specs.Call.{answering, call, in_range}
-use Rattle.machine.proofs.Tests.{by_test}
-use Rattle.machine.specs.InBytes.{two_bytes}
-use Rattle.machine_laws.proofs.Sound.{parts}
-use Rattle.machine_laws.proofs.Refusals.{refuse_same}
-use Rattle.machine_laws.specs.Keeping.{Counted}
-use Rattle.machine_laws.proofs.KeepingCalls.{call-sound}
+use Rattle.widening.specs.machine.State.{State, Call, fresh_on}
+use Rattle.widening.specs.machine.Sound.{sound}
+use Rattle.widening.specs.machine.Refusals.{Refusal, refused, refusal}
+use Rattle.widening.specs.machine.Call.{answering, call, in_range}
+use Rattle.widening.proofs.machine.Tests.{by_test}
+use Rattle.widening.specs.machine.InBytes.{two_bytes}
+use Rattle.widening.proofs.machine_laws.Sound.{parts}
+use Rattle.widening.proofs.machine_laws.Refusals.{refuse_same}
+use Rattle.widening.specs.machine_laws.Keeping.{Counted}
+use Rattle.widening.proofs.machine_laws.KeepingCalls.{call-sound}
 use Rattle.display.specs.Looks.{looked}
 use Rattle.display.specs.Display.{NUMBERS, DISPLAY, blank, number, numbers, corrected, looks_of, displayed, Bytes}
 use Rattle.display.proofs.Looks.{looked_most, looked-refused}

@@ -10,10 +10,10 @@ use mathlib.Core.Path.{◌≡◌, refl}
 use mathlib.Core.Bool.{true, false}
 use mathlib.Core.List.{List, [], ◌∷◌, ◌++◌, map}
 use lib.ListN.{replicate}
-use Rattle.machine.specs.State.{State, Call, OPEN, CLOSE, ABORT, EVENT, CYCLE_ENDED, COMMAND, free, with_waiting}
-use Rattle.machine.specs.Text.{bytes, page}
-use Rattle.machine.specs.Walks.{plays, chan, wait, stands, asks}
-use Rattle.machine.specs.Machine.{machine}
+use Rattle.widening.specs.machine.State.{State, Call, OPEN, CLOSE, ABORT, EVENT, CYCLE_ENDED, COMMAND, free, with_waiting}
+use Rattle.widening.specs.machine.Text.{bytes, page}
+use Rattle.widening.specs.machine.Walks.{plays, chan, wait, stands, asks}
+use Rattle.widening.specs.machine.Machine.{machine}
 use Rattle.display.specs.Looks.{beyond, reached, look_on, looks_in, looks, acting, looks_after, looked_by, looked}
 use Rattle.display.specs.Display.{names, writes_on, naming, number, numbers_from, numbers, corrected, displayed, holds, record_of, records, load_line, request_lines, display_lines}
 

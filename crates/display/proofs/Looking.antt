@@ -8,17 +8,17 @@ use mathlib.Core.Bool.{Bool, true, false, not}
 use mathlib.Core.List.{List, [], ◌∷◌, ◌++◌, map, append_assoc}
 use native.Mathlib.Omega.{arith}
 use lib.ListN.{length}
-use Rattle.machine.specs.Numbers.{ALLOCFAILED, CHANNELSTOLEN}
+use Rattle.widening.specs.machine.Numbers.{ALLOCFAILED, CHANNELSTOLEN}
 use Rattle.std.specs.Prelude.{if◌then◌else◌}
-use Rattle.machine.specs.Lists.{keep}
-use Rattle.machine.specs.State.{Lock, Request, State, Reply, with_waiting, with_locks}
-use Rattle.machine.specs.Maps.{meets}
-use Rattle.machine.specs.Choosing.{Look, fails, held, grants, look}
-use Rattle.machine.specs.Granting.{granted}
-use Rattle.machine.specs.Commands.{ended}
-use Rattle.machine.specs.Settling.{Found, nobody, somebody, Walk, replied, staying, saying, on_look, walk, walked}
-use Rattle.machine_laws.proofs.Settling.{walk_shorter}
-use Rattle.machine_laws.specs.Looking.{fronted}
+use Rattle.widening.specs.machine.Lists.{keep}
+use Rattle.widening.specs.machine.State.{Lock, Request, State, Reply, with_waiting, with_locks}
+use Rattle.widening.specs.machine.Maps.{meets}
+use Rattle.widening.specs.machine.Choosing.{Look, fails, held, grants, look}
+use Rattle.widening.specs.machine.Granting.{granted}
+use Rattle.widening.specs.machine.Commands.{ended}
+use Rattle.widening.specs.machine.Settling.{Found, nobody, somebody, Walk, replied, staying, saying, on_look, walk, walked}
+use Rattle.widening.proofs.machine_laws.Settling.{walk_shorter}
+use Rattle.widening.specs.machine_laws.Looking.{fronted}
 use Rattle.display.specs.Looks.{beyond, reached, look_on, looks_in, looks, further}
 use Rattle.display.proofs.Looks.{look_on_enough, looks_enough}
 

@@ -11,19 +11,19 @@ use mathlib.Core.List.{List, [], ◌∷◌, ◌++◌}
 use native.Mathlib.Omega.{arith}
 use lib.Dec.{T, eqb}
 use lib.ListN.{length}
-use Rattle.machine.specs.Numbers.{ALLOCFAILED}
-use Rattle.machine.specs.Lists.{all, keep}
-use Rattle.machine.specs.State.{Channel, Lock, Request, State, Answer, Outcome, Call, Op, OPEN, CLOSE, ABORT, EVENT, COMMAND}
-use Rattle.machine.specs.Maps.{meets}
-use Rattle.machine.specs.Choosing.{Look, fails, held, grants, look}
-use Rattle.machine.specs.Granting.{granted}
-use Rattle.machine.specs.Settling.{Found, nobody, somebody, Walk, saying, staying, on_look, walk, walked}
-use Rattle.machine.specs.Allocating.{do_open}
-use Rattle.machine.specs.Call.{settling, open_settling, accept, answering, call}
-use Rattle.machine.specs.Refusals.{Refusal, accepted, refused, refusal}
-use Rattle.machine.proofs.Tests.{if_elim, and_left, and_right, eqb_false}
-use Rattle.machine_laws.proofs.Sound.{parts}
-use Rattle.machine_laws.proofs.Settling.{Fewer, walk_shorter}
+use Rattle.widening.specs.machine.Numbers.{ALLOCFAILED}
+use Rattle.widening.specs.machine.Lists.{all, keep}
+use Rattle.widening.specs.machine.State.{Channel, Lock, Request, State, Answer, Outcome, Call, Op, OPEN, CLOSE, ABORT, EVENT, COMMAND}
+use Rattle.widening.specs.machine.Maps.{meets}
+use Rattle.widening.specs.machine.Choosing.{Look, fails, held, grants, look}
+use Rattle.widening.specs.machine.Granting.{granted}
+use Rattle.widening.specs.machine.Settling.{Found, nobody, somebody, Walk, saying, staying, on_look, walk, walked}
+use Rattle.widening.specs.machine.Allocating.{do_open}
+use Rattle.widening.specs.machine.Call.{settling, open_settling, accept, answering, call}
+use Rattle.widening.specs.machine.Refusals.{Refusal, accepted, refused, refusal}
+use Rattle.widening.proofs.machine.Tests.{if_elim, and_left, and_right, eqb_false}
+use Rattle.widening.proofs.machine_laws.Sound.{parts}
+use Rattle.widening.proofs.machine_laws.Settling.{Fewer, walk_shorter}
 use Rattle.display.specs.Looks.{beyond, reached, look_on, looks_in, looks, acting, looks_after, looked_by, looked, triangle, ending, stops}
 use Rattle.display.proofs.Acting.{accepted-sound, acting_turn, turn_few}
 

@@ -6,15 +6,15 @@ use mathlib.Core.List.{List, [], ◌∷◌, map}
 use native.Mathlib.Omega.{arith}
 use lib.ListN.{length, get_or, take, replicate, length-append, length-map}
 use Rattle.std.specs.Prelude.{if◌then◌else◌}
-use Rattle.machine.specs.Lists.{keep}
-use Rattle.machine.specs.State.{Write, Channel, State, fresh_on}
-use Rattle.machine.specs.Maps.{odd, half}
-use Rattle.machine.specs.Rule.{channel}
-use Rattle.machine.specs.Sound.{writes_of}
-use Rattle.machine.proofs.Tests.{if_elim}
-use Rattle.machine_laws.proofs.Lists.{keep_length}
-use Rattle.machine_laws.specs.Sound.{Parts}
-use Rattle.machine_laws.proofs.Sound.{ids_few}
+use Rattle.widening.specs.machine.Lists.{keep}
+use Rattle.widening.specs.machine.State.{Write, Channel, State, fresh_on}
+use Rattle.widening.specs.machine.Maps.{odd, half}
+use Rattle.widening.specs.machine.Rule.{channel}
+use Rattle.widening.specs.machine.Sound.{writes_of}
+use Rattle.widening.proofs.machine.Tests.{if_elim}
+use Rattle.widening.proofs.machine_laws.Lists.{keep_length}
+use Rattle.widening.specs.machine_laws.Sound.{Parts}
+use Rattle.widening.proofs.machine_laws.Sound.{ids_few}
 use Rattle.display.specs.Display.{NUMBERS, blank, names, naming, writes_on, number, numbers_from, numbers, corrected}
 use Rattle.display.proofs.Wide.{free_behind}
 

@@ -9,19 +9,19 @@ use mathlib.Core.List.{List, [], ◌∷◌, ◌++◌, map, append_assoc}
 use native.Mathlib.Omega.{arith}
 use lib.Dec.{T, eqb, eqb→eq, eqb-suc-zero, not_T}
 use lib.ListN.{length, get_or, take, drop, length-append, length-drop, length-map}
-use Rattle.machine.specs.Numbers.{CMD_WRITE}
+use Rattle.widening.specs.machine.Numbers.{CMD_WRITE}
 use Rattle.std.specs.Prelude.{if◌then◌else◌}
-use Rattle.machine.specs.Lists.{any, keep, among, distinct}
-use Rattle.machine.specs.State.{Channel, Request, State, OPEN, COMMAND}
-use Rattle.machine.specs.Maps.{odd, half}
-use Rattle.machine.specs.Desks.{desk_of}
-use Rattle.machine.specs.Choosing.{Look, fails, held, grants, look}
-use Rattle.machine.specs.Rule.{Names, channel}
-use Rattle.machine.specs.Log.{line}
-use Rattle.machine.specs.Walks.{wait, asks}
-use Rattle.machine.specs.Machine.{machine}
-use Rattle.machine.proofs.Tests.{if_elim, by_test, test_true, test_false, or_left, or_right, eqb_false}
-use Rattle.machine_laws.proofs.Lists.{within-length, among_zero, among_suc, distinct_suc}
+use Rattle.widening.specs.machine.Lists.{any, keep, among, distinct}
+use Rattle.widening.specs.machine.State.{Channel, Request, State, OPEN, COMMAND}
+use Rattle.widening.specs.machine.Maps.{odd, half}
+use Rattle.widening.specs.machine.Desks.{desk_of}
+use Rattle.widening.specs.machine.Choosing.{Look, fails, held, grants, look}
+use Rattle.widening.specs.machine.Rule.{Names, channel}
+use Rattle.widening.specs.machine.Log.{line}
+use Rattle.widening.specs.machine.Walks.{wait, asks}
+use Rattle.widening.specs.machine.Machine.{machine}
+use Rattle.widening.proofs.machine.Tests.{if_elim, by_test, test_true, test_false, or_left, or_right, eqb_false}
+use Rattle.widening.proofs.machine_laws.Lists.{within-length, among_zero, among_suc, distinct_suc}
 use Rattle.display.specs.Display.{NUMBERS, DISPLAY, names, writes_on, naming, number, numbers_from, numbers, holds, record_of, records, load_line, request_lines, Bytes}
 use Rattle.display.specs.Runs.{Orderly}
 use Rattle.display.specs.Standing.{gone, Agree}

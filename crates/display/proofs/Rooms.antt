@@ -6,15 +6,15 @@ use mathlib.Core.Path.{◌≡◌, refl, ap, ap₂, sym, ◌∙◌}
 use mathlib.Core.Logic.{⊎_elim}
 use mathlib.Core.List.{List, ◌++◌}
 use lib.ListN.{take}
-use Rattle.machine.specs.State.{State, Outcome, Call, Op, OPEN, CLOSE, ABORT, EVENT, COMMAND}
-use Rattle.machine.specs.Choosing.{look}
-use Rattle.machine.specs.Commands.{silent, do_event, do_close, do_abort}
-use Rattle.machine.specs.Allocating.{do_open}
-use Rattle.machine.specs.Kinds.{kind}
-use Rattle.machine.specs.Refusals.{Refusal, accepted, refused, refusal}
-use Rattle.machine.specs.InBytes.{two_bytes}
-use Rattle.machine_laws.specs.Rooms.{lent}
-use Rattle.machine_laws.proofs.Rooms.{refusal-lent, open_lent, perform-lent, room_unread, short-refused}
+use Rattle.widening.specs.machine.State.{State, Outcome, Call, Op, OPEN, CLOSE, ABORT, EVENT, COMMAND}
+use Rattle.widening.specs.machine.Choosing.{look}
+use Rattle.widening.specs.machine.Commands.{silent, do_event, do_close, do_abort}
+use Rattle.widening.specs.machine.Allocating.{do_open}
+use Rattle.widening.specs.machine.Kinds.{kind}
+use Rattle.widening.specs.machine.Refusals.{Refusal, accepted, refused, refusal}
+use Rattle.widening.specs.machine.InBytes.{two_bytes}
+use Rattle.widening.specs.machine_laws.Rooms.{lent}
+use Rattle.widening.proofs.machine_laws.Rooms.{refusal-lent, open_lent, perform-lent, room_unread, short-refused}
 use Rattle.display.specs.Looks.{acting, looks_after, looked_by, looked}
 use Rattle.display.specs.Display.{NUMBERS, corrected, looks_of, displayed}
 use Rattle.display.proofs.Looks.{looked-refused}

@@ -9,10 +9,10 @@ use mathlib.Core.List.{List, [], ◌∷◌}
 use native.Mathlib.Omega.{arith}
 use lib.Dec.{T}
 use lib.ListN.{length, take}
-use Rattle.machine.specs.State.{State, Call, fresh_on}
-use Rattle.machine.specs.Sound.{sound}
-use Rattle.machine.specs.Call.{call}
-use Rattle.machine_laws.proofs.KeepingCalls.{call-sound}
+use Rattle.widening.specs.machine.State.{State, Call, fresh_on}
+use Rattle.widening.specs.machine.Sound.{sound}
+use Rattle.widening.specs.machine.Call.{call}
+use Rattle.widening.proofs.machine_laws.KeepingCalls.{call-sound}
 use Rattle.display.specs.Display.{NUMBERS, DISPLAY, blank, numbers, looks_of, displayed}
 use Rattle.display.specs.Runs.{after_calls, shown_after, Orderly}
 use Rattle.display.proofs.Looks.{looked_few}

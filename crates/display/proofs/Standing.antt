@@ -13,18 +13,18 @@ use native.Mathlib.Omega.{arith}
 use lib.Dec.{T, T_not, not_T, eqb, ltb, eqb→eq, eqb_refl}
 use lib.ListN.{length}
 use Rattle.std.specs.Prelude.{if◌then◌else◌}
-use Rattle.machine.specs.Lists.{any, keep, among, distinct}
-use Rattle.machine.specs.State.{Request, State, Call}
-use Rattle.machine.specs.Allocating.{enqueue}
-use Rattle.machine.specs.Refusals.{Refusal, accepted, refused, refusal}
-use Rattle.machine.specs.Call.{accept, answering, call}
-use Rattle.machine.proofs.Tests.{if_elim, by_test, test_true, test_false, and_left, and_right, nor_left, nor_right, or_left, or_right, eqb_flip, eqb_false}
-use Rattle.machine_laws.specs.Lists.{Sub, end, skip, take}
-use Rattle.machine_laws.proofs.Lists.{sub_map, sub_among}
-use Rattle.machine_laws.specs.Keeping.{wait_ids}
-use Rattle.machine_laws.specs.Sound.{Parts}
-use Rattle.machine_laws.proofs.Sound.{parts}
-use Rattle.machine_laws.proofs.Refusals.{refuse_same}
+use Rattle.widening.specs.machine.Lists.{any, keep, among, distinct}
+use Rattle.widening.specs.machine.State.{Request, State, Call}
+use Rattle.widening.specs.machine.Allocating.{enqueue}
+use Rattle.widening.specs.machine.Refusals.{Refusal, accepted, refused, refusal}
+use Rattle.widening.specs.machine.Call.{accept, answering, call}
+use Rattle.widening.proofs.machine.Tests.{if_elim, by_test, test_true, test_false, and_left, and_right, nor_left, nor_right, or_left, or_right, eqb_flip, eqb_false}
+use Rattle.widening.specs.machine_laws.Lists.{Sub, end, skip, take}
+use Rattle.widening.proofs.machine_laws.Lists.{sub_map, sub_among}
+use Rattle.widening.specs.machine_laws.Keeping.{wait_ids}
+use Rattle.widening.specs.machine_laws.Sound.{Parts}
+use Rattle.widening.proofs.machine_laws.Sound.{parts}
+use Rattle.widening.proofs.machine_laws.Refusals.{refuse_same}
 use Rattle.display.specs.Looks.{acting}
 use Rattle.display.specs.Display.{names, naming}
 use Rattle.display.specs.Standing.{being, gone, Agree}

@@ -8,30 +8,30 @@ use mathlib.Core.List.{List, [], ◌∷◌, ◌++◌}
 use native.Mathlib.Omega.{arith}
 use lib.Dec.{T, eqb, ltb, ltb→lt}
 use lib.ListN.{length, get_or, take}
-use Rattle.machine.specs.Numbers.{ALLOCFAILED, CYCLES}
+use Rattle.widening.specs.machine.Numbers.{ALLOCFAILED, CYCLES}
 use Rattle.std.specs.Prelude.{if◌then◌else◌}
-use Rattle.machine.specs.Lists.{all, any, among, keep}
-use Rattle.machine.specs.State.{Channel, Lock, Request, State, Outcome, Call, Op, OPEN, CLOSE, ABORT, EVENT, COMMAND, free, frees}
-use Rattle.machine.specs.Maps.{odd, half, meets, lowest, at}
-use Rattle.machine.specs.Choosing.{Look, fails, held, grants, look}
-use Rattle.machine.specs.Granting.{key_for, granted, taken}
-use Rattle.machine.specs.Commands.{cycles_in}
-use Rattle.machine.specs.Allocating.{do_open}
-use Rattle.machine.specs.Settling.{Found, nobody, somebody, Walk, walk, walked}
-use Rattle.machine.specs.Sound.{ids}
-use Rattle.machine.specs.Kinds.{Kind, RESET, READ, WRITE, UPDATE, CLEAR, STOP, START, FLUSH, FREE, SETPREC, FINISH, PERVOL, LOCK, WAITCYCLE, ALLOCATE, UNKNOWN, kind, allocates, carries}
-use Rattle.machine.specs.Refusals.{Refusal, accepted, refused, bad_map, bad_maps, bad_list, bad_numbers, refusal}
-use Rattle.machine.specs.Rule.{channel}
-use Rattle.machine.specs.Call.{perform, answering, call, in_range}
-use Rattle.machine.proofs.Tests.{if_elim, and_left, and_right, and_both, nor_left, nor_right}
-use Rattle.machine.proofs.Steps.{first_none}
-use Rattle.machine.specs.InBytes.{two_bytes}
-use Rattle.machine_laws.proofs.Maps.{length-change}
-use Rattle.machine_laws.specs.Sound.{Parts}
-use Rattle.machine_laws.proofs.KeepingSettle.{look_unlocked}
-use Rattle.machine_laws.proofs.KeepingCalls.{open_sound, close_sound, abort_sound, event_sound, perform-sound, range-prec, range-key, id-small}
-use Rattle.machine_laws.specs.Lists.{Sub}
-use Rattle.machine_laws.proofs.Lists.{sub_all, sub_length}
+use Rattle.widening.specs.machine.Lists.{all, any, among, keep}
+use Rattle.widening.specs.machine.State.{Channel, Lock, Request, State, Outcome, Call, Op, OPEN, CLOSE, ABORT, EVENT, COMMAND, free, frees}
+use Rattle.widening.specs.machine.Maps.{odd, half, meets, lowest, at}
+use Rattle.widening.specs.machine.Choosing.{Look, fails, held, grants, look}
+use Rattle.widening.specs.machine.Granting.{key_for, granted, taken}
+use Rattle.widening.specs.machine.Commands.{cycles_in}
+use Rattle.widening.specs.machine.Allocating.{do_open}
+use Rattle.widening.specs.machine.Settling.{Found, nobody, somebody, Walk, walk, walked}
+use Rattle.widening.specs.machine.Sound.{ids}
+use Rattle.widening.specs.machine.Kinds.{Kind, RESET, READ, WRITE, UPDATE, CLEAR, STOP, START, FLUSH, FREE, SETPREC, FINISH, PERVOL, LOCK, WAITCYCLE, ALLOCATE, UNKNOWN, kind, allocates, carries}
+use Rattle.widening.specs.machine.Refusals.{Refusal, accepted, refused, bad_map, bad_maps, bad_list, bad_numbers, refusal}
+use Rattle.widening.specs.machine.Rule.{channel}
+use Rattle.widening.specs.machine.Call.{perform, answering, call, in_range}
+use Rattle.widening.proofs.machine.Tests.{if_elim, and_left, and_right, and_both, nor_left, nor_right}
+use Rattle.widening.proofs.machine.Steps.{first_none}
+use Rattle.widening.specs.machine.InBytes.{two_bytes}
+use Rattle.widening.proofs.machine_laws.Maps.{length-change}
+use Rattle.widening.specs.machine_laws.Sound.{Parts}
+use Rattle.widening.proofs.machine_laws.KeepingSettle.{look_unlocked}
+use Rattle.widening.proofs.machine_laws.KeepingCalls.{open_sound, close_sound, abort_sound, event_sound, perform-sound, range-prec, range-key, id-small}
+use Rattle.widening.specs.machine_laws.Lists.{Sub}
+use Rattle.widening.proofs.machine_laws.Lists.{sub_all, sub_length}
 use Rattle.widening.specs.Widening.{wider, widen, widen_o, small_list, Few, Waits}
 use Rattle.widening.proofs.Choosing.{look_wide}
 use Rattle.widening.proofs.Keys.{granted-wide}

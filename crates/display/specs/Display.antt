@@ -22,16 +22,16 @@
 --   Bytes bs               each number is a byte
 use Rattle.std.specs.Prelude.{ℕ, zero, suc, ◌+◌, ◌*◌, ◌/◌, ◌%◌, ◌^◌, ◌<◌, Bool, true, false, List, [], ◌∷◌, ◌++◌, length, get_or, take, drop, replicate, if◌then◌else◌}
 use Rattle.std.proofs.Math.Option.{Option, none, some}
-use Rattle.machine.specs.Lists.{any, keep}
-use Rattle.machine.specs.State.{Channel, Request, State, Call}
-use Rattle.machine.specs.Maps.{odd, half}
-use Rattle.machine.specs.Desks.{desk_of}
-use Rattle.machine.specs.Choosing.{Look, fails, held, grants, look}
-use Rattle.machine.specs.Rule.{channel}
-use Rattle.machine.specs.Call.{call}
+use Rattle.widening.specs.machine.Lists.{any, keep}
+use Rattle.widening.specs.machine.State.{Channel, Request, State, Call}
+use Rattle.widening.specs.machine.Maps.{odd, half}
+use Rattle.widening.specs.machine.Desks.{desk_of}
+use Rattle.widening.specs.machine.Choosing.{Look, fails, held, grants, look}
+use Rattle.widening.specs.machine.Rule.{channel}
+use Rattle.widening.specs.machine.Call.{call}
 use Rattle.display.specs.Looks.{looked}
-use Rattle.machine.specs.Log.{line}
-use Rattle.machine.specs.InBytes.{two_bytes}
+use Rattle.widening.specs.machine.Log.{line}
+use Rattle.widening.specs.machine.InBytes.{two_bytes}
 
 abbrev pub NUMBERS : ℕ
 NUMBERS = 16

@@ -13,17 +13,17 @@
 --   ending l, stops cs r   the look is a grant, so that the walk ends there; so it is of the request r
 --   further front rest s   the looks that are left in the middle of a walk
 use Rattle.std.specs.Prelude.{ℕ, zero, suc, ◌+◌, List, [], ◌∷◌, Bool, true, false, eqb, length, if◌then◌else◌}
-use Rattle.machine.specs.Numbers.{ALLOCFAILED}
-use Rattle.machine.specs.State.{Channel, Request, State, Outcome, Call, Op, OPEN, CLOSE, ABORT, EVENT, COMMAND}
-use Rattle.machine.specs.Choosing.{Look, fails, held, grants, look}
-use Rattle.machine.specs.Granting.{granted}
-use Rattle.machine.specs.Commands.{do_close, do_abort, do_event}
-use Rattle.machine.specs.Allocating.{do_open}
-use Rattle.machine.specs.Settling.{Found, nobody, somebody, Walk, walk, walked}
-use Rattle.machine.specs.Kinds.{kind}
-use Rattle.machine.specs.Refusals.{Refusal, accepted, refused, refusal}
-use Rattle.machine.specs.Call.{perform}
-use Rattle.machine_laws.specs.Looking.{fronted}
+use Rattle.widening.specs.machine.Numbers.{ALLOCFAILED}
+use Rattle.widening.specs.machine.State.{Channel, Request, State, Outcome, Call, Op, OPEN, CLOSE, ABORT, EVENT, COMMAND}
+use Rattle.widening.specs.machine.Choosing.{Look, fails, held, grants, look}
+use Rattle.widening.specs.machine.Granting.{granted}
+use Rattle.widening.specs.machine.Commands.{do_close, do_abort, do_event}
+use Rattle.widening.specs.machine.Allocating.{do_open}
+use Rattle.widening.specs.machine.Settling.{Found, nobody, somebody, Walk, walk, walked}
+use Rattle.widening.specs.machine.Kinds.{kind}
+use Rattle.widening.specs.machine.Refusals.{Refusal, accepted, refused, refusal}
+use Rattle.widening.specs.machine.Call.{perform}
+use Rattle.widening.specs.machine_laws.Looking.{fronted}
 
 -- those behind a request are reached unless it is granted
 unfoldable pub beyond : Look → ℕ → ℕ

@@ -5,8 +5,8 @@
 --   nobody           a request to read beyond the end of a list
 --   Counts p rs n    n of the requests rs pass the test p: as many as a list has that has each of their places once
 use Rattle.std.specs.Prelude.{ℕ, ◌<◌, ◌≡◌, ◌↔◌, Bool, false, List, [], T, length, get_or}
-use Rattle.machine.specs.Lists.{among, distinct}
-use Rattle.machine.specs.State.{Request}
+use Rattle.widening.specs.machine.Lists.{among, distinct}
+use Rattle.widening.specs.machine.State.{Request}
 
 abbrev pub nobody : Request
 nobody = record { id = 0; key = 0; prec = 0; impatient = false; combos = [] }

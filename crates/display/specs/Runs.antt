@@ -4,10 +4,10 @@
 --   after_calls s cs, shown_after s cs d   the state after calls; the display after them, where it was d before
 --   Orderly cs                           each call's numbers fit their bytes, as those of every log and of every call from C do
 use Rattle.std.specs.Prelude.{ℕ, List, [], ◌∷◌, T}
-use Rattle.machine.specs.State.{State, Call}
-use Rattle.machine.specs.Call.{call, in_range}
+use Rattle.widening.specs.machine.State.{State, Call}
+use Rattle.widening.specs.machine.Call.{call, in_range}
 use Rattle.display.specs.Display.{displayed}
-use Rattle.machine_laws.specs.Keeping.{Counted}
+use Rattle.widening.specs.machine_laws.Keeping.{Counted}
 
 unfoldable pub after_calls : State → List Call → State
 after_calls s [] = s

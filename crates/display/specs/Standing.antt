@@ -5,9 +5,9 @@
 --   gone us r      r is none of us
 --   Agree ws vs    whoever stands in both lists is the same in both
 use Rattle.std.specs.Prelude.{ℕ, ◌≡◌, Bool, not, List, T, eqb}
-use Rattle.machine.specs.Lists.{keep, among}
-use Rattle.machine.specs.State.{Request}
-use Rattle.machine_laws.specs.Keeping.{wait_ids}
+use Rattle.widening.specs.machine.Lists.{keep, among}
+use Rattle.widening.specs.machine.State.{Request}
+use Rattle.widening.specs.machine_laws.Keeping.{wait_ids}
 
 abbrev pub being : ℕ → List Request → List Request
 being x us = keep (λ r. eqb x r.id) us

@@ -7,10 +7,10 @@ use native.Mathlib.Omega.{arith}
 use native.Mathlib.Numerals.{add-one}
 use lib.ListN.{length, take, drop, get_or, set, length-append, length-drop, length-map}
 use lib.Seq.{take-suc, length-take-le}
-use Rattle.memory.specs.Splice.{splice}
-use Rattle.memory.proofs.Splice.{splice_then, splice_snoc}
-use Rattle.machine.specs.State.{Channel, Request, State}
-use Rattle.machine.specs.Log.{hex_digit, line}
+use Rattle.spelling.specs.memory.Splice.{splice}
+use Rattle.spelling.proofs.memory.Splice.{splice_then, splice_snoc}
+use Rattle.spelling.specs.machine.State.{Channel, Request, State}
+use Rattle.spelling.specs.machine.Log.{hex_digit, line}
 use Rattle.spelling.specs.Spelling.{digits}
 use Rattle.hex_lines.proofs.HexLines.{length_digits, digits_append, length_line, line_ends}
 use Rattle.display.specs.Display.{record_of, load_line, request_lines, display_lines}

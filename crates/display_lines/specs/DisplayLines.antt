@@ -10,8 +10,8 @@
 --   Shows w d ws out r out'   what `spell` promises: these lines stand in front, every other byte is as before, r is their length, which is
 --                         within the memory lent
 use Rattle.std.specs.Prelude.{ℕ, ◌*◌, ◌≤◌, ◌≡◌, List, [], ◌∷◌, ◌++◌, length, take, drop, if◌then◌else◌}
-use Rattle.machine.specs.Log.{line}
-use Rattle.memory.specs.Splice.{splice}
+use Rattle.spelling.specs.machine.Log.{line}
+use Rattle.spelling.specs.memory.Splice.{splice}
 use Rattle.display.specs.Display.{NUMBERS}
 use Rattle.record_structs.specs.declared.Waiter.{Waiter}
 

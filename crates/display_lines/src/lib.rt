@@ -3,10 +3,12 @@
 #![tactic(auto)]
 
 ghost use Rattle.std.specs.Prelude.{◌≡◌, ◌∷◌, ◌+◌, ◌*◌, ◌≤◌, length, take, if◌then◌else◌};
-ghost use Rattle.memory.specs.Splice.{splice};
-ghost use Rattle.machine.specs.Log.{line};
+ghost use Rattle.spelling.specs.memory.Splice.{splice};
+ghost use Rattle.spelling.specs.machine.Log.{line};
 ghost use Rattle.display_lines.specs.DisplayLines.{load_of, four_of, record_lines, Shows};
 
+pub use record_structs;
+pub use record_structs::{decoding, waiting_list};
 use record_structs::{ROOM, Waiter};
 
 // E0: the two numbers of each of w channels, then the looks.

@@ -7,13 +7,13 @@ use lib.ListN.{length, length-append}
 use Rattle.queue.specs.declared.Queue.{Queue}
 use Rattle.queue.specs.Queue.{queue_of}
 use Rattle.channel.specs.declared.Channel.{Channel}
-use Rattle.reply.specs.Replies.{sent}
-use Rattle.reply.proofs.Laws.{length-sent, sent-append}
+use Rattle.locks.specs.reply.Replies.{sent}
+use Rattle.locks.proofs.reply.Laws.{length-sent, sent-append}
 use Rattle.machine.specs.Lists.{keep}
 use Rattle.machine.specs.State.{Lock, Reply}
 use Rattle.machine.specs.Granting.{aborted_in, on_channels, given_up}
-use Rattle.store.specs.Store.{waiter_item, entries}
-use Rattle.fates.specs.declared.End.TheVariants.{Cut}
+use Rattle.locks.specs.store.Store.{waiter_item, entries}
+use Rattle.locks.specs.fates.declared.End.TheVariants.{Cut}
 use Rattle.locks.specs.declared.Sifted.{Sifted}
 use Rattle.locks.specs.Locks.{Locked, Sifting, Sifts}
 use Rattle.locks.proofs.Laws.{lefts_cut, ending_cut}

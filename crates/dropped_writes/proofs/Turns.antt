@@ -13,13 +13,13 @@ use Rattle.memory.proofs.Splice.{splice_none, length-splice}
 use Rattle.queue.specs.Queue.{list_of}
 use Rattle.channel.specs.declared.Channel.{Channel}
 use Rattle.channel.proofs.Turns.{half_pow}
-use Rattle.table.specs.Entry.{idle}
-use Rattle.reply.specs.Replies.{encode, sent}
-use Rattle.reply.proofs.Laws.{length-sent, sent-append}
+use Rattle.locks.specs.table.Entry.{idle}
+use Rattle.locks.specs.reply.Replies.{encode, sent}
+use Rattle.locks.proofs.reply.Laws.{length-sent, sent-append}
 use Rattle.machine.specs.State.{Write, Reply}
 use Rattle.machine.specs.Maps.{odd}
 use Rattle.machine.specs.Granting.{aborted, aborted_in}
-use Rattle.store.specs.Store.{write_in, Small}
+use Rattle.locks.specs.store.Store.{write_in, Small}
 use Rattle.dropped_writes.specs.DroppedWrites.{idled, writes_in, Writable, Writables, held_in}
 
 -- ---- small ids

@@ -18,14 +18,14 @@ use Rattle.queue.specs.Queue.{queue_of, list_of}
 use Rattle.channel.specs.declared.Channel.{Channel}
 use Rattle.channel.specs.Channel.{channel_in}
 use Rattle.memory.specs.Splice.{splice}
-use Rattle.table.specs.Entry.{idle}
+use Rattle.locks.specs.table.Entry.{idle}
 use Rattle.machine.specs.Numbers.{ADCMD_WAITCYCLE}
 use Rattle.machine.specs.Lists.{keep}
 use Rattle.machine.specs.State.{Channel as ChannelM, Lock, Reply}
 use Rattle.machine.specs.Maps.{odd, half}
 use Rattle.machine.specs.Granting.{aborted, aborted_in, on_channels, given_up}
-use Rattle.reply.specs.Replies.{sent}
-use Rattle.store.specs.Store.{Item, waiter_item, entries, write_in, Small, Each}
+use Rattle.locks.specs.reply.Replies.{sent}
+use Rattle.locks.specs.store.Store.{Item, waiter_item, entries, write_in, Small, Each}
 use Rattle.locks.specs.Locks.{Locked}
 use Rattle.dropped_writes.specs.declared.Dropped.{Dropped}
 

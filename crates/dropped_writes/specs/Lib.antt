@@ -1,1 +1,2 @@
 pub mod DroppedWrites
+pub use Rattle.locks.specs as locks

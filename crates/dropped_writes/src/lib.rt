@@ -9,9 +9,11 @@ ghost use Rattle.machine.specs.Granting.{aborted_in};
 ghost use Rattle.dropped_writes.specs.DroppedWrites.{Writable, Writables, held_in, Aborts, AbortsIn, Dropping, Drops};
 
 use channel::Channel;
-use fates::End;
+pub use locks;
+use locks::fates::End;
+use locks::reply::Reply;
+use locks::{reply, table};
 use queue::Queue;
-use reply::Reply;
 
 // Every write of a channel, oldest first.
 pub fn abort_writes(table: &mut [u8], replies: &mut [u8], n: usize, c: Channel) -> usize

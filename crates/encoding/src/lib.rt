@@ -3,13 +3,13 @@
 #![tactic(auto)]
 
 ghost use Rattle.std.specs.Prelude.{◌≡◌, ◌+◌, ◌≤◌, ◌<◌, length, set};
-ghost use Rattle.machine.specs.InBytes.{mark_of};
+ghost use Rattle.open_keys.specs.machine.InBytes.{mark_of};
 ghost use Rattle.image.specs.Image.{keys_bytes, open_bytes, queue_bytes, channel_bytes, Wrote, Entered, Saved};
 
-use board::Board;
 use channel::Channel;
+use image::board::Board;
 use open_keys::Keys;
-use queue::Queue;
+use open_keys::queue::Queue;
 
 fn mark(on: bool) -> u8
     ensures { result ≡ mark_of on }

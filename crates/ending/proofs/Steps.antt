@@ -14,22 +14,22 @@ use Rattle.queue.specs.Queue.{removed}
 use Rattle.channel.specs.declared.Channel.{Channel}
 use Rattle.channel.specs.Channel.{with_writes}
 use Rattle.channel.proofs.Single.{change_pow}
-use Rattle.table.specs.Entry.{idle, number_bytes, write_entry, list_in}
-use Rattle.reply.specs.Replies.{encode}
+use Rattle.tuning.specs.table.Entry.{idle, number_bytes, write_entry, list_in}
+use Rattle.tuning.specs.reply.Replies.{encode}
 use Rattle.machine.specs.State.{Write, Channel as ChannelM, State as StateM, Reply, free, with_channels}
 use Rattle.machine.specs.Maps.{change}
 use Rattle.machine.specs.Commands.{back, front, set_writes, on_first, on_front, cycled, last_replies}
-use Rattle.store.specs.declared.State.{State}
-use Rattle.store.specs.Store.{Item, items, lookup, state_in, Held}
-use Rattle.store.specs.Work.{Did}
-use Rattle.store.proofs.Store.{Written, good_of, parts_long, block_table_of, write_list, write_entries, held_parts, held_eight}
+use Rattle.tuning.specs.store.declared.State.{State}
+use Rattle.tuning.specs.store.Store.{Item, items, lookup, state_in, Held}
+use Rattle.tuning.specs.store.Work.{Did}
+use Rattle.tuning.proofs.store.Store.{Written, good_of, parts_long, block_table_of, write_list, write_entries, held_parts, held_eight}
 use Rattle.play.specs.Play.{with_channel, with_front}
 use Rattle.play.proofs.Queue.{channel_is, front_struct, front_table, front_room}
-use Rattle.cycles.specs.declared.Turn.{Turn}
-use Rattle.cycles.specs.declared.Turn.TheVariants.{Cut, Over, On}
-use Rattle.cycles.specs.Cycles.{turn_in, turn_of, next_of, turn_replies, turn_queue}
-use Rattle.cycles.proofs.Laws.{turn_is, turn_replies_lem, turn_queue_lem}
-use Rattle.retuning.specs.declared.Tune.TheVariants.{Next}
+use Rattle.tuning.specs.cycles.declared.Turn.{Turn}
+use Rattle.tuning.specs.cycles.declared.Turn.TheVariants.{Cut, Over, On}
+use Rattle.tuning.specs.cycles.Cycles.{turn_in, turn_of, next_of, turn_replies, turn_queue}
+use Rattle.tuning.proofs.cycles.Laws.{turn_is, turn_replies_lem, turn_queue_lem}
+use Rattle.tuning.specs.retuning.declared.Tune.TheVariants.{Next}
 use Rattle.tuning.specs.Tuning.{Tunes}
 use Rattle.ending.specs.declared.Ended.{Ended}
 use Rattle.ending.specs.Ending.{Led, end_reply, EndsWrite, with_cycle, cycle_replies, EndsCycle}

@@ -11,9 +11,9 @@ use Rattle.std.specs.Prelude.{ℕ, ◌^◌, ◌≡◌, true, List, [], ◌∷◌
 use Rattle.machine.specs.Numbers.{CMD_WRITE}
 use Rattle.machine.specs.State.{Write, Reply, State as StateM, free, with_channels}
 use Rattle.machine.specs.Commands.{front, playing, front_cycled, last_replies}
-use Rattle.store.specs.declared.State.{State}
-use Rattle.store.specs.Store.{state_in}
-use Rattle.store.specs.Work.{Did}
+use Rattle.tuning.specs.store.declared.State.{State}
+use Rattle.tuning.specs.store.Store.{state_in}
+use Rattle.tuning.specs.store.Work.{Did}
 use Rattle.play.specs.Play.{with_front}
 use Rattle.ending.specs.declared.Ended.{Ended}
 

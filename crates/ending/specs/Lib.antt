@@ -1,1 +1,2 @@
 pub mod Ending
+pub use Rattle.play.specs as play

@@ -4,17 +4,19 @@
 
 ghost use Rattle.std.specs.Prelude.{◌≡◌, ◌<◌, length, get_or};
 ghost use Rattle.memory.specs.Splice.{block};
-ghost use Rattle.table.specs.Entry.{list_in};
-ghost use Rattle.store.specs.Store.{state_in};
-ghost use Rattle.store.specs.Work.{Ready};
-ghost use Rattle.cycles.specs.Cycles.{turn_in};
+ghost use Rattle.tuning.specs.table.Entry.{list_in};
+ghost use Rattle.tuning.specs.store.Store.{state_in};
+ghost use Rattle.tuning.specs.store.Work.{Ready};
+ghost use Rattle.tuning.specs.cycles.Cycles.{turn_in};
 ghost use Rattle.ending.specs.Ending.{Led, EndsWrite, EndsCycle};
 
-use cycles::Turn;
-use reply::Reply;
-use retuning::Tune;
-use store::State;
-use table::Head;
+pub use play;
+use tuning::cycles::Turn;
+use tuning::reply::Reply;
+use tuning::retuning::Tune;
+use tuning::store::State;
+use tuning::table::Head;
+use tuning::{cycles, reply, table};
 
 // The state after it, and how many replies there are.
 #[derive(Clone, Copy)]

@@ -12,9 +12,9 @@ use lib.ListN.{length, get_or, take, drop, replicate, length-take, length-drop, 
 use lib.Seq.{get_or-take, get_or-drop}
 use Rattle.memory.specs.Splice.{splice, block}
 use Rattle.memory.proofs.Splice.{block_byte}
-use Rattle.table.specs.Entry.{padded, number_bytes, write_entry, list_in, numbers_in}
-use Rattle.machine.specs.Sound.{sound_write, forgets}
-use Rattle.machine.proofs.Tests.{by_test, test_true, test_false, and_left, and_right}
+use Rattle.numbers.specs.table.Entry.{padded, number_bytes, write_entry, list_in, numbers_in}
+use Rattle.store.specs.machine.Sound.{sound_write, forgets}
+use Rattle.store.proofs.machine.Tests.{by_test, test_true, test_false, and_left, and_right}
 use Rattle.numbers.specs.Numbers.{sound_numbers, Bytes}
 use Rattle.numbers.proofs.Laws.{numbers-told}
 use Rattle.store.specs.Store.{write_in}

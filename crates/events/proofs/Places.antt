@@ -7,24 +7,24 @@ use native.Mathlib.Omega.{arith}
 use borrow.Author.Tests.{le-leb, lt-leb, leb-true, leb-false}
 use lib.Dec.{leb}
 use lib.ListN.{length, get_or}
-use Rattle.machine.specs.Numbers.{NONE}
+use Rattle.answers.specs.machine.Numbers.{NONE}
 use Rattle.std.specs.Prelude.{if◌then◌else◌}
-use Rattle.machine.specs.State.{Write, Event, free}
-use Rattle.machine.specs.Commands.{playing, done, silent, do_event}
+use Rattle.answers.specs.machine.State.{Write, Event, free}
+use Rattle.answers.specs.machine.Commands.{playing, done, silent, do_event}
 use Rattle.channel.specs.declared.Channel.{Channel}
 use Rattle.channel.specs.Channel.{channel_of, lowest_from}
 use Rattle.channel.proofs.Single.{lowest_none, at_none}
-use Rattle.fronts.specs.declared.Front.TheVariants.{Plays}
-use Rattle.fronts.specs.Fronts.{on_air}
-use Rattle.fronts.proofs.Laws.{passes_is}
-use Rattle.store.specs.declared.State.{State}
-use Rattle.store.specs.Store.{state_in, Held}
-use Rattle.store.proofs.Store.{held_eight}
+use Rattle.cutting.specs.fronts.declared.Front.TheVariants.{Plays}
+use Rattle.cutting.specs.fronts.Fronts.{on_air}
+use Rattle.cutting.proofs.fronts.Laws.{passes_is}
+use Rattle.answers.specs.store.declared.State.{State}
+use Rattle.answers.specs.store.Store.{state_in, Held}
+use Rattle.answers.proofs.store.Store.{held_eight}
 use Rattle.answers.specs.declared.Request.{Request}
 use Rattle.answers.specs.Answers.{call_of}
-use Rattle.play.proofs.Laws.{get_d_any}
-use Rattle.play.proofs.Outcomes.{at_is}
-use Rattle.play.proofs.Queue.{channel_is}
+use Rattle.ending.proofs.play.Laws.{get_d_any}
+use Rattle.ending.proofs.play.Outcomes.{at_is}
+use Rattle.ending.proofs.play.Queue.{channel_is}
 use Rattle.ending.specs.Ending.{Led}
 use Rattle.events.specs.Events.{plays_at}
 

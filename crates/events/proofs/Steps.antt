@@ -6,38 +6,38 @@ use mathlib.Core.List.{List, [], ◌++◌, map}
 use native.Mathlib.Omega.{arith}
 use lib.ListN.{length, length-append, length-map}
 use Rattle.memory.proofs.Splice.{splice_none}
-use Rattle.reply.specs.Replies.{sent}
-use Rattle.reply.proofs.Laws.{sent-append, length-sent}
+use Rattle.answers.specs.reply.Replies.{sent}
+use Rattle.answers.proofs.reply.Laws.{sent-append, length-sent}
 use Rattle.queue.specs.declared.Queue.{Queue}
 use Rattle.queue.specs.Queue.{queue_of}
 use Rattle.channel.specs.Channel.{lowest_from}
-use Rattle.machine.specs.Numbers.{NONE}
-use Rattle.machine.specs.Lists.{keep}
-use Rattle.machine.specs.State.{Lock, State as StateM, Reply, Event, CYCLE_ENDED, GAVE_UP}
-use Rattle.machine.specs.Granting.{on_channels, cut}
-use Rattle.machine.specs.Commands.{done, silent, met, front_cycled, cut_fronts, front_replies, event_replies, happened, do_event}
-use Rattle.machine.specs.Sound.{writes_of, sound_waiter}
-use Rattle.machine_laws.proofs.Lists.{sub_refl, all_keep, keep_length}
-use Rattle.machine_laws.specs.Sound.{Parts}
-use Rattle.machine_laws.proofs.Sound.{ids_few}
-use Rattle.machine_laws.specs.Keeping.{lock_ids, wait_ids}
-use Rattle.machine_laws.proofs.Keeping.{ids_sub, parts_sub, cut_ids}
-use Rattle.store.specs.declared.State.{State}
-use Rattle.store.specs.Store.{lock_item, waiter_item, wait_item, write_items, items, entries, table_of, struct_of, state_in, Held}
-use Rattle.store.specs.Work.{Ready, Did}
-use Rattle.store.proofs.Store.{held_parts, held_eight, held_next, held_opens}
-use Rattle.fates.specs.declared.End.TheVariants.{Met}
+use Rattle.answers.specs.machine.Numbers.{NONE}
+use Rattle.answers.specs.machine.Lists.{keep}
+use Rattle.answers.specs.machine.State.{Lock, State as StateM, Reply, Event, CYCLE_ENDED, GAVE_UP}
+use Rattle.answers.specs.machine.Granting.{on_channels, cut}
+use Rattle.answers.specs.machine.Commands.{done, silent, met, front_cycled, cut_fronts, front_replies, event_replies, happened, do_event}
+use Rattle.answers.specs.machine.Sound.{writes_of, sound_waiter}
+use Rattle.channel.proofs.machine_laws.Lists.{sub_refl, all_keep, keep_length}
+use Rattle.channel.specs.machine_laws.Sound.{Parts}
+use Rattle.channel.proofs.machine_laws.Sound.{ids_few}
+use Rattle.channel.specs.machine_laws.Keeping.{lock_ids, wait_ids}
+use Rattle.channel.proofs.machine_laws.Keeping.{ids_sub, parts_sub, cut_ids}
+use Rattle.answers.specs.store.declared.State.{State}
+use Rattle.answers.specs.store.Store.{lock_item, waiter_item, wait_item, write_items, items, entries, table_of, struct_of, state_in, Held}
+use Rattle.answers.specs.store.Work.{Ready, Did}
+use Rattle.answers.proofs.store.Store.{held_parts, held_eight, held_next, held_opens}
+use Rattle.locks.specs.fates.declared.End.TheVariants.{Met}
 use Rattle.locks.specs.declared.Sifted.{Sifted}
 use Rattle.locks.specs.Locks.{lefts, ending, Sifting, Sieved, Sifts}
 use Rattle.locks.proofs.Laws.{lefts-met, ending-met, waiters_of_lem, stay_or_end}
-use Rattle.granting.proofs.Laws.{held_channels}
-use Rattle.granting.proofs.Few.{front_replies_few}
+use Rattle.cutting.proofs.granting.Laws.{held_channels}
+use Rattle.cutting.proofs.granting.Few.{front_replies_few}
 use Rattle.answers.specs.declared.Request.{Request}
 use Rattle.answers.specs.declared.Answer.{Answer}
 use Rattle.answers.specs.Answers.{call_of, answer_of, Told}
 use Rattle.answers.proofs.Laws.{told_as}
-use Rattle.play.proofs.Outcomes.{at_is, bit_is, change_is}
-use Rattle.play.proofs.Queue.{front_room}
+use Rattle.ending.proofs.play.Outcomes.{at_is, bit_is, change_is}
+use Rattle.ending.proofs.play.Queue.{front_room}
 use Rattle.cutting.specs.declared.Cut.{Cut}
 use Rattle.cutting.specs.Cutting.{CutsFronts}
 use Rattle.ending.specs.declared.Ended.{Ended}

@@ -5,16 +5,16 @@
 --   met_replies m s    what is replied to who waits for a cycle of the channels that m names
 --   Meets m s ..      the promise of `meet`: the state without them, those replies
 use Rattle.std.specs.Prelude.{ℕ, List, map, leb, length, get_or, if◌then◌else◌}
-use Rattle.machine.specs.Lists.{keep}
-use Rattle.machine.specs.State.{Reply, State as StateM, free}
-use Rattle.machine.specs.Granting.{on_channels, cut}
-use Rattle.machine.specs.Commands.{met}
+use Rattle.answers.specs.machine.Lists.{keep}
+use Rattle.answers.specs.machine.State.{Reply, State as StateM, free}
+use Rattle.answers.specs.machine.Granting.{on_channels, cut}
+use Rattle.answers.specs.machine.Commands.{met}
 use Rattle.channel.specs.declared.Channel.{Channel}
 use Rattle.channel.specs.Channel.{channel_of, lowest_from}
-use Rattle.fronts.specs.Fronts.{on_air}
-use Rattle.store.specs.declared.State.{State}
-use Rattle.store.specs.Store.{state_in}
-use Rattle.store.specs.Work.{Did}
+use Rattle.cutting.specs.fronts.Fronts.{on_air}
+use Rattle.answers.specs.store.declared.State.{State}
+use Rattle.answers.specs.store.Store.{state_in}
+use Rattle.answers.specs.store.Work.{Did}
 use Rattle.ending.specs.declared.Ended.{Ended}
 
 unfoldable pub plays_at : ℕ → List Channel → ℕ

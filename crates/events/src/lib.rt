@@ -3,16 +3,17 @@
 #![tactic(auto)]
 
 ghost use Rattle.std.specs.Prelude.{◌≡◌, [], length};
-ghost use Rattle.machine.specs.State.{CYCLE_ENDED, GAVE_UP};
-ghost use Rattle.machine.specs.Commands.{do_event};
-ghost use Rattle.store.specs.Work.{Ready};
+ghost use Rattle.answers.specs.machine.State.{CYCLE_ENDED, GAVE_UP};
+ghost use Rattle.answers.specs.machine.Commands.{do_event};
+ghost use Rattle.answers.specs.store.Work.{Ready};
 ghost use Rattle.answers.specs.Answers.{call_of, Does};
 ghost use Rattle.events.specs.Events.{plays_at, Meets};
 
+use answers::store::State;
 use answers::{Outcome, Request};
-use ending::Ended;
-use fates::End;
-use store::State;
+use cutting::fronts;
+use ending::{Ended, play};
+use locks::fates::End;
 
 // The place of that channel; 8 where there is none.
 fn place(map: u8, s: State) -> usize

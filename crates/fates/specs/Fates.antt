@@ -10,8 +10,8 @@
 --   Told m x e r      the fate of a map x that ends with all its bits where m shares one, with the error e
 --   Fated how m x r   the fate of a map
 use Rattle.std.specs.Prelude.{ℕ, ◌≡◌, Bool, eqb, if◌then◌else◌}
-use Rattle.machine.specs.Numbers.{ABORTED, CHANNELSTOLEN, ADCMD_LOCK, ADCMD_WAITCYCLE}
-use Rattle.machine.specs.Maps.{minus, meets}
+use Rattle.store.specs.machine.Numbers.{ABORTED, CHANNELSTOLEN, ADCMD_LOCK, ADCMD_WAITCYCLE}
+use Rattle.store.specs.machine.Maps.{minus, meets}
 use Rattle.fates.specs.declared.Fate.{Fate}
 use Rattle.fates.specs.declared.End.{End}
 use Rattle.fates.specs.declared.End.TheVariants.{Freed, Stolen, Cut, Met}

@@ -1,1 +1,3 @@
 pub mod Fates
+pub use Rattle.store.specs.reply as reply
+pub use Rattle.store.specs as store

@@ -6,7 +6,9 @@ ghost use Rattle.std.specs.Prelude.{◌≡◌, ◌<◌};
 ghost use Rattle.fates.specs.declared.End.TheVariants.{Freed, Cut};
 ghost use Rattle.fates.specs.Fates.{command_of, Told, Fated};
 
+pub use store;
 use store::State;
+pub use store::reply;
 
 // What happens to the channels that a lock or a WAITCYCLE names: they are freed, a held request wants them; the front write is cut,
 // its event comes.

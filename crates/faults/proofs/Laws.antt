@@ -11,10 +11,10 @@ use lib.Seq.{drop-drop}
 use Rattle.std.specs.Prelude.{if◌then◌else◌}
 use Rattle.machine.specs.Log.{LF}
 use Rattle.machine.proofs.Tests.{by_test, test_true, test_false}
-use Rattle.gathering.specs.Lumps.{front, ended, used}
-use Rattle.gathering.proofs.Lumps.{front_open, front_used, used-within}
-use Rattle.hex_lines.specs.HexLines.{octets_of}
-use Rattle.sheet.proofs.Taking.{rest_is_drop}
+use Rattle.reading.specs.gathering.Lumps.{front, ended, used}
+use Rattle.reading.proofs.gathering.Lumps.{front_open, front_used, used-within}
+use Rattle.reading.specs.hex_lines.HexLines.{octets_of}
+use Rattle.reading.proofs.sheet.Taking.{rest_is_drop}
 use Rattle.faults.specs.Faults.{length_of, length_in, frame_of, lacking, fault_from, fault}
 
 -- ---- kinds

@@ -12,7 +12,7 @@
 --   fault v t          the same of a whole text; a text of no bytes lacks its first line
 use Rattle.std.specs.Prelude.{ℕ, ◌+◌, Bool, ◌&&◌, List, [], ◌∷◌, ◌++◌, eqb, ltb, length, get_or, if◌then◌else◌}
 use Rattle.machine.specs.Log.{LF}
-use Rattle.hex_lines.specs.HexLines.{octets_of}
+use Rattle.reading.specs.hex_lines.HexLines.{octets_of}
 
 unfoldable pub length_of : List ℕ → ℕ
 length_of f =

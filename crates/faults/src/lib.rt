@@ -2,8 +2,10 @@
 #![tactic(auto)]
 
 ghost use Rattle.std.specs.Prelude.{◌≡◌, ◌<◌, length};
-ghost use Rattle.hex_lines.specs.HexLines.{octets_of};
+ghost use Rattle.reading.specs.hex_lines.HexLines.{octets_of};
 ghost use Rattle.faults.specs.Faults.{length_of, length_in, frame_of, fault as fault_of};
+
+use reading::{gathering, hex_lines};
 
 // The cast stands by itself, so that a caller has no fact of its own to show for it.
 fn wide(x: u8) -> usize

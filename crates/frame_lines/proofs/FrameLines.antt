@@ -10,21 +10,21 @@ use borrow.Author.Tests.{eq-eqb, ne_eqb}
 use lib.Dec.{T, eqb}
 use lib.ListN.{length, get_or, take, drop, replicate, length-append, length-map, length-take, length-drop}
 use lib.Seq.{take-suc, length-take-le, take-take}
-use Rattle.memory.specs.Splice.{splice, block}
-use Rattle.memory.proofs.Splice.{splice_all, splice_then, splice_none}
+use Rattle.table.specs.memory.Splice.{splice, block}
+use Rattle.table.proofs.memory.Splice.{splice_all, splice_then, splice_none}
 use Rattle.table.proofs.Laws.{part_in}
-use Rattle.machine.specs.Log.{line}
-use Rattle.machine.proofs.Tests.{if_elim}
+use Rattle.machine_laws.specs.machine.Log.{line}
+use Rattle.machine_laws.proofs.machine.Tests.{if_elim}
 use Rattle.hex_lines.specs.HexLines.{Put}
 use Rattle.hex_lines.proofs.HexLines.{length_line}
-use Rattle.queue.specs.declared.Queue.{Queue}
-use Rattle.queue.specs.Queue.{list_of}
-use Rattle.channel.specs.declared.Channel.{Channel}
-use Rattle.channel.specs.Channel.{channel_of}
-use Rattle.machine.specs.State.{free}
-use Rattle.machine.specs.InBytes.{mark_of}
+use Rattle.open_keys.specs.queue.declared.Queue.{Queue}
+use Rattle.open_keys.specs.queue.Queue.{list_of}
+use Rattle.board.specs.channel.declared.Channel.{Channel}
+use Rattle.board.specs.channel.Channel.{channel_of}
+use Rattle.machine_laws.specs.machine.State.{free}
+use Rattle.machine_laws.specs.machine.InBytes.{mark_of}
 use Rattle.table.specs.Entry.{key_in, list_in}
-use Rattle.store.specs.Store.{request_in}
+use Rattle.board.specs.store.Store.{request_in}
 use Rattle.waiting.specs.Waiting.{Readable}
 use Rattle.saved.specs.Saved.{request_frame, spelt}
 use Rattle.frame_lines.specs.FrameLines.{request_line, span_line, write_line, entry_frame, kept_in, channel_line, writes_in, AllListed}

@@ -8,31 +8,31 @@ use native.Mathlib.Omega.{arith}
 use borrow.Author.Tests.{ne_eqb}
 use lib.Dec.{T, eqb}
 use lib.ListN.{length, get_or, take, drop, replicate, length-append, length-map}
-use Rattle.memory.specs.Splice.{block}
-use Rattle.machine.specs.State.{Write, Channel as ChannelM, Lock, Request, State as StateM, free}
-use Rattle.machine.specs.Sound.{writes_of}
+use Rattle.table.specs.memory.Splice.{block}
+use Rattle.machine_laws.specs.machine.State.{Write, Channel as ChannelM, Lock, Request, State as StateM, free}
+use Rattle.machine_laws.specs.machine.Sound.{writes_of}
 use Rattle.machine_laws.specs.Sound.{Parts}
 use Rattle.machine_laws.proofs.Sound.{ids_few}
-use Rattle.queue.specs.declared.Queue.{Queue}
-use Rattle.queue.specs.Queue.{queue_of, list_of}
-use Rattle.queue.proofs.Laws.{list_of_queue_of, at_queue_of, length-pad}
+use Rattle.open_keys.specs.queue.declared.Queue.{Queue}
+use Rattle.open_keys.specs.queue.Queue.{queue_of, list_of}
+use Rattle.open_keys.proofs.queue.Laws.{list_of_queue_of, at_queue_of, length-pad}
 use Rattle.open_keys.specs.OpenKeys.{keys_in}
-use Rattle.channel.specs.declared.Channel.{Channel}
-use Rattle.channel.specs.Channel.{channel_of}
-use Rattle.channel.proofs.Laws.{Few}
+use Rattle.board.specs.channel.declared.Channel.{Channel}
+use Rattle.board.specs.channel.Channel.{channel_of}
+use Rattle.board.proofs.channel.Laws.{Few}
 use Rattle.table.specs.Entry.{tone_bytes, pervol_bytes, number_bytes, write_entry, span_entry, lock_entry, waiter_entry, wait_entry}
-use Rattle.store.specs.declared.State.{State}
-use Rattle.store.specs.Store.{Item, items, lookup, table_of, lock_in, request_in, Each, state_in as wide_in, Held as WideHeld}
-use Rattle.store.proofs.Store.{Written, lock-entries, waiter-entries, write_entries, wait-entries, lock-ids, waiter-ids, write_ids, wait-ids, parts_long, block_table_of, writes_few, held_locks, held_waiters, held_waiting, locks-count, waiters-count, waiting-count, held_opens, opens-count, locks-small, waiters-small}
-use Rattle.store.proofs.Store.{held_parts as wide_parts, held_length as wide-length}
+use Rattle.board.specs.store.declared.State.{State}
+use Rattle.board.specs.store.Store.{Item, items, lookup, table_of, lock_in, request_in, Each, state_in as wide_in, Held as WideHeld}
+use Rattle.board.proofs.store.Store.{Written, lock-entries, waiter-entries, write_entries, wait-entries, lock-ids, waiter-ids, write_ids, wait-ids, parts_long, block_table_of, writes_few, held_locks, held_waiters, held_waiting, locks-count, waiters-count, waiting-count, held_opens, opens-count, locks-small, waiters-small}
+use Rattle.board.proofs.store.Store.{held_parts as wide_parts, held_length as wide-length}
 use Rattle.board.specs.declared.Board.{Board}
 use Rattle.board.specs.Board.{state_in, Held}
 use Rattle.board.proofs.Laws.{held_parts, held_wide, held_channels, held_opens-count}
 use Rattle.open_keys.specs.declared.Keys.{Keys}
 use Rattle.open_keys.proofs.Laws.{length-pad as length-keys}
 use Rattle.hex_lines.proofs.HexLines.{length_line}
-use Rattle.machine.specs.Log.{line}
-use Rattle.machine.specs.InBytes.{two_bytes, mark_of}
+use Rattle.machine_laws.specs.machine.Log.{line}
+use Rattle.machine_laws.specs.machine.InBytes.{two_bytes, mark_of}
 use Rattle.waiting.specs.Waiting.{Readable}
 use Rattle.waiting.proofs.Finding.{readable}
 use Rattle.saved.specs.Saved.{kept, channel_frame, request_frame, LOCK, WAITCYCLE, span_frame, write_frame, write_frames, OPEN, LAST, key_frame, frames, spelt}

@@ -10,16 +10,16 @@
 --   request_lines s tb     the lines of the waiting requests, the locks and the WAITCYCLEs; key_lines q k: of the open keys and the last key
 --   Listed q tb           the ids of a queue, and their entries, can be read; AllListed cs tb: those of all channels' writes
 use Rattle.std.specs.Prelude.{ℕ, suc, ◌≤◌, ◌<◌, List, [], ◌∷◌, ◌++◌, map, eqb, length, get_or, take, drop, replicate, if◌then◌else◌}
-use Rattle.memory.specs.Splice.{block}
-use Rattle.queue.specs.declared.Queue.{Queue}
-use Rattle.queue.specs.Queue.{list_of}
-use Rattle.channel.specs.declared.Channel.{Channel}
+use Rattle.table.specs.memory.Splice.{block}
+use Rattle.open_keys.specs.queue.declared.Queue.{Queue}
+use Rattle.open_keys.specs.queue.Queue.{list_of}
+use Rattle.board.specs.channel.declared.Channel.{Channel}
 use Rattle.open_keys.specs.declared.Keys.{Keys}
 use Rattle.open_keys.specs.OpenKeys.{keys_in}
-use Rattle.machine.specs.Log.{line}
-use Rattle.machine.specs.InBytes.{two_bytes, mark_of, signed}
-use Rattle.store.specs.declared.State.{State}
-use Rattle.store.specs.Store.{request_in}
+use Rattle.machine_laws.specs.machine.Log.{line}
+use Rattle.machine_laws.specs.machine.InBytes.{two_bytes, mark_of, signed}
+use Rattle.board.specs.store.declared.State.{State}
+use Rattle.board.specs.store.Store.{request_in}
 use Rattle.waiting.specs.Waiting.{Readable}
 use Rattle.saved.specs.Saved.{request_frame, OPEN, LAST, key_frame, spelt}
 

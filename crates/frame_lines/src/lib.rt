@@ -3,15 +3,17 @@
 #![tactic(auto)]
 
 ghost use Rattle.std.specs.Prelude.{◌≡◌, map, ◌+◌, ◌*◌, ◌%◌, ◌≤◌, ◌<◌, length, get_or};
-ghost use Rattle.memory.specs.Splice.{block};
-ghost use Rattle.machine.specs.Log.{line};
-ghost use Rattle.machine.specs.InBytes.{mark_of};
-ghost use Rattle.queue.specs.Queue.{list_of};
+ghost use Rattle.table.specs.memory.Splice.{block};
+ghost use Rattle.machine_laws.specs.machine.Log.{line};
+ghost use Rattle.machine_laws.specs.machine.InBytes.{mark_of};
+ghost use Rattle.open_keys.specs.queue.Queue.{list_of};
 ghost use Rattle.hex_lines.specs.HexLines.{Put};
 ghost use Rattle.saved.specs.Saved.{spelt};
 ghost use Rattle.frame_lines.specs.FrameLines.{request_line, span_line, write_line, entry_frame, Listed};
 
-use queue::Queue;
+use open_keys::queue::Queue;
+pub use saved;
+pub use waiting;
 
 pub fn mark(on: bool) -> u8
     ensures { result ≡ mark_of on }

@@ -5,29 +5,29 @@ use mathlib.Core.Bool.{not}
 use mathlib.Core.List.{List, [], ◌∷◌, ◌++◌, map, append_assoc}
 use native.Mathlib.Omega.{arith}
 use lib.ListN.{length, length-append}
-use Rattle.reply.specs.Replies.{sent}
-use Rattle.reply.proofs.Laws.{sent-append, length-sent}
-use Rattle.machine.specs.Numbers.{ENTRIES}
-use Rattle.machine.specs.Lists.{keep}
-use Rattle.machine.specs.State.{Channel as ChannelM, Lock, Reply, with_channels, with_locks}
-use Rattle.machine.specs.Maps.{odd, half, change}
-use Rattle.machine.specs.Granting.{cut, dropped}
-use Rattle.machine.specs.Commands.{matching, freed, cleared, is_empty, freeing, freeing_replies, done, each, silent, closed, owned, do_free, do_close}
-use Rattle.queue.specs.Queue.{queue_of}
+use Rattle.answers.specs.reply.Replies.{sent}
+use Rattle.answers.proofs.reply.Laws.{sent-append, length-sent}
+use Rattle.answers.specs.machine.Numbers.{ENTRIES}
+use Rattle.answers.specs.machine.Lists.{keep}
+use Rattle.answers.specs.machine.State.{Channel as ChannelM, Lock, Reply, with_channels, with_locks}
+use Rattle.answers.specs.machine.Maps.{odd, half, change}
+use Rattle.answers.specs.machine.Granting.{cut, dropped}
+use Rattle.answers.specs.machine.Commands.{matching, freed, cleared, is_empty, freeing, freeing_replies, done, each, silent, closed, owned, do_free, do_close}
+use Rattle.open_keys.specs.queue.Queue.{queue_of}
 use Rattle.open_keys.specs.declared.Keys.{Keys}
 use Rattle.open_keys.specs.OpenKeys.{keys_of, keys_in, Tidy}
 use Rattle.open_keys.proofs.Laws.{keys_in_keys_of, tidy_of}
 use Rattle.channel.specs.declared.Change.TheVariants.{Free}
 use Rattle.channel.specs.declared.Channel.{Channel}
 use Rattle.channel.specs.Channel.{channel_of, changed_of, change_each, matching_each}
-use Rattle.store.specs.declared.State.{State}
-use Rattle.store.specs.Store.{Item, lock_item, waiter_item, wait_item, write_items, items, entries, table_of, state_in, Held, Good}
-use Rattle.store.specs.Work.{Ready, Did}
-use Rattle.store.proofs.Store.{held_parts, held_eight, good_of, held_opens, opens-count}
-use Rattle.dropped_writes.specs.declared.Dropped.{Dropped}
-use Rattle.dropped_writes.specs.DroppedWrites.{Dropping, Drops}
-use Rattle.granting.proofs.Laws.{held_changed, good_cut, Cuts, dropping_all, cuts_all}
-use Rattle.fates.specs.declared.End.TheVariants.{Freed}
+use Rattle.answers.specs.store.declared.State.{State}
+use Rattle.answers.specs.store.Store.{Item, lock_item, waiter_item, wait_item, write_items, items, entries, table_of, state_in, Held, Good}
+use Rattle.answers.specs.store.Work.{Ready, Did}
+use Rattle.answers.proofs.store.Store.{held_parts, held_eight, good_of, held_opens, opens-count}
+use Rattle.sweep.specs.dropped_writes.declared.Dropped.{Dropped}
+use Rattle.sweep.specs.dropped_writes.DroppedWrites.{Dropping, Drops}
+use Rattle.sweep.proofs.granting.Laws.{held_changed, good_cut, Cuts, dropping_all, cuts_all}
+use Rattle.locks.specs.fates.declared.End.TheVariants.{Freed}
 use Rattle.locks.specs.declared.Sifted.{Sifted}
 use Rattle.locks.specs.Locks.{lefts, ending, Sifting, Sifts}
 use Rattle.locks.proofs.Laws.{lefts-freed, ending-freed, maps-small}

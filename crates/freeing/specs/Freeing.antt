@@ -6,11 +6,11 @@
 --   owned_replies r s    the same of every channel with the key
 --   Frees m st tb ..    the promise of `freeing`: the channels of m freed, those replies sent
 use Rattle.std.specs.Prelude.{ℕ, List}
-use Rattle.machine.specs.State.{State as StateM, Reply}
-use Rattle.machine.specs.Commands.{matching, freeing, freeing_replies, owned}
-use Rattle.store.specs.declared.State.{State}
-use Rattle.store.specs.Store.{state_in}
-use Rattle.store.specs.Work.{Did}
+use Rattle.answers.specs.machine.State.{State as StateM, Reply}
+use Rattle.answers.specs.machine.Commands.{matching, freeing, freeing_replies, owned}
+use Rattle.answers.specs.store.declared.State.{State}
+use Rattle.answers.specs.store.Store.{state_in}
+use Rattle.answers.specs.store.Work.{Did}
 use Rattle.answers.specs.declared.Request.{Request}
 use Rattle.freeing.specs.declared.Freed.{Freed}
 

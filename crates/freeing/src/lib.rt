@@ -3,16 +3,17 @@
 #![tactic(auto)]
 
 ghost use Rattle.std.specs.Prelude.{◌≡◌, false, [], ◌+◌, ◌≤◌, ◌<◌, length};
-ghost use Rattle.machine.specs.Commands.{freeing_replies, do_free, do_close};
-ghost use Rattle.store.specs.Store.{state_in};
-ghost use Rattle.store.specs.Work.{Ready};
+ghost use Rattle.answers.specs.machine.Commands.{freeing_replies, do_free, do_close};
+ghost use Rattle.answers.specs.store.Store.{state_in};
+ghost use Rattle.answers.specs.store.Work.{Ready};
 ghost use Rattle.freeing.specs.Freeing.{match_replies, owned_replies, Frees};
 ghost use Rattle.answers.specs.Answers.{call_of, Does};
 
+use answers::store::State;
 use answers::{Outcome, Request};
 use channel::Change;
-use fates::End;
-use store::State;
+use locks::fates::End;
+use sweep::dropped_writes;
 
 #[derive(Clone, Copy)]
 pub struct Freed {

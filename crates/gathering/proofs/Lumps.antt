@@ -13,9 +13,9 @@ use lib.Dec.{eqb}
 use lib.ListN.{length, get_or, take, drop, drop_of_length-le, length-take, length-append}
 use lib.Seq.{drop-cons, take_all, length-take-le, take-take, take_at, take-append-add, take-append-le, drop-append-add, drop-append-le}
 use Rattle.memory.specs.Splice.{splice}
-use Rattle.machine.specs.State.{State as StateM}
-use Rattle.machine.specs.Log.{LF, opened, lines, unhex, frame, feed}
-use Rattle.machine.proofs.Tests.{by_test, test_true, test_false}
+use Rattle.digits.specs.machine.State.{State as StateM}
+use Rattle.digits.specs.machine.Log.{LF, opened, lines, unhex, frame, feed}
+use Rattle.digits.proofs.machine.Tests.{by_test, test_true, test_false}
 use Rattle.gathering.specs.declared.Gathered.{Gathered}
 use Rattle.digits.proofs.Laws.{take_527_malformed}
 use Rattle.gathering.specs.Lumps.{front, ended, used, LINE, kept, Gathers, Stands}

@@ -10,7 +10,7 @@
 --   Gathers l n bs g l'   the promise of `gather`, for what stands in l
 use Rattle.std.specs.Prelude.{ℕ, suc, ◌+◌, ◌-◌, ◌≡◌, Bool, true, false, List, [], ◌∷◌, eqb, length, take, if◌then◌else◌}
 use Rattle.memory.specs.Splice.{splice}
-use Rattle.machine.specs.Log.{LF}
+use Rattle.digits.specs.machine.Log.{LF}
 use Rattle.gathering.specs.declared.Gathered.{Gathered}
 
 unfoldable pub front : List ℕ → List ℕ

@@ -5,12 +5,12 @@ use mathlib.Core.List.{List, [], ◌∷◌, ◌++◌, map}
 use native.Mathlib.Omega.{arith}
 use lib.ListN.{length, take, length-append, length-map}
 use Rattle.std.specs.Prelude.{if◌then◌else◌}
-use Rattle.machine.specs.State.{Write, Channel as ChannelM, State as StateM}
-use Rattle.machine.specs.Maps.{odd, half}
-use Rattle.machine.specs.Granting.{aborted, aborted_in, on_channels, cut_replies, dropped}
-use Rattle.machine.specs.Commands.{front_only, front_replies}
-use Rattle.machine.specs.Sound.{writes_of}
-use Rattle.machine_laws.proofs.Lists.{keep_length}
+use Rattle.keys.specs.machine.State.{Write, Channel as ChannelM, State as StateM}
+use Rattle.keys.specs.machine.Maps.{odd, half}
+use Rattle.keys.specs.machine.Granting.{aborted, aborted_in, on_channels, cut_replies, dropped}
+use Rattle.keys.specs.machine.Commands.{front_only, front_replies}
+use Rattle.keys.specs.machine.Sound.{writes_of}
+use Rattle.keys.proofs.machine_laws.Lists.{keep_length}
 
 aborted_few : (m : ℕ) (cs : List ChannelM) → length (aborted_in m cs) ≤ length (writes_of cs)
 unfolding aborted_in aborted writes_of

@@ -7,8 +7,8 @@ use lib.ListN.{length, set}
 use borrow.Author.Tests.{eq-eqb, ne_eqb}
 use Rattle.memory.specs.Splice.{splice}
 use Rattle.memory.proofs.Splice.{stores-splice}
-use Rattle.machine.specs.Log.{op_of}
-use Rattle.machine.specs.InBytes.{mark_of}
+use Rattle.answers.specs.machine.Log.{op_of}
+use Rattle.answers.specs.machine.InBytes.{mark_of}
 use Rattle.image.proofs.Laws.{splice_whole}
 use Rattle.answers.specs.declared.Answer.{Answer}
 use Rattle.refusals.specs.declared.Op.TheVariants.{Open, Close, Abort, CycleEnded, GaveUp, Command}

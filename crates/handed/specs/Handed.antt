@@ -5,7 +5,7 @@
 --   answer_bytes a m n          an answer: outstanding (1) or done (0), error, map, key (high byte first), extra, and how many replies
 --                              desk A and desk B have
 use Rattle.std.specs.Prelude.{ℕ, ◌+◌, ◌/◌, ◌%◌, List, [], ◌∷◌}
-use Rattle.machine.specs.InBytes.{mark_of}
+use Rattle.answers.specs.machine.InBytes.{mark_of}
 use Rattle.answers.specs.declared.Request.{Request}
 use Rattle.answers.specs.declared.Answer.{Answer}
 

@@ -1,1 +1,2 @@
 pub mod Handed
+pub use Rattle.refusals.specs as refusals

@@ -2,12 +2,13 @@
 #![tactic(auto)]
 
 ghost use Rattle.std.specs.Prelude.{◌≡◌, ◌+◌, ◌%◌, ◌≤◌, length, if◌then◌else◌};
-ghost use Rattle.machine.specs.Desks.{HALF};
-ghost use Rattle.machine.specs.Log.{op_of};
+ghost use Rattle.answers.specs.machine.Desks.{HALF};
+ghost use Rattle.answers.specs.machine.Log.{op_of};
 ghost use Rattle.refusals.specs.Refusals.{op_for};
 ghost use Rattle.handed.specs.Handed.{answer_bytes};
 
 use answers::Answer;
+pub use refusals;
 use refusals::Op;
 
 // Operations F0 to F4 are OPEN, CLOSE, ABORT and the events; any other number is that of a command.

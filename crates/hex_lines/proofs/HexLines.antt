@@ -10,10 +10,10 @@ use borrow.Author.Tests.{le-leb, lt-leb}
 use lib.Dec.{leb}
 use lib.ListN.{length, take, drop, get_or, set, length-append, length-drop}
 use lib.Seq.{take-suc, drop-drop, length-take-le}
-use Rattle.memory.specs.Splice.{splice}
-use Rattle.memory.proofs.Splice.{splice_then, splice_snoc}
+use Rattle.spelling.specs.memory.Splice.{splice}
+use Rattle.spelling.proofs.memory.Splice.{splice_then, splice_snoc}
 use Rattle.std.specs.Prelude.{if◌then◌else◌}
-use Rattle.machine.specs.Log.{hex_digit, line}
+use Rattle.spelling.specs.machine.Log.{hex_digit, line}
 use Rattle.digits.specs.Digits.{spells, pairs}
 use Rattle.hex_lines.specs.HexLines.{octets_of}
 use Rattle.spelling.specs.Spelling.{digits}

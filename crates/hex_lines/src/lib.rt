@@ -2,8 +2,8 @@
 #![tactic(auto)]
 
 ghost use Rattle.std.specs.Prelude.{◌≡◌, ◌++◌, ◌+◌, ◌*◌, ◌≤◌, length};
-ghost use Rattle.memory.specs.Splice.{splice};
-ghost use Rattle.machine.specs.Log.{line};
+ghost use Rattle.spelling.specs.memory.Splice.{splice};
+ghost use Rattle.spelling.specs.machine.Log.{line};
 ghost use Rattle.spelling.specs.Spelling.{digits};
 ghost use Rattle.hex_lines.specs.HexLines.{octets_of, Put};
 

@@ -11,12 +11,12 @@ use lib.Seq.{take-suc, take-suc-set, take_all}
 use borrow.Author.Tests.{lt-ltb, eq-eqb, ne_eqb}
 use Rattle.memory.specs.Splice.{splice}
 use Rattle.memory.proofs.Splice.{splice_none, set-splice, splice-append, splice_then, splice_snoc, length-splice}
-use Rattle.machine.specs.Lists.{all}
-use Rattle.machine.proofs.Tests.{and_left}
-use Rattle.machine.specs.InBytes.{mark_of, two_bytes}
-use Rattle.queue.specs.declared.Queue.{Queue}
+use Rattle.open_keys.specs.machine.Lists.{all}
+use Rattle.open_keys.proofs.machine.Tests.{and_left}
+use Rattle.open_keys.specs.machine.InBytes.{mark_of, two_bytes}
+use Rattle.open_keys.specs.queue.declared.Queue.{Queue}
 use Rattle.open_keys.specs.declared.Keys.{Keys}
-use Rattle.channel.specs.declared.Channel.{Channel}
+use Rattle.board.specs.channel.declared.Channel.{Channel}
 use Rattle.board.specs.declared.Board.{Board}
 use Rattle.image.specs.Image.{keys_bytes, open_bytes, queue_bytes, channel_bytes, channels_bytes, image_of, key_at, keys_from, open_at, queue_at, channel_at, channels_at, state_of, is_byte, marks_at, all_marks, is_whole, Whole, Filled, AllFilled, Wrote, Entered}
 

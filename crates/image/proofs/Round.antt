@@ -10,12 +10,12 @@ use lib.Dec.{T, eqb, ltb→lt}
 use lib.ListN.{length, get_or, take, drop, length-append, length-drop}
 use lib.Seq.{length-take-le, take_at, take_all, take-add, drop-drop, drop-cons, drop-append-add, get_or-append-add}
 use borrow.Author.Tests.{eq-eqb}
-use Rattle.machine.specs.Lists.{all}
-use Rattle.machine.proofs.Tests.{and_left, and_right}
-use Rattle.machine.specs.InBytes.{mark_of, two_bytes}
-use Rattle.queue.specs.declared.Queue.{Queue}
+use Rattle.open_keys.specs.machine.Lists.{all}
+use Rattle.open_keys.proofs.machine.Tests.{and_left, and_right}
+use Rattle.open_keys.specs.machine.InBytes.{mark_of, two_bytes}
+use Rattle.open_keys.specs.queue.declared.Queue.{Queue}
 use Rattle.open_keys.specs.declared.Keys.{Keys}
-use Rattle.channel.specs.declared.Channel.{Channel}
+use Rattle.board.specs.channel.declared.Channel.{Channel}
 use Rattle.board.specs.declared.Board.{Board}
 use Rattle.image.specs.Image.{keys_bytes, open_bytes, queue_bytes, channel_bytes, channels_bytes, image_of, key_at, keys_from, open_at, queue_at, channel_at, channels_at, state_of, is_byte, is_mark, marks_at, all_marks, is_whole, Whole, Filled, AllFilled, Sized, Saved}
 use Rattle.image.proofs.Laws.{whole_long, bytes_all}

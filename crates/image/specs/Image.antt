@@ -23,13 +23,13 @@
 --   Saved b l'            what `save` promises: the bytes of the board, which hold it
 use Rattle.std.specs.Prelude.{ℕ, zero, suc, ◌+◌, ◌*◌, ◌≡◌, Bool, true, ◌&&◌, List, [], ◌∷◌, ◌++◌, T, eqb, ltb, length, get_or, take, drop}
 use Rattle.memory.specs.Splice.{splice}
-use Rattle.machine.specs.Lists.{all}
-use Rattle.machine.specs.InBytes.{mark_of, two_bytes}
-use Rattle.queue.specs.declared.Queue.{Queue}
+use Rattle.open_keys.specs.machine.Lists.{all}
+use Rattle.open_keys.specs.machine.InBytes.{mark_of, two_bytes}
+use Rattle.open_keys.specs.queue.declared.Queue.{Queue}
 use Rattle.open_keys.specs.declared.Keys.{Keys}
-use Rattle.channel.specs.declared.Channel.{Channel}
+use Rattle.board.specs.channel.declared.Channel.{Channel}
 use Rattle.board.specs.declared.Board.{Board}
-use Rattle.store.specs.Store.{Each}
+use Rattle.board.specs.store.Store.{Each}
 
 abbrev pub CHANNEL : ℕ
 CHANNEL = 70

@@ -5,6 +5,9 @@
 ghost use Rattle.std.specs.Prelude.{◌≡◌, ◌+◌, ◌≤◌, length};
 ghost use Rattle.image.specs.Image.{marks_at, all_marks, is_whole};
 
+pub use board;
+pub use board::store;
+
 fn marked(bytes: &[u8], at: usize) -> bool
     requires { at + 70 ≤ length bytes.now }
     ensures { result ≡ marks_at bytes.now at }

@@ -7,24 +7,24 @@ use mathlib.Core.List.{List, [], ◌∷◌, ◌++◌, map}
 use native.Mathlib.Omega.{arith}
 use lib.Dec.{T, eqb, leb, ltb, eqb→eq, leb→le, ltb→lt, lt→ltb}
 use lib.ListN.{length, replicate, length-append, length-map}
-use Rattle.machine.specs.Lists.{all}
-use Rattle.machine.specs.State.{State as StateM, Write, Channel as ChannelM, Lock, Request, is_free}
-use Rattle.machine.specs.Numbers.{KEYS, ENTRIES}
-use Rattle.machine.specs.Sound.{sound_writes, sound_channel, writes_of, ids, sound_opens}
-use Rattle.machine.proofs.Tests.{by_test, test_true, test_false, and_left, and_right, and_both}
-use Rattle.machine.proofs.Closing.{opens_most}
-use Rattle.machine.specs.InBytes.{mark_of, two_bytes}
-use Rattle.machine_laws.proofs.Lists.{all_append}
-use Rattle.machine_laws.specs.Sound.{Parts}
-use Rattle.machine_laws.proofs.Sound.{ids_few}
+use Rattle.widening.specs.machine.Lists.{all}
+use Rattle.widening.specs.machine.State.{State as StateM, Write, Channel as ChannelM, Lock, Request, is_free}
+use Rattle.widening.specs.machine.Numbers.{KEYS, ENTRIES}
+use Rattle.widening.specs.machine.Sound.{sound_writes, sound_channel, writes_of, ids, sound_opens}
+use Rattle.widening.proofs.machine.Tests.{by_test, test_true, test_false, and_left, and_right, and_both}
+use Rattle.widening.proofs.machine.Closing.{opens_most}
+use Rattle.widening.specs.machine.InBytes.{mark_of, two_bytes}
+use Rattle.channel.proofs.machine_laws.Lists.{all_append}
+use Rattle.channel.specs.machine_laws.Sound.{Parts}
+use Rattle.channel.proofs.machine_laws.Sound.{ids_few}
 use Rattle.queue.specs.Queue.{queue_of}
 use Rattle.queue.proofs.Laws.{length-pad}
 use Rattle.open_keys.specs.OpenKeys.{keys_of}
 use Rattle.open_keys.proofs.Laws.{length-pad as length-keys}
 use Rattle.channel.specs.Channel.{channel_of}
 use Rattle.widening.specs.Widening.{widen}
-use Rattle.board.specs.Board.{struct_of}
-use Rattle.board.proofs.Laws.{own_wide, own_eight}
+use Rattle.image.specs.board.Board.{struct_of}
+use Rattle.image.proofs.board.Laws.{own_wide, own_eight}
 use Rattle.image.specs.Image.{keys_bytes, open_bytes, queue_bytes, channel_bytes, channels_bytes, image_of, is_byte, Filled, AllFilled, Sized, Saved}
 use Rattle.image.proofs.Round.{image_of_whole}
 

@@ -2,7 +2,7 @@
 -- Assumes nothing.
 use Rattle.machine.specs.State.{fresh_on}
 use Rattle.machine.specs.Log.{run}
-use Rattle.nothing_left.specs.NothingLeft.{NothingLeft}
+use Rattle.slipped.specs.nothing_left.NothingLeft.{NothingLeft}
 use Rattle.inspected_lines.specs.Lines.{Inserted}
 use Rattle.inspected_lines.proofs.Witness.{before, slipped, behind, slips_there}
 use Rattle.inspected_lines.proofs.Lines.{nothing_left_by_a_log, nothing-slipped_into_a_log}

@@ -13,8 +13,8 @@ use Rattle.machine.specs.Commands.{silent}
 use Rattle.machine.specs.Log.{outcome_of, feed, run}
 use Rattle.display.specs.Display.{NUMBERS, blank, displayed_by}
 use Rattle.display.specs.Runs.{after_calls, shown_after}
-use Rattle.nothing_left.specs.NothingLeft.{NothingLeft}
-use Rattle.nothing_left.proofs.NothingLeft.{nothing_left_standing}
+use Rattle.slipped.specs.nothing_left.NothingLeft.{NothingLeft}
+use Rattle.slipped.proofs.nothing_left.NothingLeft.{nothing_left_standing}
 use Rattle.slipped.specs.Slipped.{mild, leaving_out, settles_one}
 use Rattle.slipped.proofs.Inserting.{leaving_middle}
 use Rattle.slipped.proofs.Slipped.{slips-mild, mild-stays, mild_unseen, fresh_left}

@@ -16,7 +16,7 @@ use Rattle.std.proofs.Math.Option.{Option, none, some}
 use Rattle.machine.specs.State.{State, Call, fresh_on}
 use Rattle.machine.specs.Log.{unhex, frame, feed, run}
 use Rattle.display.specs.Display.{NUMBERS, blank, displayed_by}
-use Rattle.nothing_left.specs.NothingLeft.{NothingLeft}
+use Rattle.slipped.specs.nothing_left.NothingLeft.{NothingLeft}
 use Rattle.slipped.specs.Slipped.{slips, leaving_out, settles_one}
 
 abbrev pub call_in : List ℕ → Option Call

@@ -2,18 +2,19 @@
 #![tactic(auto)]
 
 ghost use Rattle.std.specs.Prelude.{◌≡◌, List, ℕ, ◌+◌, ◌≤◌, ◌<◌, length, not, T};
-ghost use Rattle.machine.specs.Lists.{among};
-ghost use Rattle.machine.specs.Sound.{ids};
-ghost use Rattle.machine.specs.Allocating.{waits};
-ghost use Rattle.queue.specs.Queue.{list_of};
-ghost use Rattle.store.specs.Store.{state_in, Held, Small};
+ghost use Rattle.keys.specs.machine.Lists.{among};
+ghost use Rattle.keys.specs.machine.Sound.{ids};
+ghost use Rattle.keys.specs.machine.Allocating.{waits};
+ghost use Rattle.keys.specs.queue.Queue.{list_of};
+ghost use Rattle.answers.specs.store.Store.{state_in, Held, Small};
 ghost use Rattle.answers.specs.Answers.{call_of, Does};
 ghost use Rattle.joining.specs.Joining.{place_in};
 
+use answers::store::State;
 use answers::{Outcome, Request};
-use queue::Queue;
-use store::State;
-use table::Head;
+use keys::queue::Queue;
+use keys::table;
+use keys::table::Head;
 
 // Where a request of this precedence joins: before the first of lower precedence.
 fn place(q: Queue, table: &[u8], prec: u8) -> usize

@@ -6,6 +6,8 @@ ghost use Rattle.board.specs.Board.{Held};
 ghost use Rattle.keeping.specs.Keeping.{Kept};
 
 use board::Board;
+pub use saving;
+pub use saving::decoding;
 
 // The text of four channels, in front of the page; how long it is. Eight have none: 0, and nothing is written.
 pub fn first_form(b: Board, table: &[u8], page: &mut [u8]) -> usize

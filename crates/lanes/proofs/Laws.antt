@@ -17,7 +17,7 @@ use Rattle.machine.specs.State.{Request}
 use Rattle.machine.specs.Maps.{odd}
 use Rattle.machine.specs.Allocating.{enqueue}
 use Rattle.machine.proofs.Tests.{if_elim}
-use Rattle.machine_laws.specs.Lists.{Sub, end, skip, take as both}
+use Rattle.display.specs.machine_laws.Lists.{Sub, end, skip, take as both}
 use Rattle.display.specs.Display.{names}
 use Rattle.words.specs.Words.{number}
 use Rattle.words.proofs.Laws.{Bytes, number_step, number-drop, number_keep}

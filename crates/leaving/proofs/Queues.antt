@@ -13,15 +13,15 @@ use Rattle.queue.proofs.Laws.{list_of_queue_of, removed_of}
 use Rattle.channel.specs.declared.Channel.{Channel}
 use Rattle.channel.specs.Channel.{channel_of}
 use Rattle.std.specs.Prelude.{if◌then◌else◌}
-use Rattle.machine.specs.Lists.{any, among, keep, distinct}
-use Rattle.machine.specs.State.{Write, Channel as ChannelM, Lock, Request as RequestM, State as StateM}
-use Rattle.machine.specs.Sound.{writes_of, ids}
-use Rattle.machine.specs.Commands.{without, leaving as leaving_m}
-use Rattle.machine.proofs.Tests.{by_test, test_true, test_false, eqb_flip, nor_left, nor_right, and_left, and_right}
-use Rattle.machine_laws.specs.Lists.{Sub}
-use Rattle.machine_laws.proofs.Lists.{sub_refl, sub_nil, sub_append, sub_distinct}
-use Rattle.machine_laws.specs.Sound.{Parts}
-use Rattle.machine_laws.proofs.Sound.{ids_few}
+use Rattle.store.specs.machine.Lists.{any, among, keep, distinct}
+use Rattle.store.specs.machine.State.{Write, Channel as ChannelM, Lock, Request as RequestM, State as StateM}
+use Rattle.store.specs.machine.Sound.{writes_of, ids}
+use Rattle.store.specs.machine.Commands.{without, leaving as leaving_m}
+use Rattle.store.proofs.machine.Tests.{by_test, test_true, test_false, eqb_flip, nor_left, nor_right, and_left, and_right}
+use Rattle.channel.specs.machine_laws.Lists.{Sub}
+use Rattle.channel.proofs.machine_laws.Lists.{sub_refl, sub_nil, sub_append, sub_distinct}
+use Rattle.channel.specs.machine_laws.Sound.{Parts}
+use Rattle.channel.proofs.machine_laws.Sound.{ids_few}
 use Rattle.store.specs.declared.State.{State}
 use Rattle.store.specs.Store.{struct_of, state_in, lock_in, request_in, Held, Each}
 use Rattle.store.proofs.Store.{held_parts, held_waiters, held_waiting, waiters-count, waiting-count, held_opens}
@@ -110,7 +110,7 @@ done_end f (c ∷ cs) (suc k) h = ap (λ (l : List Channel). c ∷ l) (done_end 
 
 pub sub_left : (xs ys : List ℕ) → Sub xs (xs ++ ys)
 sub_left [] ys = sub_nil ys
-sub_left (x ∷ xs) ys = Rattle.machine_laws.specs.Lists.take (sub_left xs ys)
+sub_left (x ∷ xs) ys = Rattle.channel.specs.machine_laws.Lists.take (sub_left xs ys)
 
 pub sub_right : (xs ys : List ℕ) → Sub ys (xs ++ ys)
 sub_right xs ys = sub_append (sub_nil xs) (sub_refl ys)

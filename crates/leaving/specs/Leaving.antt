@@ -7,7 +7,7 @@
 --   cleaned i c     the channel without the write of an id
 --   leaving i s     the struct without a write, a WAITCYCLE or a waiting request of an id: of the machine's state of that name
 use Rattle.std.specs.Prelude.{ℕ, ◌≤◌, ◌≡◌, not, List, map, T, eqb}
-use Rattle.machine.specs.Lists.{keep, distinct}
+use Rattle.store.specs.machine.Lists.{keep, distinct}
 use Rattle.queue.specs.declared.Queue.{Queue}
 use Rattle.queue.specs.Queue.{queue_of, list_of}
 use Rattle.channel.specs.declared.Channel.{Channel}

@@ -1,1 +1,2 @@
 pub mod Leaving
+pub use Rattle.granting.specs as granting

@@ -6,6 +6,7 @@ ghost use Rattle.store.specs.Store.{Each};
 ghost use Rattle.leaving.specs.Leaving.{Tidy, struck, cleaned, leaving};
 
 use channel::Channel;
+pub use granting;
 use queue::Queue;
 use store::State;
 

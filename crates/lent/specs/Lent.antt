@@ -16,16 +16,16 @@
 --   PutFresh w l'           a fresh board
 use Rattle.std.specs.Prelude.{ℕ, ◌+◌, ◌*◌, ◌<◌, ◌≡◌, cond, List, ltb, length, get_or, set}
 use Rattle.memory.specs.Splice.{splice}
-use Rattle.machine.specs.State.{free}
-use Rattle.machine.specs.InBytes.{two_bytes}
-use Rattle.queue.specs.declared.Queue.{Queue}
-use Rattle.queue.specs.Queue.{queue_of, list_of, removed, index_of}
+use Rattle.answers.specs.machine.State.{free}
+use Rattle.answers.specs.machine.InBytes.{two_bytes}
+use Rattle.open_keys.specs.queue.declared.Queue.{Queue}
+use Rattle.open_keys.specs.queue.Queue.{queue_of, list_of, removed, index_of}
 use Rattle.open_keys.specs.declared.Keys.{Keys}
 use Rattle.channel.specs.declared.Channel.{Channel}
 use Rattle.channel.specs.Channel.{channel_of, with_writes}
-use Rattle.store.specs.declared.State.{State}
-use Rattle.board.specs.declared.Board.{Board}
-use Rattle.board.specs.Board.{fresh_board}
+use Rattle.image.specs.store.declared.State.{State}
+use Rattle.image.specs.board.declared.Board.{Board}
+use Rattle.image.specs.board.Board.{fresh_board}
 use Rattle.image.specs.Image.{queue_bytes, open_bytes, image_of, queue_at, open_at, state_of, Whole}
 
 -- ---- queues

@@ -7,9 +7,9 @@
 --   LentDid s rs l n ..  afterwards they hold the state s, of as many channels, and the replies rs stand behind the first n
 --   LentDoes f l d l'    what a command promises: the machine's rule f on the state that they hold
 use Rattle.std.specs.Prelude.{ℕ, List}
-use Rattle.machine.specs.State.{State as StateM, Reply, Outcome as OutcomeM}
-use Rattle.store.specs.Store.{state_in}
-use Rattle.store.specs.Work.{Ready, Did}
+use Rattle.answers.specs.machine.State.{State as StateM, Reply, Outcome as OutcomeM}
+use Rattle.image.specs.store.Store.{state_in}
+use Rattle.image.specs.store.Work.{Ready, Did}
 use Rattle.answers.specs.declared.Answered.{Answered}
 use Rattle.answers.specs.Answers.{outcome, Told}
 use Rattle.image.specs.Image.{Whole}

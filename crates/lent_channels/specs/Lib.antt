@@ -1,1 +1,2 @@
 pub mod Heads
+pub use Rattle.lent.specs as lent

@@ -9,6 +9,8 @@ ghost use Rattle.image.specs.Image.{state_of};
 ghost use Rattle.lent.specs.Lent.{channel_on};
 ghost use Rattle.lent_channels.specs.Heads.{head_in, unused_head, reset_head, prec_head, flush_head, stop_head, lock_head, taken_head, PutHead};
 
+pub use lent;
+
 // A channel by value: all of it but the ids of its writes, which stay in the lent bytes. `writes` is how many they are; a channel stored
 // with 0 has none.
 #[derive(Clone, Copy)]

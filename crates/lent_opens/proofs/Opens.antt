@@ -17,11 +17,11 @@ use Rattle.open_keys.specs.OpenKeys.{pad, keys_of, keys_in, Tidy, index_of}
 use Rattle.open_keys.proofs.Laws.{length-pad, index_closed, index_absent}
 use Rattle.image.specs.Image.{keys_bytes, open_bytes, key_at, keys_from, open_at, queue_at, state_of, all_marks}
 use Rattle.image.proofs.Round.{keys_part}
-use Rattle.lent.specs.Lent.{with_opens, PutOpens}
+use Rattle.lent_queues.specs.lent.Lent.{with_opens, PutOpens}
 use Rattle.lent_queues.specs.Moves.{shut}
-use Rattle.lent.proofs.Bytes.{Bytes, bytes_more, bytes-append, bytes_take, bytes_drop, bytes-zeros, bytes-splice}
-use Rattle.lent.proofs.Frames.{byte_behind, byte_inside, key_behind, queue_before, channels_before, marks_kept}
-use Rattle.lent.proofs.Puts.{whole_marks, whole_bytes, is_whole_lem, filled_at}
+use Rattle.lent_queues.proofs.lent.Bytes.{Bytes, bytes_more, bytes-append, bytes_take, bytes_drop, bytes-zeros, bytes-splice}
+use Rattle.lent_queues.proofs.lent.Frames.{byte_behind, byte_inside, key_behind, queue_before, channels_before, marks_kept}
+use Rattle.lent_queues.proofs.lent.Puts.{whole_marks, whole_bytes, is_whole_lem, filled_at}
 use Rattle.lent_queues.proofs.Moves.{shut_behind, shut_before, cut, counted, long, L, D}
 
 -- ---- keys and their bytes

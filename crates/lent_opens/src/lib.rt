@@ -7,10 +7,10 @@ ghost use Rattle.machine.specs.Lists.{among};
 ghost use Rattle.machine.specs.Commands.{closed};
 ghost use Rattle.open_keys.specs.OpenKeys.{keys_of, keys_in, Tidy as TidyKeys, index_of as key_place};
 ghost use Rattle.image.specs.Image.{open_at, state_of};
-ghost use Rattle.lent.specs.Lent.{PutOpens};
+ghost use Rattle.lent_queues.specs.lent.Lent.{PutOpens};
 
-use lent::{OPEN_KEYS, OPENS, wide};
 use lent_queues::close_up;
+use lent_queues::lent::{OPEN_KEYS, OPENS, wide};
 
 // Where a key first stands among the open ones; their number where it stands nowhere.
 fn open_place(state: &[u8], key: u16) -> usize

@@ -8,6 +8,7 @@ ghost use Rattle.image.specs.Image.{queue_at};
 ghost use Rattle.lent.specs.Lent.{Tidy, without, PutQueue};
 ghost use Rattle.lent_queues.specs.Moves.{shut, spread};
 
+pub use lent;
 use lent::wide;
 
 // How many ids the queue at `at` has.

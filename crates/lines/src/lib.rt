@@ -3,8 +3,8 @@
 #![tactic(auto)]
 
 ghost use Rattle.std.specs.Prelude.{◌≡◌, ◌+◌, ◌*◌, ◌≤◌, length, if◌then◌else◌};
-ghost use Rattle.memory.specs.Splice.{splice, block};
-ghost use Rattle.machine.specs.Log.{answer_line};
+ghost use Rattle.spelling.specs.memory.Splice.{splice, block};
+ghost use Rattle.spelling.specs.machine.Log.{answer_line};
 ghost use Rattle.answers.specs.Answers.{answer_in};
 ghost use Rattle.lines.specs.Lines.{record_line, Tells};
 

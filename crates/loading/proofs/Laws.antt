@@ -3,9 +3,9 @@ use Prim.Native.Nat.{ℕ}
 use mathlib.Core.Path.{◌≡◌, refl, subst, ◌∙◌}
 use mathlib.Core.List.{List}
 use Rattle.machine.specs.State.{State}
-use Rattle.board.specs.Board.{state_in}
+use Rattle.image.specs.board.Board.{state_in}
 use Rattle.image.specs.Image.{Saved}
-use Rattle.saved.specs.Saved.{TextOf}
+use Rattle.accepting.specs.saved.Saved.{TextOf}
 use Rattle.recounting.specs.Recounting.{counted}
 use Rattle.accepting.specs.declared.Found.{Found}
 use Rattle.accepting.specs.Accepting.{Yes}

@@ -9,19 +9,19 @@ use lib.ListN.{length, take}
 use Rattle.machine.specs.State.{State}
 use Rattle.machine.proofs.Tests.{by_test}
 use Rattle.memory.specs.Splice.{splice}
-use Rattle.board.specs.declared.Board.{Board}
-use Rattle.board.specs.Board.{sized, struct_of, state_in, Held}
-use Rattle.board.proofs.Laws.{held_width, held_of, state_in_of}
-use Rattle.machine_laws.proofs.Sound.{parts}
+use Rattle.image.specs.board.declared.Board.{Board}
+use Rattle.image.specs.board.Board.{sized, struct_of, state_in, Held}
+use Rattle.image.proofs.board.Laws.{held_width, held_of, state_in_of}
+use Rattle.display.proofs.machine_laws.Sound.{parts}
 use Rattle.image.specs.Image.{STATE, state_of, image_of}
 use Rattle.image.proofs.Round.{one_image, image_of_state_of, state_of_image_of}
 use Rattle.display.specs.Display.{DISPLAY}
-use Rattle.sizes.specs.Sizes.{TABLE}
-use Rattle.waiting_list.specs.WaitingList.{Sound}
-use Rattle.saved.specs.Saved.{text, TextOf}
+use Rattle.accepting.specs.sizes.Sizes.{TABLE}
+use Rattle.accepting.specs.waiting_list.WaitingList.{Sound}
+use Rattle.accepting.specs.saved.Saved.{text, TextOf}
 use Rattle.recounting.specs.Recounting.{counted}
-use Rattle.saving.specs.Saving.{held_by, Saves}
-use Rattle.saving.proofs.Laws.{front, four_or_not}
+use Rattle.accepting.specs.saving.Saving.{held_by, Saves}
+use Rattle.accepting.proofs.saving.Laws.{front, four_or_not}
 use Rattle.accepting.proofs.Accepting.{text_or_not}
 use Rattle.loading.specs.Loading.{Fits, Unmoved, Loaded, Loads}
 

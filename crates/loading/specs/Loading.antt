@@ -10,11 +10,11 @@ use Rattle.std.specs.Prelude.{ℕ, ◌≡◌, List, length}
 use Rattle.machine.specs.Numbers.{UNSOUND}
 use Rattle.machine.specs.State.{State}
 use Rattle.display.specs.Display.{DISPLAY}
-use Rattle.store.specs.Store.{table_of}
-use Rattle.board.specs.Board.{struct_of}
+use Rattle.image.specs.store.Store.{table_of}
+use Rattle.image.specs.board.Board.{struct_of}
 use Rattle.image.specs.Image.{STATE, Saved}
-use Rattle.sizes.specs.Sizes.{TABLE}
-use Rattle.saved.specs.Saved.{TextOf}
+use Rattle.accepting.specs.sizes.Sizes.{TABLE}
+use Rattle.accepting.specs.saved.Saved.{TextOf}
 use Rattle.recounting.specs.Recounting.{counted}
 
 abbrev pub BADTEXT : ℕ

@@ -4,7 +4,11 @@
 
 ghost use Rattle.loading.specs.Loading.{Loads};
 
-use board::Board;
+pub use accepting;
+pub use accepting::{saved, saving, sound, waiting_list};
+pub use encoding;
+use image::board::Board;
+pub use recounting;
 
 // The state of a saved text, its table, and its display counted once: 0. Memory of another size: 1. A text that was not saved of a sound
 // state, or another board than that of four channels: 9. After a refusal nothing has moved.

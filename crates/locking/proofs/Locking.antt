@@ -7,29 +7,29 @@ use mathlib.Core.List.{List, [], ◌∷◌, ◌++◌, map}
 use native.Mathlib.Omega.{arith}
 use lib.Dec.{T, eqb, ltb, lt→ltb}
 use lib.ListN.{length, length-append, length-map}
-use Rattle.memory.specs.Splice.{splice}
-use Rattle.memory.proofs.Splice.{splice_none}
+use Rattle.table.specs.memory.Splice.{splice}
+use Rattle.table.proofs.memory.Splice.{splice_none}
 use Rattle.table.specs.Entry.{lock_entry}
-use Rattle.machine.specs.Lists.{all, among, distinct}
-use Rattle.machine.specs.State.{Lock as LockM, State as StateM}
-use Rattle.machine.specs.Maps.{change}
-use Rattle.machine.specs.Sound.{ids, writes_of}
-use Rattle.machine.specs.Commands.{mismatch, set_lock, done, pending, finished, silent, do_lock}
-use Rattle.machine.proofs.Tests.{and_both}
-use Rattle.machine_laws.proofs.Lists.{pigeon}
-use Rattle.machine_laws.specs.Sound.{Parts}
+use Rattle.answers.specs.machine.Lists.{all, among, distinct}
+use Rattle.answers.specs.machine.State.{Lock as LockM, State as StateM}
+use Rattle.answers.specs.machine.Maps.{change}
+use Rattle.answers.specs.machine.Sound.{ids, writes_of}
+use Rattle.answers.specs.machine.Commands.{mismatch, set_lock, done, pending, finished, silent, do_lock}
+use Rattle.answers.proofs.machine.Tests.{and_both}
+use Rattle.channel.proofs.machine_laws.Lists.{pigeon}
+use Rattle.channel.specs.machine_laws.Sound.{Parts}
 use Rattle.queue.specs.declared.Queue.{Queue}
 use Rattle.queue.specs.Queue.{queue_of, pushed}
 use Rattle.queue.proofs.Laws.{pushed_of}
 use Rattle.channel.specs.declared.Change.TheVariants.{Lock}
 use Rattle.channel.specs.declared.Channel.{Channel}
 use Rattle.channel.specs.Channel.{channel_of, changed_of, change_each, matching_each}
-use Rattle.store.specs.declared.State.{State}
-use Rattle.store.specs.Store.{Item, lock_item, waiter_item, wait_item, write_items, items, struct_of, table_of, state_in, Held}
-use Rattle.store.specs.Work.{Ready, Did}
-use Rattle.store.proofs.Entries.{Ins, ins_left, ins_right, ins_at, table_add}
-use Rattle.store.proofs.Store.{held_parts, keys-items, long-items, short-waits, held_opens}
-use Rattle.granting.proofs.Laws.{held_changed}
+use Rattle.answers.specs.store.declared.State.{State}
+use Rattle.answers.specs.store.Store.{Item, lock_item, waiter_item, wait_item, write_items, items, struct_of, table_of, state_in, Held}
+use Rattle.answers.specs.store.Work.{Ready, Did}
+use Rattle.answers.proofs.store.Entries.{Ins, ins_left, ins_right, ins_at, table_add}
+use Rattle.answers.proofs.store.Store.{held_parts, keys-items, long-items, short-waits, held_opens}
+use Rattle.sweep.proofs.granting.Laws.{held_changed}
 use Rattle.answers.specs.declared.Request.{Request}
 use Rattle.answers.specs.declared.Answer.{Answer}
 use Rattle.answers.specs.declared.Outcome.{Outcome}

@@ -3,9 +3,9 @@
 --
 --   lock_of r       the lock that a request asks for; locked_by r s: the state with it outstanding
 use Rattle.std.specs.Prelude.{[], ◌∷◌, ◌++◌}
-use Rattle.machine.specs.State.{Lock, State as StateM, with_channels, with_locks}
-use Rattle.machine.specs.Maps.{change}
-use Rattle.machine.specs.Commands.{set_lock}
+use Rattle.answers.specs.machine.State.{Lock, State as StateM, with_channels, with_locks}
+use Rattle.answers.specs.machine.Maps.{change}
+use Rattle.answers.specs.machine.Commands.{set_lock}
 use Rattle.answers.specs.declared.Request.{Request}
 
 abbrev pub lock_of : Request → Lock

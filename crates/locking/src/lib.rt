@@ -2,17 +2,17 @@
 #![tactic(auto)]
 
 ghost use Rattle.std.specs.Prelude.{◌≡◌, not, [], ◌<◌, T};
-ghost use Rattle.machine.specs.Lists.{among};
-ghost use Rattle.machine.specs.Sound.{ids};
-ghost use Rattle.machine.specs.Commands.{do_lock};
-ghost use Rattle.store.specs.Store.{state_in, Held};
-ghost use Rattle.store.specs.Work.{Stands, Ready};
+ghost use Rattle.answers.specs.machine.Lists.{among};
+ghost use Rattle.answers.specs.machine.Sound.{ids};
+ghost use Rattle.answers.specs.machine.Commands.{do_lock};
+ghost use Rattle.answers.specs.store.Store.{state_in, Held};
+ghost use Rattle.answers.specs.store.Work.{Stands, Ready};
 ghost use Rattle.answers.specs.Answers.{call_of, Does};
 ghost use Rattle.locking.specs.Locking.{locked_by};
 
+use answers::store::State;
 use answers::{Outcome, Request};
 use channel::Change;
-use store::State;
 use table::Head;
 
 // A lock that is outstanding: its id last in the queue, its entry in the table, its channels marked.

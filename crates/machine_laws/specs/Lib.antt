@@ -14,3 +14,4 @@ pub mod Fronts
 pub mod Refusals
 pub mod Replies
 pub mod Rooms
+pub use Rattle.machine.specs as machine

@@ -2,3 +2,5 @@
 // enough. The words in which they are said stand in specs/, and proofs/Pinned.antt pins them. The machine's definitions, and the short
 // laws that pin those, are the crate `machine`. Assumes nothing.
 #![tactic(auto)]
+
+pub use machine;

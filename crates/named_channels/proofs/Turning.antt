@@ -15,10 +15,10 @@ use Rattle.channel.specs.declared.Change.{Change}
 use Rattle.channel.specs.declared.Change.TheVariants.{Reset, Free, SetPrecedence, Flush, Stop, Lock, Take, FrontGone, FrontOnly, Nothing}
 use Rattle.channel.specs.Channel.{channel_of, changed_of, change_each}
 use Rattle.channel.proofs.Turns.{rest, change_start, change-named, change-passed, change_end}
-use Rattle.board.specs.declared.Board.{Board}
+use Rattle.image.specs.board.declared.Board.{Board}
 use Rattle.image.specs.Image.{channels_at, state_of, Whole}
 use Rattle.lent_channels.specs.declared.Channel.{Channel as Head}
-use Rattle.lent.specs.Lent.{Tidy, channel_on, with_channel}
+use Rattle.lent_channels.specs.lent.Lent.{Tidy, channel_on, with_channel}
 use Rattle.lent_channels.specs.Heads.{head_in, stored, PutHead}
 use Rattle.lent_channels.proofs.Heads.{stored-reset, stored_free, stored_flush, stored-take, stored_same, stored-prec, stored_stop, stored-lock}
 use Rattle.named_channels.specs.Named.{by_head, changed_head, with_channels, TidyAll, Once, Changed}

@@ -12,10 +12,10 @@ use Rattle.channel.specs.declared.Channel.{Channel}
 use Rattle.channel.specs.declared.Change.{Change}
 use Rattle.channel.specs.declared.Change.TheVariants.{Reset, Free, SetPrecedence, Flush, Stop, Lock, Take, FrontGone, FrontOnly, Nothing}
 use Rattle.channel.specs.Channel.{changed_of, change_each}
-use Rattle.board.specs.declared.Board.{Board}
+use Rattle.image.specs.board.declared.Board.{Board}
 use Rattle.image.specs.Image.{state_of}
 use Rattle.lent_channels.specs.declared.Channel.{Channel as Head}
-use Rattle.lent.specs.Lent.{Tidy, channel_on, with_channel, Holds}
+use Rattle.lent_channels.specs.lent.Lent.{Tidy, channel_on, with_channel, Holds}
 use Rattle.lent_channels.specs.Heads.{unused_head, reset_head, prec_head, flush_head, stop_head, lock_head, taken_head}
 
 abbrev pub by_head : Change → Bool

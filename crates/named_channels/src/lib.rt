@@ -4,7 +4,7 @@
 ghost use Rattle.std.specs.Prelude.{◌≡◌, ◌/◌, ◌^◌, ◌<◌, T, length};
 ghost use Rattle.channel.specs.Channel.{hits, matching_each};
 ghost use Rattle.image.specs.Image.{Whole, state_of};
-ghost use Rattle.lent.specs.Lent.{Tidy, channel_on};
+ghost use Rattle.lent_channels.specs.lent.Lent.{Tidy, channel_on};
 ghost use Rattle.named_channels.specs.Named.{by_head, changed_head, TidyAll, Once, Changed};
 
 use channel::Change;

@@ -11,9 +11,9 @@ use Rattle.machine.specs.State.{Lock, Request, State, Call, fresh_on}
 use Rattle.machine.specs.Choosing.{Look, fails, held, grants, look}
 use Rattle.machine.specs.Call.{call}
 use Rattle.machine.proofs.Tests.{and_left, and_right, and_both}
-use Rattle.machine_laws.proofs.Lists.{all_any}
-use Rattle.machine_laws.specs.Settling.{Still, AllStill, AtRest}
-use Rattle.machine_laws.proofs.Resting.{call_rests}
+use Rattle.display.proofs.machine_laws.Lists.{all_any}
+use Rattle.display.specs.machine_laws.Settling.{Still, AllStill, AtRest}
+use Rattle.display.proofs.machine_laws.Resting.{call_rests}
 use Rattle.display.specs.Runs.{after_calls}
 use Rattle.nothing_left.specs.Settles.{settles}
 use Rattle.nothing_left.specs.NothingLeft.{finds, would_go, would_fail, in_the_way, none_goes, none_fails, none_in_the_way, NothingLeft, NothingLeftStanding}

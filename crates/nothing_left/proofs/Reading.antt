@@ -14,7 +14,7 @@ use Rattle.machine.specs.Maps.{meets}
 use Rattle.machine.specs.Choosing.{Look, fails, held, grants}
 use Rattle.machine.specs.Rule.{Names}
 use Rattle.machine.proofs.Tests.{and_left, and_right, and_both, by_test}
-use Rattle.machine_laws.proofs.Maps.{meets_iff}
+use Rattle.display.proofs.machine_laws.Maps.{meets_iff}
 use Rattle.display.specs.Runs.{after_calls}
 use Rattle.nothing_left.specs.NothingLeft.{finds, would_go, would_fail, in_the_way, none_goes, none_fails, none_in_the_way, NothingLeft, Standing}
 use Rattle.nothing_left.proofs.NothingLeft.{nothing_left_standing}

@@ -15,10 +15,10 @@ use Rattle.machine.specs.Kinds.{kind}
 use Rattle.machine.specs.Call.{perform, settling, open_settling, accept, answering, call}
 use Rattle.machine.proofs.Tests.{if_elim, and_left, and_right, and_both, by_test}
 use Rattle.machine.proofs.Steps.{first_among}
-use Rattle.machine_laws.proofs.Lists.{among_all}
-use Rattle.machine_laws.proofs.Refusals.{refuse-answer, refused_same, open_failed_same}
-use Rattle.machine_laws.specs.Settling.{AtRest}
-use Rattle.machine_laws.proofs.Settling.{settle_rests}
+use Rattle.display.proofs.machine_laws.Lists.{among_all}
+use Rattle.display.proofs.machine_laws.Refusals.{refuse-answer, refused_same, open_failed_same}
+use Rattle.display.specs.machine_laws.Settling.{AtRest}
+use Rattle.display.proofs.machine_laws.Settling.{settle_rests}
 use Rattle.display.specs.Looks.{looks, acting, looked}
 use Rattle.display.proofs.Looks.{looked-settles}
 use Rattle.nothing_left.specs.Settles.{unsettled, opens, settles}

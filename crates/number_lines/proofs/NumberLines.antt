@@ -9,7 +9,7 @@ use Rattle.machine.specs.State.{State}
 use Rattle.machine.specs.Log.{line}
 use Rattle.display.specs.Display.{number, numbers_from, numbers}
 use Rattle.display.proofs.Pinned.{number_even, number-odd, numbers_at}
-use Rattle.saved.specs.Saved.{spelt}
+use Rattle.saved2.specs.saved.Saved.{spelt}
 use Rattle.frame_lines.proofs.FrameLines.{spelt-append}
 use Rattle.saved2.specs.Saved2.{number_frame, number_frames}
 use Rattle.number_lines.specs.NumberLines.{number_line, number_lines}

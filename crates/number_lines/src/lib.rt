@@ -5,8 +5,13 @@
 ghost use Rattle.std.specs.Prelude.{◌≡◌, ◌+◌, ◌*◌, ◌≤◌, ◌<◌, length};
 ghost use Rattle.machine.specs.Log.{line};
 ghost use Rattle.hex_lines.specs.HexLines.{Put};
-ghost use Rattle.saved.specs.Saved.{spelt};
+ghost use Rattle.saved2.specs.saved.Saved.{spelt};
 ghost use Rattle.number_lines.specs.NumberLines.{number_line, number_lines};
+
+pub use frame_lines;
+pub use hex_lines;
+pub use saved2;
+pub use saved2::saved;
 
 // D9: the two numbers of channel i.
 fn put_number(out: &mut [u8], at: usize, i: usize, display: &[u8]) -> usize

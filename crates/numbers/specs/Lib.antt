@@ -1,1 +1,2 @@
 pub mod Numbers
+pub use Rattle.table.specs as table

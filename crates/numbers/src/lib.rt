@@ -6,6 +6,7 @@ ghost use Rattle.machine.specs.Sound.{sound_tone};
 ghost use Rattle.table.specs.Entry.{tone_at, number_bytes};
 ghost use Rattle.numbers.specs.Numbers.{carried, pervol_kept, sound_numbers};
 
+pub use table;
 use table::Head;
 
 // The cast stands by itself, so that a caller has no fact of its own to show for it.

@@ -5,12 +5,12 @@ use mathlib.Core.Path.{◌≡◌, refl, ap, subst, ◌∙◌}
 use mathlib.Core.Bool.{Bool, true, false, not}
 use mathlib.Core.List.{List, [], ◌∷◌, ◌++◌, map, map-map}
 use lib.Dec.{T, eqb, eqb→eq}
-use Rattle.machine.specs.Lists.{all, keep}
-use Rattle.machine.specs.State.{Write, Channel, Lock, State, Call}
-use Rattle.machine.specs.Maps.{bit}
-use Rattle.machine.specs.Granting.{aborted, cut, cut_replies}
-use Rattle.machine.specs.Commands.{set_writes, aborted_writes, without, leads, led_by, aborted_by, leaving, do_abort}
-use Rattle.machine.proofs.Tests.{and_left, and_right, by_test, test_false}
+use Rattle.machine_laws.specs.machine.Lists.{all, keep}
+use Rattle.machine_laws.specs.machine.State.{Write, Channel, Lock, State, Call}
+use Rattle.machine_laws.specs.machine.Maps.{bit}
+use Rattle.machine_laws.specs.machine.Granting.{aborted, cut, cut_replies}
+use Rattle.machine_laws.specs.machine.Commands.{set_writes, aborted_writes, without, leads, led_by, aborted_by, leaving, do_abort}
+use Rattle.machine_laws.proofs.machine.Tests.{and_left, and_right, by_test, test_false}
 use Rattle.one_desk.specs.OneDesk.{of_desk, bare, mine, mask, own_locks, part}
 use Rattle.one_desk.proofs.Lists.{keep_map, kept_keep, keep_in}
 use Rattle.one_desk.proofs.Part.{Sees, through, to_append, own_twice, own_keep, cut_part, cut_replies_part, silent_sees}

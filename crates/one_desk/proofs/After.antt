@@ -12,22 +12,22 @@ use mathlib.Core.Bool.{Bool, true, false, not, ◌&&◌, ◌||◌}
 use mathlib.Core.List.{List, [], ◌∷◌, ◌++◌, map}
 use lib.Dec.{T, T_not, not_T, eqb, eqb→eq, eqb_refl}
 use lib.ListN.{length}
-use Rattle.machine.specs.Numbers.{nowait, synced, ALLOCFAILED, CMD_RESET, CMD_UPDATE, CMD_CLEAR, CMD_STOP, CMD_START, CMD_FLUSH, ADCMD_FINISH, ADCMD_PERVOL, ADCMD_SETPREC}
+use Rattle.machine_laws.specs.machine.Numbers.{nowait, synced, ALLOCFAILED, CMD_RESET, CMD_UPDATE, CMD_CLEAR, CMD_STOP, CMD_START, CMD_FLUSH, ADCMD_FINISH, ADCMD_PERVOL, ADCMD_SETPREC}
 use Rattle.std.specs.Prelude.{if◌then◌else◌}
-use Rattle.machine.specs.Lists.{any, all, keep}
-use Rattle.machine.specs.State.{Write, Channel, State, Outcome, Call, Op, OPEN, CLOSE, ABORT, EVENT, COMMAND}
-use Rattle.machine.specs.Desks.{DESK_A, DESK_B, desk_of}
-use Rattle.machine.specs.Maps.{odd, half, bit, lowest, change, at}
-use Rattle.machine.specs.Choosing.{Look, fails, held, grants, look}
-use Rattle.machine.specs.Granting.{key_for, taken, cut, granted}
-use Rattle.machine.specs.Commands.{matches, matching, mismatch, finished, silent, reset, freed, set_prec, flushed, set_stop, set_lock, same, set_writes, each, each_change, freeing, playing, write_of, in_progress, back, front_gone, on_first, on_front, remember_finish, remember_tone, set_tone, period_in, volume_in, owned, without, leaving, do_free, do_finish, do_pervol, do_lock, do_read, do_write, do_waitcycle, do_close, do_abort}
-use Rattle.machine.specs.Allocating.{waits, allocating, do_allocate, opening, do_open}
-use Rattle.machine.specs.Settling.{Found, nobody, somebody, Walk, Settled, walk, walked, go_on, rounds, settle}
-use Rattle.machine.specs.Kinds.{Kind, RESET, READ, WRITE, UPDATE, CLEAR, STOP, START, FLUSH, FREE, SETPREC, FINISH, PERVOL, LOCK, WAITCYCLE, ALLOCATE, UNKNOWN, kind}
-use Rattle.machine.specs.Refusals.{Refusal, accepted, refused, refusal}
-use Rattle.machine.specs.Call.{perform, settling, open_settling, accept, answering, call}
-use Rattle.machine.proofs.Tests.{if_elim, by_test, and_left, and_right, and_both, or_left, or_right, or_map}
-use Rattle.machine.proofs.Steps.{first_none}
+use Rattle.machine_laws.specs.machine.Lists.{any, all, keep}
+use Rattle.machine_laws.specs.machine.State.{Write, Channel, State, Outcome, Call, Op, OPEN, CLOSE, ABORT, EVENT, COMMAND}
+use Rattle.machine_laws.specs.machine.Desks.{DESK_A, DESK_B, desk_of}
+use Rattle.machine_laws.specs.machine.Maps.{odd, half, bit, lowest, change, at}
+use Rattle.machine_laws.specs.machine.Choosing.{Look, fails, held, grants, look}
+use Rattle.machine_laws.specs.machine.Granting.{key_for, taken, cut, granted}
+use Rattle.machine_laws.specs.machine.Commands.{matches, matching, mismatch, finished, silent, reset, freed, set_prec, flushed, set_stop, set_lock, same, set_writes, each, each_change, freeing, playing, write_of, in_progress, back, front_gone, on_first, on_front, remember_finish, remember_tone, set_tone, period_in, volume_in, owned, without, leaving, do_free, do_finish, do_pervol, do_lock, do_read, do_write, do_waitcycle, do_close, do_abort}
+use Rattle.machine_laws.specs.machine.Allocating.{waits, allocating, do_allocate, opening, do_open}
+use Rattle.machine_laws.specs.machine.Settling.{Found, nobody, somebody, Walk, Settled, walk, walked, go_on, rounds, settle}
+use Rattle.machine_laws.specs.machine.Kinds.{Kind, RESET, READ, WRITE, UPDATE, CLEAR, STOP, START, FLUSH, FREE, SETPREC, FINISH, PERVOL, LOCK, WAITCYCLE, ALLOCATE, UNKNOWN, kind}
+use Rattle.machine_laws.specs.machine.Refusals.{Refusal, accepted, refused, refusal}
+use Rattle.machine_laws.specs.machine.Call.{perform, settling, open_settling, accept, answering, call}
+use Rattle.machine_laws.proofs.machine.Tests.{if_elim, by_test, and_left, and_right, and_both, or_left, or_right, or_map}
+use Rattle.machine_laws.proofs.machine.Steps.{first_none}
 use Rattle.machine_laws.proofs.Maps.{odd-bit, half-bit}
 use Rattle.machine_laws.proofs.KeepingCalls.{change_zero}
 use Rattle.machine_laws.proofs.Refusals.{refuse_same}

@@ -6,17 +6,17 @@ use mathlib.Core.Bool.{Bool, true, false, not, ◌&&◌, ◌||◌}
 use mathlib.Core.List.{List, [], ◌∷◌, ◌++◌, map, map-map, map-append}
 use lib.Dec.{T, eqb}
 use lib.ListN.{length, length-map, take}
-use Rattle.machine.specs.Numbers.{synced, nowait, NONE, CMD_READ, CMD_WRITE, ADCMD_FREE, ADCMD_FINISH, ADCMD_PERVOL, ADCMD_LOCK, ADCMD_WAITCYCLE, ADCMD_ALLOCATE}
+use Rattle.machine_laws.specs.machine.Numbers.{synced, nowait, NONE, CMD_READ, CMD_WRITE, ADCMD_FREE, ADCMD_FINISH, ADCMD_PERVOL, ADCMD_LOCK, ADCMD_WAITCYCLE, ADCMD_ALLOCATE}
 use Rattle.std.specs.Prelude.{if◌then◌else◌}
-use Rattle.machine.specs.Lists.{any, all, keep}
-use Rattle.machine.specs.State.{Write, Channel, Lock, State, Reply, Outcome, Call, with_channels, with_opens}
-use Rattle.machine.specs.Desks.{front_for, replies_to}
-use Rattle.machine.specs.Maps.{odd, half, bit, lowest, change, at}
-use Rattle.machine.specs.Choosing.{Look, fails, held, grants, look}
-use Rattle.machine.specs.Granting.{aborted, aborted_in, on_channels, cut, dropped}
-use Rattle.machine.specs.Commands.{matches, matching, mismatch, done, freed, set_lock, set_writes, cleared, is_empty, ended, freeing, freeing_replies, each, each_change, do_free, do_lock, back, playing, do_read, period_in, volume_in, write_of, do_write, do_waitcycle, in_progress, front_only, front_gone, on_first, on_front, set_tone, remember_tone, remember_finish, do_finish, do_pervol, closed, owned, do_close}
-use Rattle.machine.specs.Allocating.{waits, allocating, do_allocate, opening, do_open}
-use Rattle.machine.proofs.Tests.{and_left, and_right, nor_left, nor_right, test_true, test_false}
+use Rattle.machine_laws.specs.machine.Lists.{any, all, keep}
+use Rattle.machine_laws.specs.machine.State.{Write, Channel, Lock, State, Reply, Outcome, Call, with_channels, with_opens}
+use Rattle.machine_laws.specs.machine.Desks.{front_for, replies_to}
+use Rattle.machine_laws.specs.machine.Maps.{odd, half, bit, lowest, change, at}
+use Rattle.machine_laws.specs.machine.Choosing.{Look, fails, held, grants, look}
+use Rattle.machine_laws.specs.machine.Granting.{aborted, aborted_in, on_channels, cut, dropped}
+use Rattle.machine_laws.specs.machine.Commands.{matches, matching, mismatch, done, freed, set_lock, set_writes, cleared, is_empty, ended, freeing, freeing_replies, each, each_change, do_free, do_lock, back, playing, do_read, period_in, volume_in, write_of, do_write, do_waitcycle, in_progress, front_only, front_gone, on_first, on_front, set_tone, remember_tone, remember_finish, do_finish, do_pervol, closed, owned, do_close}
+use Rattle.machine_laws.specs.machine.Allocating.{waits, allocating, do_allocate, opening, do_open}
+use Rattle.machine_laws.proofs.machine.Tests.{and_left, and_right, nor_left, nor_right, test_true, test_false}
 use Rattle.machine_laws.proofs.Lists.{keep_append, keep_each, keep_none}
 use Rattle.machine_laws.proofs.Maps.{odd-bit, half-bit}
 use Rattle.one_desk.specs.OneDesk.{of_desk, bare, mine, mask, own_locks, part, under}

@@ -4,10 +4,10 @@ use mathlib.Core.Bool.{Bool, true, false, not, ◌&&◌, ◌||◌}
 use mathlib.Core.List.{List, [], ◌∷◌}
 use lib.Dec.{T, eqb, eqb→eq, eqb_refl, ltb}
 use Rattle.std.specs.Prelude.{if◌then◌else◌}
-use Rattle.machine.specs.Lists.{any, all}
-use Rattle.machine.specs.State.{Write, Channel, State}
-use Rattle.machine.specs.Desks.{DESK_A, DESK_B, HALF, desk_of}
-use Rattle.machine.proofs.Tests.{and_left, and_right, and_both, or_left, or_right, by_test}
+use Rattle.machine_laws.specs.machine.Lists.{any, all}
+use Rattle.machine_laws.specs.machine.State.{Write, Channel, State}
+use Rattle.machine_laws.specs.machine.Desks.{DESK_A, DESK_B, HALF, desk_of}
+use Rattle.machine_laws.proofs.machine.Tests.{and_left, and_right, and_both, or_left, or_right, by_test}
 use Rattle.machine_laws.proofs.Lists.{all_mono}
 use Rattle.one_desk.specs.OneDesk.{of_desk, under, one_key}
 use Rattle.one_desk.proofs.Commands.{pure}

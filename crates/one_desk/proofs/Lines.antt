@@ -5,10 +5,10 @@ use Prim.Native.Nat.{ℕ}
 use mathlib.Core.Path.{◌≡◌, refl, ap, ap₂, sym, ◌∙◌}
 use mathlib.Core.List.{List, [], ◌∷◌, ◌++◌, append_assoc}
 use mathlib.Core.Option.{Option, some}
-use Rattle.machine.specs.State.{State, Reply, Answer, Outcome, Call}
-use Rattle.machine.specs.Desks.{DESK_A, DESK_B, replies_to, halves}
-use Rattle.machine.specs.Call.{call}
-use Rattle.machine.specs.Log.{unhex, frame, reply_line, reply_lines, answer_line, told, outcome_of, feed}
+use Rattle.machine_laws.specs.machine.State.{State, Reply, Answer, Outcome, Call}
+use Rattle.machine_laws.specs.machine.Desks.{DESK_A, DESK_B, replies_to, halves}
+use Rattle.machine_laws.specs.machine.Call.{call}
+use Rattle.machine_laws.specs.machine.Log.{unhex, frame, reply_line, reply_lines, answer_line, told, outcome_of, feed}
 use Rattle.one_desk.specs.OneDesk.{Premises, Same, reads, OneDeskLog}
 use Rattle.one_desk.proofs.OneDesk.{one_desk_lem}
 

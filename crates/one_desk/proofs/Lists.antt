@@ -5,7 +5,7 @@ use mathlib.Core.Bool.{Bool, true, false, cond}
 use mathlib.Core.List.{List, [], ◌∷◌, map}
 use lib.Dec.{T}
 use Rattle.std.specs.Prelude.{if◌then◌else◌}
-use Rattle.machine.specs.Lists.{keep}
+use Rattle.machine_laws.specs.machine.Lists.{keep}
 use Rattle.machine_laws.proofs.Lists.{keep_twice, keep_swap}
 
 pub keep_map {ℓ κ} : {A : Type ℓ} {B : Type κ} (q : A → Bool) (p : B → Bool) (f : A → B) → ((x : A) → p (f x) ≡ q x) → (xs : List A)

@@ -13,14 +13,14 @@ use mathlib.Core.Path.{◌≡◌, refl}
 use mathlib.Core.Bool.{Bool, true, false, not, ◌&&◌}
 use mathlib.Core.List.{List, [], ◌∷◌, ◌++◌, map}
 use Rattle.std.specs.Prelude.{if◌then◌else◌}
-use Rattle.machine.specs.Lists.{keep}
-use Rattle.machine.specs.State.{Write, Channel, Lock, Request, State, Call, ABORT, COMMAND, free, with_channels, with_locks, with_waiters, with_waiting, with_opens, with_last}
-use Rattle.machine.specs.Desks.{DESK_A, replies_to}
-use Rattle.machine.specs.Maps.{odd}
-use Rattle.machine.specs.Sound.{sound}
-use Rattle.machine.specs.Call.{call}
-use Rattle.machine.specs.Machine.{machine}
-use Rattle.machine.specs.Walks.{plays, chan, lock, wait, stands, asks_from}
+use Rattle.machine_laws.specs.machine.Lists.{keep}
+use Rattle.machine_laws.specs.machine.State.{Write, Channel, Lock, Request, State, Call, ABORT, COMMAND, free, with_channels, with_locks, with_waiters, with_waiting, with_opens, with_last}
+use Rattle.machine_laws.specs.machine.Desks.{DESK_A, replies_to}
+use Rattle.machine_laws.specs.machine.Maps.{odd}
+use Rattle.machine_laws.specs.machine.Sound.{sound}
+use Rattle.machine_laws.specs.machine.Call.{call}
+use Rattle.machine_laws.specs.machine.Machine.{machine}
+use Rattle.machine_laws.specs.machine.Walks.{plays, chan, lock, wait, stands, asks_from}
 use Rattle.one_desk.specs.OneDesk.{mine, own_locks, part, under, one_key, clear, calls}
 
 abbrev tells : State → Call → List ℕ

@@ -7,18 +7,18 @@ use mathlib.Core.Bool.{Bool, true, false, not, ◌||◌, cond}
 use mathlib.Core.List.{List, [], ◌∷◌, ◌++◌, map, map-map}
 use lib.Dec.{T, eqb, eqb→eq, leb}
 use lib.ListN.{length}
-use Rattle.machine.specs.Numbers.{OTHERDESK, NONE, CMD_RESET, CMD_UPDATE, CMD_CLEAR, CMD_STOP, CMD_START, CMD_FLUSH, ADCMD_SETPREC}
+use Rattle.machine_laws.specs.machine.Numbers.{OTHERDESK, NONE, CMD_RESET, CMD_UPDATE, CMD_CLEAR, CMD_STOP, CMD_START, CMD_FLUSH, ADCMD_SETPREC}
 use Rattle.std.specs.Prelude.{if◌then◌else◌}
-use Rattle.machine.specs.Lists.{any, all, among, keep}
-use Rattle.machine.specs.State.{Write, Channel, Lock, State, Outcome, Call, Op, OPEN, CLOSE, ABORT, EVENT, COMMAND}
-use Rattle.machine.specs.Desks.{desk_of, foreign}
-use Rattle.machine.specs.Commands.{done, finished, silent, reset, same, set_stop, flushed, set_prec}
-use Rattle.machine.specs.Sound.{sound, ids, writes_of}
-use Rattle.machine.specs.Kinds.{Kind, RESET, READ, WRITE, UPDATE, CLEAR, STOP, START, FLUSH, FREE, SETPREC, FINISH, PERVOL, LOCK, WAITCYCLE, ALLOCATE, UNKNOWN, kind}
-use Rattle.machine.specs.Refusals.{Refusal, accepted, refused, first, bad_maps, bad_map, refusal, refuse}
-use Rattle.machine.specs.Call.{perform, accept, answering, call}
-use Rattle.machine.proofs.Tests.{by_test, test_true, eqb_false}
-use Rattle.machine.proofs.Steps.{first_none}
+use Rattle.machine_laws.specs.machine.Lists.{any, all, among, keep}
+use Rattle.machine_laws.specs.machine.State.{Write, Channel, Lock, State, Outcome, Call, Op, OPEN, CLOSE, ABORT, EVENT, COMMAND}
+use Rattle.machine_laws.specs.machine.Desks.{desk_of, foreign}
+use Rattle.machine_laws.specs.machine.Commands.{done, finished, silent, reset, same, set_stop, flushed, set_prec}
+use Rattle.machine_laws.specs.machine.Sound.{sound, ids, writes_of}
+use Rattle.machine_laws.specs.machine.Kinds.{Kind, RESET, READ, WRITE, UPDATE, CLEAR, STOP, START, FLUSH, FREE, SETPREC, FINISH, PERVOL, LOCK, WAITCYCLE, ALLOCATE, UNKNOWN, kind}
+use Rattle.machine_laws.specs.machine.Refusals.{Refusal, accepted, refused, first, bad_maps, bad_map, refusal, refuse}
+use Rattle.machine_laws.specs.machine.Call.{perform, accept, answering, call}
+use Rattle.machine_laws.proofs.machine.Tests.{by_test, test_true, eqb_false}
+use Rattle.machine_laws.proofs.machine.Steps.{first_none}
 use Rattle.machine_laws.proofs.Lists.{among-append}
 use Rattle.one_desk.specs.OneDesk.{of_desk, bare, mine, mask, own_locks, part, Alike, one_key, clear, calls, Premises, OneDesk}
 use Rattle.one_desk.proofs.Part.{to, Sees, through, mine_twice, length_part, silent_sees, finished_sees, part_twice}

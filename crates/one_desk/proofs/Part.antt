@@ -9,16 +9,16 @@ use mathlib.Core.Bool.{Bool, true, false, not}
 use mathlib.Core.List.{List, [], ◌∷◌, ◌++◌, map, map-map}
 use lib.Dec.{T}
 use lib.ListN.{length, length-map}
-use Rattle.machine.specs.Numbers.{quick}
+use Rattle.machine_laws.specs.machine.Numbers.{quick}
 use Rattle.std.specs.Prelude.{if◌then◌else◌}
-use Rattle.machine.specs.Lists.{all, keep}
-use Rattle.machine.specs.State.{Write, Channel, Lock, Request, State, Reply, Answer, Outcome, Call, is_free}
-use Rattle.machine.specs.Desks.{replies_to}
-use Rattle.machine.specs.Maps.{odd, half, named, change, at}
-use Rattle.machine.specs.Choosing.{Choice, none, chosen, takeable, eligible, all_free, first_free, highest, stolen, costs_less, cheaper, cheapest, choose, standing, look}
-use Rattle.machine.specs.Granting.{after, in_use, first_unused, new_key, key_for, last_for, aborted, aborted_in, on_channels, given_up, cut, cut_replies, dropped, taken, granted}
-use Rattle.machine.specs.Commands.{matches, matching, mismatch, finished, silent, owned}
-use Rattle.machine.proofs.Tests.{and_left, and_right}
+use Rattle.machine_laws.specs.machine.Lists.{all, keep}
+use Rattle.machine_laws.specs.machine.State.{Write, Channel, Lock, Request, State, Reply, Answer, Outcome, Call, is_free}
+use Rattle.machine_laws.specs.machine.Desks.{replies_to}
+use Rattle.machine_laws.specs.machine.Maps.{odd, half, named, change, at}
+use Rattle.machine_laws.specs.machine.Choosing.{Choice, none, chosen, takeable, eligible, all_free, first_free, highest, stolen, costs_less, cheaper, cheapest, choose, standing, look}
+use Rattle.machine_laws.specs.machine.Granting.{after, in_use, first_unused, new_key, key_for, last_for, aborted, aborted_in, on_channels, given_up, cut, cut_replies, dropped, taken, granted}
+use Rattle.machine_laws.specs.machine.Commands.{matches, matching, mismatch, finished, silent, owned}
+use Rattle.machine_laws.proofs.machine.Tests.{and_left, and_right}
 use Rattle.machine_laws.proofs.Lists.{all_any, keep_append, keep_twice, keep_swap}
 use Rattle.one_desk.specs.OneDesk.{of_desk, bare, mine, mask, own_locks, part}
 use Rattle.one_desk.proofs.Lists.{keep_map, kept_map, kept_keep}

@@ -5,16 +5,16 @@ use mathlib.Core.Bool.{Bool, true, false, not}
 use mathlib.Core.List.{List, [], ◌∷◌, map}
 use lib.Dec.{eqb}
 use lib.ListN.{length}
-use Rattle.machine.specs.Numbers.{ALLOCFAILED, CHANNELSTOLEN}
+use Rattle.machine_laws.specs.machine.Numbers.{ALLOCFAILED, CHANNELSTOLEN}
 use Rattle.std.specs.Prelude.{if◌then◌else◌}
-use Rattle.machine.specs.Lists.{keep}
-use Rattle.machine.specs.State.{Channel, Lock, Request, State, Reply, Answer, Outcome}
-use Rattle.machine.specs.Maps.{meets}
-use Rattle.machine.specs.Choosing.{Look, fails, held, grants, look}
-use Rattle.machine.specs.Granting.{key_for, granted}
-use Rattle.machine.specs.Commands.{ended}
-use Rattle.machine.specs.Settling.{Found, nobody, somebody, Walk, Settled, replied, staying, saying, on_look, walk, walked, go_on, rounds, settle}
-use Rattle.machine.specs.Call.{settling, open_settling}
+use Rattle.machine_laws.specs.machine.Lists.{keep}
+use Rattle.machine_laws.specs.machine.State.{Channel, Lock, Request, State, Reply, Answer, Outcome}
+use Rattle.machine_laws.specs.machine.Maps.{meets}
+use Rattle.machine_laws.specs.machine.Choosing.{Look, fails, held, grants, look}
+use Rattle.machine_laws.specs.machine.Granting.{key_for, granted}
+use Rattle.machine_laws.specs.machine.Commands.{ended}
+use Rattle.machine_laws.specs.machine.Settling.{Found, nobody, somebody, Walk, Settled, replied, staying, saying, on_look, walk, walked, go_on, rounds, settle}
+use Rattle.machine_laws.specs.machine.Call.{settling, open_settling}
 use Rattle.machine_laws.proofs.Lists.{keep_swap}
 use Rattle.one_desk.specs.OneDesk.{of_desk, mask, own_locks, part}
 use Rattle.one_desk.proofs.Part.{to, Sees, through, to_append, mask_twice, length_part, look_part, key_for_part, own_twice, to_own, dropped_part, granted_part, part_twice}

@@ -6,13 +6,13 @@ use mathlib.Core.Path.{◌≡◌, refl}
 use mathlib.Core.Bool.{true, false}
 use mathlib.Core.List.{List, [], ◌∷◌}
 use lib.Dec.{T}
-use Rattle.machine.specs.State.{State, Reply, Call, OPEN, CLOSE, COMMAND}
-use Rattle.machine.specs.Desks.{DESK_A, DESK_B, replies_to}
-use Rattle.machine.specs.Sound.{sound}
-use Rattle.machine.specs.Call.{call}
-use Rattle.machine.specs.Text.{bytes, page}
-use Rattle.machine.specs.Machine.{machine}
-use Rattle.machine.specs.Walks.{plays, cuts, tunes, chan, lock, wait, stands, asks_from, reply}
+use Rattle.machine_laws.specs.machine.State.{State, Reply, Call, OPEN, CLOSE, COMMAND}
+use Rattle.machine_laws.specs.machine.Desks.{DESK_A, DESK_B, replies_to}
+use Rattle.machine_laws.specs.machine.Sound.{sound}
+use Rattle.machine_laws.specs.machine.Call.{call}
+use Rattle.machine_laws.specs.machine.Text.{bytes, page}
+use Rattle.machine_laws.specs.machine.Machine.{machine}
+use Rattle.machine_laws.specs.machine.Walks.{plays, cuts, tunes, chan, lock, wait, stands, asks_from, reply}
 use Rattle.one_desk.specs.OneDesk.{mine, own_locks, under, one_key, clear, calls, Premises, Same, reads}
 use Rattle.one_desk.proofs.OneDesk.{one_desk_lem}
 use Rattle.one_desk.proofs.Lines.{one_desk-log}

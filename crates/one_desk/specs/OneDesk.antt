@@ -21,13 +21,13 @@
 --   OneDeskLog      the claim of the log's bytes; `one_desk-log` of proofs/Lines.antt proves it
 use Rattle.std.specs.Prelude.{ℕ, ◌≡◌, Bool, false, not, ◌&&◌, List, map, ◌++◌, T, eqb}
 use Rattle.std.proofs.Math.Option.{none, some}
-use Rattle.machine.specs.Numbers.{PERIOD_LEAST, VOLUME_MOST}
-use Rattle.machine.specs.Lists.{any, all, keep}
-use Rattle.machine.specs.State.{Write, Channel, Lock, State, Outcome, Call, Op, OPEN, CLOSE, ABORT, EVENT, COMMAND}
-use Rattle.machine.specs.Desks.{DESK_A, DESK_B, desk_of, replies_to}
-use Rattle.machine.specs.Sound.{sound}
-use Rattle.machine.specs.Call.{call}
-use Rattle.machine.specs.Log.{unhex, frame, reply_lines, answer_line, outcome_of}
+use Rattle.machine_laws.specs.machine.Numbers.{PERIOD_LEAST, VOLUME_MOST}
+use Rattle.machine_laws.specs.machine.Lists.{any, all, keep}
+use Rattle.machine_laws.specs.machine.State.{Write, Channel, Lock, State, Outcome, Call, Op, OPEN, CLOSE, ABORT, EVENT, COMMAND}
+use Rattle.machine_laws.specs.machine.Desks.{DESK_A, DESK_B, desk_of, replies_to}
+use Rattle.machine_laws.specs.machine.Sound.{sound}
+use Rattle.machine_laws.specs.machine.Call.{call}
+use Rattle.machine_laws.specs.machine.Log.{unhex, frame, reply_lines, answer_line, outcome_of}
 
 abbrev pub of_desk : ℕ → ℕ → Bool
 of_desk d i = eqb (desk_of i) d

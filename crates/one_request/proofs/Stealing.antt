@@ -5,13 +5,13 @@ use mathlib.Core.List.{List, ◌++◌, map, append_assoc}
 use native.Mathlib.Omega.{arith}
 use lib.ListN.{length, drop, length-set}
 use Rattle.queue.specs.Queue.{queue_of}
-use Rattle.reply.specs.Replies.{sent}
-use Rattle.machine.specs.State.{Lock, Reply, with_locks}
-use Rattle.store.specs.declared.State.{State}
-use Rattle.store.specs.Store.{lock_item, waiter_item, wait_item, write_items, items, entries, table_of, state_in, Held}
-use Rattle.store.specs.Work.{Did}
-use Rattle.store.proofs.Store.{held_parts, held_eight, held_opens}
-use Rattle.fates.specs.declared.End.TheVariants.{Stolen}
+use Rattle.locks.specs.reply.Replies.{sent}
+use Rattle.machine_laws.specs.machine.State.{Lock, Reply, with_locks}
+use Rattle.locks.specs.store.declared.State.{State}
+use Rattle.locks.specs.store.Store.{lock_item, waiter_item, wait_item, write_items, items, entries, table_of, state_in, Held}
+use Rattle.locks.specs.store.Work.{Did}
+use Rattle.locks.proofs.store.Store.{held_parts, held_eight, held_opens}
+use Rattle.locks.specs.fates.declared.End.TheVariants.{Stolen}
 use Rattle.locks.specs.declared.Sifted.{Sifted}
 use Rattle.locks.specs.Locks.{lefts, ending, Sifting, Sieved}
 use Rattle.locks.proofs.Laws.{lefts-stolen, ending-stolen, locked_of}

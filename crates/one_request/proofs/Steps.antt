@@ -5,16 +5,16 @@ use mathlib.Core.List.{List, [], ◌∷◌, ◌++◌, map}
 use native.Mathlib.Omega.{arith}
 use lib.ListN.{length, get_or, length-append}
 use Rattle.memory.specs.Splice.{splice, block}
-use Rattle.table.specs.Entry.{key_in}
-use Rattle.reply.specs.Replies.{encode, sent}
-use Rattle.reply.proofs.Laws.{sent_one, length-sent}
-use Rattle.machine.specs.State.{Request, State as StateM, Reply}
-use Rattle.machine.specs.Granting.{key_for, cut_replies, dropped, granted}
-use Rattle.machine.specs.Settling.{replied}
-use Rattle.store.specs.declared.State.{State}
-use Rattle.store.specs.Store.{struct_of, table_of, state_in, Held}
-use Rattle.store.specs.Work.{Ready, Did}
-use Rattle.store.proofs.Store.{held_parts, held_eight, held_next}
+use Rattle.locks.specs.table.Entry.{key_in}
+use Rattle.locks.specs.reply.Replies.{encode, sent}
+use Rattle.locks.proofs.reply.Laws.{sent_one, length-sent}
+use Rattle.machine_laws.specs.machine.State.{Request, State as StateM, Reply}
+use Rattle.machine_laws.specs.machine.Granting.{key_for, cut_replies, dropped, granted}
+use Rattle.machine_laws.specs.machine.Settling.{replied}
+use Rattle.locks.specs.store.declared.State.{State}
+use Rattle.locks.specs.store.Store.{struct_of, table_of, state_in, Held}
+use Rattle.locks.specs.store.Work.{Ready, Did}
+use Rattle.locks.proofs.store.Store.{held_parts, held_eight, held_next}
 use Rattle.granting.specs.declared.Granted.{Granted}
 use Rattle.granting.specs.Granting.{GrantedTo}
 use Rattle.waiting.specs.Waiting.{waiter}

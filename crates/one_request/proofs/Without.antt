@@ -9,17 +9,17 @@ use Rattle.memory.specs.Splice.{splice}
 use Rattle.queue.specs.declared.Queue.{Queue}
 use Rattle.queue.specs.Queue.{queue_of, list_of, removed}
 use Rattle.queue.proofs.Laws.{removed_of}
-use Rattle.table.specs.Entry.{idle}
-use Rattle.machine.specs.State.{Request, State as StateM}
-use Rattle.machine.specs.Sound.{ids, writes_of}
+use Rattle.locks.specs.table.Entry.{idle}
+use Rattle.machine_laws.specs.machine.State.{Request, State as StateM}
+use Rattle.machine_laws.specs.machine.Sound.{ids, writes_of}
 use Rattle.machine_laws.specs.Lists.{Sub, skip}
 use Rattle.machine_laws.proofs.Lists.{sub_refl, sub_append, sub_map}
 use Rattle.machine_laws.proofs.Keeping.{parts_sub}
 use Rattle.machine_laws.specs.Sound.{Parts}
-use Rattle.store.specs.declared.State.{State}
-use Rattle.store.specs.Store.{Item, wait_item, lock_item, waiter_item, write_items, items, struct_of, table_of, state_in, request_in, Held}
-use Rattle.store.proofs.Entries.{Ins, ins_left, ins_at, entry-removed}
-use Rattle.store.proofs.Store.{held_parts, held_waiting, waiting-count, good_of, held_opens}
+use Rattle.locks.specs.store.declared.State.{State}
+use Rattle.locks.specs.store.Store.{Item, wait_item, lock_item, waiter_item, write_items, items, struct_of, table_of, state_in, request_in, Held}
+use Rattle.locks.proofs.store.Entries.{Ins, ins_left, ins_at, entry-removed}
+use Rattle.locks.proofs.store.Store.{held_parts, held_waiting, waiting-count, good_of, held_opens}
 use Rattle.waiting.specs.Waiting.{nobody, waiter}
 use Rattle.waiting.proofs.Waiting.{inside, waiter_is, waiter_in}
 use Rattle.one_request.specs.OneRequest.{out_at}

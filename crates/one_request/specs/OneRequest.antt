@@ -8,16 +8,16 @@
 --   Makes f g ..  a step's promise: of the state held it makes the state f, and behind the first n replies it sends g
 --   stolen m s, without_locks m s   the replies -12 to the locks over a channel of m, and the state without those locks
 use Rattle.std.specs.Prelude.{ℕ, suc, not, List, [], ◌∷◌, ◌++◌, map, length, take, drop}
-use Rattle.machine.specs.Numbers.{ALLOCFAILED, CHANNELSTOLEN}
-use Rattle.machine.specs.Lists.{keep}
-use Rattle.machine.specs.State.{Reply, State, with_waiting, with_locks}
-use Rattle.machine.specs.Maps.{meets}
-use Rattle.machine.specs.Granting.{key_for, dropped, granted}
-use Rattle.machine.specs.Commands.{ended}
-use Rattle.machine.specs.Settling.{replied}
-use Rattle.store.specs.declared.State.{State as Struct}
-use Rattle.store.specs.Store.{state_in}
-use Rattle.store.specs.Work.{Did}
+use Rattle.machine_laws.specs.machine.Numbers.{ALLOCFAILED, CHANNELSTOLEN}
+use Rattle.machine_laws.specs.machine.Lists.{keep}
+use Rattle.machine_laws.specs.machine.State.{Reply, State, with_waiting, with_locks}
+use Rattle.machine_laws.specs.machine.Maps.{meets}
+use Rattle.machine_laws.specs.machine.Granting.{key_for, dropped, granted}
+use Rattle.machine_laws.specs.machine.Commands.{ended}
+use Rattle.machine_laws.specs.machine.Settling.{replied}
+use Rattle.locks.specs.store.declared.State.{State as Struct}
+use Rattle.locks.specs.store.Store.{state_in}
+use Rattle.locks.specs.store.Work.{Did}
 use Rattle.waiting.specs.Waiting.{waiter}
 use Rattle.one_request.specs.declared.Settled.{Settled}
 

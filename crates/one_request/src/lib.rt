@@ -3,14 +3,16 @@
 #![tactic(auto)]
 
 ghost use Rattle.std.specs.Prelude.{◌+◌, ◌<◌, length};
-ghost use Rattle.machine.specs.Granting.{dropped};
-ghost use Rattle.store.specs.Store.{state_in, Held};
-ghost use Rattle.store.specs.Work.{Stands, Ready};
+ghost use Rattle.machine_laws.specs.machine.Granting.{dropped};
+ghost use Rattle.locks.specs.store.Store.{state_in, Held};
+ghost use Rattle.locks.specs.store.Work.{Stands, Ready};
 ghost use Rattle.one_request.specs.OneRequest.{out_at, dropped_replies, granted_at, granted_replies, stolen, without_locks, Makes};
 
-use fates::End;
-use reply::Reply;
-use store::State;
+use locks::fates::End;
+use locks::reply::Reply;
+use locks::store::State;
+pub use locks::{reply, store, table};
+pub use waiting;
 
 #[derive(Clone, Copy)]
 pub struct Settled {

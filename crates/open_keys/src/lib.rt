@@ -8,6 +8,9 @@ ghost use Rattle.machine.specs.Commands.{closed};
 ghost use Rattle.queue.specs.Queue.{remove_at};
 ghost use Rattle.open_keys.specs.OpenKeys.{keys_of, keys_in, Tidy, index_of};
 
+pub use machine;
+pub use queue;
+
 #[derive(Clone, Copy)]
 pub struct Keys {
     pub n: u8,

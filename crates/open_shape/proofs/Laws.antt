@@ -9,10 +9,10 @@ use borrow.Author.Tests.{le-leb}
 use lib.Dec.{T, eqb, eqb→eq, eqb_refl, leb, leb→le, le→leb}
 use lib.ListN.{length, take, drop, replicate, length-take, length-drop, take-append-drop}
 use lib.Seq.{length-take-le, drop-append_seam}
-use Rattle.machine.specs.Numbers.{ENTRIES, KEYS}
-use Rattle.machine.specs.Lists.{all}
-use Rattle.machine.specs.Sound.{sound_opens}
-use Rattle.machine.proofs.Tests.{and_left, and_right, and_both}
+use Rattle.open_keys.specs.machine.Numbers.{ENTRIES, KEYS}
+use Rattle.open_keys.specs.machine.Lists.{all}
+use Rattle.open_keys.specs.machine.Sound.{sound_opens}
+use Rattle.open_keys.proofs.machine.Tests.{and_left, and_right, and_both}
 use Rattle.open_keys.specs.declared.Keys.{Keys}
 use Rattle.open_keys.specs.OpenKeys.{pad, keys_of, keys_in, Tidy}
 use Rattle.open_keys.proofs.Laws.{length-pad}

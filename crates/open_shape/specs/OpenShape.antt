@@ -4,8 +4,8 @@
 --   is_key k, is_none k   a key, of two bytes and not 0; 0
 --   sound_keys q         at most 32 keys, none 0, and zeros behind them
 use Rattle.std.specs.Prelude.{ℕ, Bool, ◌&&◌, eqb, leb, length, take, drop}
-use Rattle.machine.specs.Numbers.{ENTRIES, KEYS}
-use Rattle.machine.specs.Lists.{all}
+use Rattle.open_keys.specs.machine.Numbers.{ENTRIES, KEYS}
+use Rattle.open_keys.specs.machine.Lists.{all}
 use Rattle.open_keys.specs.declared.Keys.{Keys}
 
 unfoldable pub is_key : ℕ → Bool

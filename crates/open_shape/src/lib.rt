@@ -2,7 +2,7 @@
 #![tactic(auto)]
 
 ghost use Rattle.std.specs.Prelude.{◌≡◌, ◌≤◌, take, drop};
-ghost use Rattle.machine.specs.Lists.{all};
+ghost use Rattle.open_keys.specs.machine.Lists.{all};
 ghost use Rattle.open_shape.specs.OpenShape.{is_key, is_none, sound_keys};
 
 use open_keys::Keys;

@@ -2,16 +2,17 @@
 #![tactic(auto)]
 
 ghost use Rattle.std.specs.Prelude.{List, ℕ, ◌+◌, ◌<◌, length};
-ghost use Rattle.machine.specs.Choosing.{grants};
-ghost use Rattle.machine.specs.Granting.{dropped};
-ghost use Rattle.machine.specs.Allocating.{opening, do_open};
-ghost use Rattle.store.specs.Store.{state_in};
-ghost use Rattle.store.specs.Work.{Ready};
+ghost use Rattle.answers.specs.machine.Choosing.{grants};
+ghost use Rattle.answers.specs.machine.Granting.{dropped};
+ghost use Rattle.answers.specs.machine.Allocating.{opening, do_open};
+ghost use Rattle.answers.specs.store.Store.{state_in};
+ghost use Rattle.answers.specs.store.Work.{Ready};
 ghost use Rattle.answers.specs.Answers.{call_of, Does};
 
+use allocating::choosing::Look;
+use allocating::{choosing, granting};
+use answers::store::State;
 use answers::{Outcome, Request};
-use choosing::Look;
-use store::State;
 
 // It is granted a map, and the key that it is answered has an entry behind the others.
 fn enter(r: Request, s: State, table: &mut [u8], replies: &mut [u8], map: u8) -> Outcome

@@ -9,13 +9,13 @@ use native.Mathlib.Omega.{arith}
 use lib.Dec.{T, not_T}
 use lib.ListN.{length}
 use Rattle.std.specs.Prelude.{if◌then◌else◌}
-use Rattle.machine.specs.State.{Channel, is_free}
-use Rattle.machine.specs.Maps.{named}
-use Rattle.machine.specs.Choosing.{Choice as ChoiceM, none, chosen, takeable, eligible, all_free, costs_less, first_free, cheaper, cheapest, or_else, choose}
-use Rattle.machine.specs.Rule.{CostsLess}
-use Rattle.machine.proofs.Tests.{test_true, by_test, test_false}
-use Rattle.machine_laws.proofs.Maps.{named_mono}
-use Rattle.machine_laws.proofs.Choosing.{less_iff, less_trans, less_between}
+use Rattle.pricing.specs.machine.State.{Channel, is_free}
+use Rattle.pricing.specs.machine.Maps.{named}
+use Rattle.pricing.specs.machine.Choosing.{Choice as ChoiceM, none, chosen, takeable, eligible, all_free, costs_less, first_free, cheaper, cheapest, or_else, choose}
+use Rattle.pricing.specs.machine.Rule.{CostsLess}
+use Rattle.pricing.proofs.machine.Tests.{test_true, by_test, test_false}
+use Rattle.pricing.proofs.machine_laws.Maps.{named_mono}
+use Rattle.pricing.proofs.machine_laws.Choosing.{less_iff, less_trans, less_between}
 use Rattle.pricing.specs.Pricing.{Priced}
 use Rattle.pricing.proofs.Laws.{price_less}
 use Rattle.picking.specs.declared.Best.{Best}

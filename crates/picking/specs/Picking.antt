@@ -6,10 +6,10 @@
 --   Kept cs b o              the struct b holds the best so far, o, with its price
 --   Beaten t barred b m r    the promise of a turn: r holds the best after one more combination, m
 use Rattle.std.specs.Prelude.{ℕ, ◌<◌, ◌≡◌, List, [], ◌∷◌}
-use Rattle.machine.specs.State.{Channel}
-use Rattle.machine.specs.Choosing.{Choice as ChoiceM, none, chosen, takeable, cheaper, cheapest}
-use Rattle.standing.specs.declared.Standing.{Standing}
-use Rattle.standing.specs.Standing.{failing, Stood}
+use Rattle.pricing.specs.machine.State.{Channel}
+use Rattle.pricing.specs.machine.Choosing.{Choice as ChoiceM, none, chosen, takeable, cheaper, cheapest}
+use Rattle.pricing.specs.standing.declared.Standing.{Standing}
+use Rattle.pricing.specs.standing.Standing.{failing, Stood}
 use Rattle.pricing.specs.Pricing.{Priced}
 use Rattle.picking.specs.declared.Best.{Best}
 use Rattle.picking.specs.declared.Choice.{Choice}

@@ -2,12 +2,13 @@
 #![tactic(auto)]
 
 ghost use Rattle.std.specs.Prelude.{◌≡◌, List};
-ghost use Rattle.machine.specs.State.{Channel as ChannelM};
-ghost use Rattle.machine.specs.Choosing.{choose as choose_m};
-ghost use Rattle.standing.specs.Standing.{Stood};
+ghost use Rattle.pricing.specs.machine.State.{Channel as ChannelM};
+ghost use Rattle.pricing.specs.machine.Choosing.{choose as choose_m};
+ghost use Rattle.pricing.specs.standing.Standing.{Stood};
 ghost use Rattle.picking.specs.Picking.{choice_of, Beaten};
 
-use standing::Standing;
+use pricing::standing::Standing;
+pub use pricing::{channel, machine, standing};
 
 #[derive(Clone, Copy)]
 pub enum Choice {

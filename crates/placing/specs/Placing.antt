@@ -9,8 +9,8 @@
 use Rattle.std.specs.Prelude.{ℕ, ◌+◌, Bool, true, false, ◌&&◌, List, [], ◌∷◌, eqb, ltb, get_or, set, replicate, if◌then◌else◌}
 use Rattle.queue.specs.Queue.{list_of}
 use Rattle.channel.specs.declared.Channel.{Channel}
-use Rattle.store.specs.declared.State.{State}
-use Rattle.entries.specs.Entries.{write_test, lock_test, waiter_test, wait_test}
+use Rattle.span_entries.specs.store.declared.State.{State}
+use Rattle.span_entries.specs.entries.Entries.{write_test, lock_test, waiter_test, wait_test}
 use Rattle.placing.specs.declared.Marks.{Marks}
 use Rattle.placing.specs.declared.Kind.{Kind}
 use Rattle.placing.specs.declared.Kind.TheVariants.{Write, Lock, Cycle, Wait}

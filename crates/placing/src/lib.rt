@@ -5,12 +5,14 @@
 ghost use Rattle.std.specs.Prelude.{◌≡◌, ◌&&◌, ◌+◌, ◌≤◌, ◌<◌, T, eqb, length, replicate};
 ghost use Rattle.queue.specs.Queue.{list_of};
 ghost use Rattle.machine.specs.Lists.{all};
-ghost use Rattle.shapes.specs.Shapes.{good as goodM, shaped as shaped_m};
+ghost use Rattle.span_entries.specs.shapes.Shapes.{good as goodM, shaped as shaped_m};
 ghost use Rattle.placing.specs.Placing.{placed, kind_test, placed_writes, placed_all};
 
 use channel::Channel;
 use queue::Queue;
-use store::State;
+use span_entries::store::State;
+pub use span_entries::{entries, shapes, store};
+pub use wait_entries::open_shape;
 
 // Whether a walk found all in order, and the ids seen so far: 1 at each.
 #[derive(Clone, Copy)]

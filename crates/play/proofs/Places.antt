@@ -8,13 +8,13 @@ use borrow.Author.Tests.{le-leb, lt-leb, leb-true, leb-false}
 use lib.Dec.{T, eqb, leb, eqb→eq}
 use lib.ListN.{length, get_or}
 use Rattle.std.specs.Prelude.{if◌then◌else◌}
-use Rattle.machine.specs.State.{Channel as ChannelM, free}
-use Rattle.machine.specs.Commands.{matches}
-use Rattle.machine.proofs.Tests.{and_right}
+use Rattle.answers.specs.machine.State.{Channel as ChannelM, free}
+use Rattle.answers.specs.machine.Commands.{matches}
+use Rattle.answers.proofs.machine.Tests.{and_right}
 use Rattle.channel.specs.declared.Channel.{Channel}
 use Rattle.channel.specs.Channel.{channel_of, lowest_from, has_key}
-use Rattle.store.specs.declared.State.{State}
-use Rattle.store.specs.Store.{state_in, Held}
+use Rattle.answers.specs.store.declared.State.{State}
+use Rattle.answers.specs.store.Store.{state_in, Held}
 use Rattle.play.specs.Play.{place_of}
 use Rattle.play.proofs.Laws.{get_d_any, matches_is}
 use Rattle.play.proofs.Queue.{channel_is}

@@ -1,1 +1,2 @@
 pub mod Port
+pub use Rattle.sizes.specs as sizes

@@ -6,6 +6,8 @@ ghost use Rattle.gathering.specs.Lumps.{LINE};
 ghost use Rattle.sizes.specs.Sizes.{PORT};
 ghost use Rattle.port.specs.Port.{started_in, line_in, port_of};
 
+pub use sizes;
+
 // The cast stands by itself, so that a caller has no fact of its own to show for it.
 fn count(x: u16) -> usize
     ensures { result ≡ x }

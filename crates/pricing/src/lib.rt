@@ -6,6 +6,10 @@ ghost use Rattle.machine.specs.State.{Channel as ChannelM};
 ghost use Rattle.standing.specs.Standing.{Stood};
 ghost use Rattle.pricing.specs.Pricing.{Priced};
 
+pub use channel;
+pub use channel::machine_laws;
+pub use machine;
+pub use standing;
 use standing::Standing;
 
 fn raise(top: u8, prec: u8) -> u8

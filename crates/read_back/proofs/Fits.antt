@@ -9,14 +9,14 @@ use native.Mathlib.Omega.{arith}
 use lib.Dec.{T, T_not, eqb, leb, ltb, eqb→eq, leb→le, ltb→lt}
 use lib.ListN.{length}
 use lib.Pow.{pow_mono}
-use Rattle.machine.specs.Lists.{all}
-use Rattle.machine.specs.State.{Write, Channel, Lock, Request, is_free}
-use Rattle.machine.specs.Numbers.{KEYS}
-use Rattle.machine.specs.Maps.{odd, half, lowest, named}
-use Rattle.machine.specs.Sound.{sound_tone, sound_pervol, sound_write, forgets, sound_writes, sound_channel, sound_lock, sound_waiter, sound_request}
-use Rattle.machine.proofs.Tests.{by_test, test_true, test_false, and_left, and_right, or_named}
-use Rattle.machine_laws.proofs.Maps.{lowest_on}
-use Rattle.store.specs.Store.{Each}
+use Rattle.widening.specs.machine.Lists.{all}
+use Rattle.widening.specs.machine.State.{Write, Channel, Lock, Request, is_free}
+use Rattle.widening.specs.machine.Numbers.{KEYS}
+use Rattle.widening.specs.machine.Maps.{odd, half, lowest, named}
+use Rattle.widening.specs.machine.Sound.{sound_tone, sound_pervol, sound_write, forgets, sound_writes, sound_channel, sound_lock, sound_waiter, sound_request}
+use Rattle.widening.proofs.machine.Tests.{by_test, test_true, test_false, and_left, and_right, or_named}
+use Rattle.widening.proofs.machine_laws.Maps.{lowest_on}
+use Rattle.board.specs.store.Store.{Each}
 use Rattle.read_back.specs.ReadBack.{Bytes}
 
 -- ---- each of a list

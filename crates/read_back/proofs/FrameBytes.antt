@@ -7,16 +7,16 @@ use mathlib.Core.Option.{Option, none, some}
 use native.Mathlib.Omega.{arith}
 use lib.Dec.{T, leb, leb→le}
 use lib.ListN.{length}
-use Rattle.machine.specs.Lists.{all}
-use Rattle.machine.specs.State.{Write, Channel, Lock, Request, State}
-use Rattle.machine.specs.Numbers.{ENTRIES, KEYS}
-use Rattle.machine.specs.Sound.{sound, sound_channel, sound_lock, sound_waiter, sound_request, sound_pervol, sound_opens, writes_of}
-use Rattle.machine.proofs.Tests.{and_right}
-use Rattle.machine.specs.InBytes.{mark_of}
-use Rattle.machine_laws.proofs.Sound.{parts}
+use Rattle.widening.specs.machine.Lists.{all}
+use Rattle.widening.specs.machine.State.{Write, Channel, Lock, Request, State}
+use Rattle.widening.specs.machine.Numbers.{ENTRIES, KEYS}
+use Rattle.widening.specs.machine.Sound.{sound, sound_channel, sound_lock, sound_waiter, sound_request, sound_pervol, sound_opens, writes_of}
+use Rattle.widening.proofs.machine.Tests.{and_right}
+use Rattle.widening.specs.machine.InBytes.{mark_of}
+use Rattle.widening.proofs.machine_laws.Sound.{parts}
 use Rattle.table.specs.Entry.{tone_bytes, pervol_bytes}
-use Rattle.store.specs.Store.{Each, Small}
-use Rattle.store.proofs.Store.{lock-ids, waiter-ids, wait-ids, write_ids}
+use Rattle.board.specs.store.Store.{Each, Small}
+use Rattle.board.proofs.store.Store.{lock-ids, waiter-ids, wait-ids, write_ids}
 use Rattle.saved.specs.Saved.{kept, channel_frame, request_frame, span_frame, write_frame, write_frames, key_frame, frames, LOCK, WAITCYCLE, OPEN, LAST}
 use Rattle.read_back.specs.ReadBack.{Bytes}
 use Rattle.read_back.proofs.Fits.{each_all, ToneFits, tone_fits, WriteFits, each_write, ChannelFits, channel_fits, SpanFits, lock_fits_lem, waiter_fits, RequestFits, request_fits}

@@ -10,18 +10,18 @@ use native.Mathlib.Nat.{div-add-mod'}
 use borrow.Author.Tests.{le-leb, lt-ltb, eq-eqb}
 use lib.Dec.{eqb, leb}
 use lib.ListN.{length, get_or, take, drop, set, replicate}
-use Rattle.memory.specs.Splice.{splice}
+use Rattle.table.specs.memory.Splice.{splice}
 use Rattle.std.specs.Prelude.{if◌then◌else◌}
-use Rattle.machine.specs.State.{Write, Channel as ChannelM, Lock, Request, free}
-use Rattle.machine.specs.InBytes.{mark_of, signed}
-use Rattle.queue.specs.declared.Queue.{Queue}
-use Rattle.queue.specs.Queue.{queue_of, pushed}
-use Rattle.channel.specs.declared.Channel.{Channel}
-use Rattle.channel.specs.Channel.{channel_of, with_writes}
+use Rattle.widening.specs.machine.State.{Write, Channel as ChannelM, Lock, Request, free}
+use Rattle.widening.specs.machine.InBytes.{mark_of, signed}
+use Rattle.open_keys.specs.queue.declared.Queue.{Queue}
+use Rattle.open_keys.specs.queue.Queue.{queue_of, pushed}
+use Rattle.board.specs.channel.declared.Channel.{Channel}
+use Rattle.board.specs.channel.Channel.{channel_of, with_writes}
 use Rattle.table.specs.Entry.{wait_entry, span_entry, lock_entry, waiter_entry, write_entry, number_bytes, pervol_bytes}
-use Rattle.store.specs.declared.State.{State}
+use Rattle.board.specs.store.declared.State.{State}
 use Rattle.saved.specs.Saved.{channel_frame, request_frame, span_frame, write_frame, key_frame, kept, LOCK, WAITCYCLE, OPEN, LAST}
-use Rattle.sheet.specs.Sheet.{sheet, channel_from, numbers_from, took_channel, took_request, took_lock, took_waiter, took_write, took_open, took_last, request_entry, span_of, write_of, added_key, has_channel, has_request, has_span, has_write, has_open, channel_taken, request_taken, lock_taken, waiter_taken, write_taken, open_taken, last_taken, part_taken, taken, with_channels, with_locks, with_waiters, with_waiting, with_opens, with_last}
+use Rattle.reading.specs.sheet.Sheet.{sheet, channel_from, numbers_from, took_channel, took_request, took_lock, took_waiter, took_write, took_open, took_last, request_entry, span_of, write_of, added_key, has_channel, has_request, has_span, has_write, has_open, channel_taken, request_taken, lock_taken, waiter_taken, write_taken, open_taken, last_taken, part_taken, taken, with_channels, with_locks, with_waiters, with_waiting, with_opens, with_last}
 
 -- ---- numbers
 

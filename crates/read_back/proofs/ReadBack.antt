@@ -12,31 +12,31 @@ use borrow.Author.Tests.{ne_eqb}
 use lib.Dec.{T, leb→le}
 use lib.ListN.{length, take, drop, set, replicate, length-append, length-map}
 use lib.Seq.{set-append_seam, get_or_at, take_at, drop_at}
-use Rattle.memory.specs.Splice.{splice}
-use Rattle.machine.specs.Lists.{all}
-use Rattle.machine.specs.State.{Write, Channel as ChannelM, Lock, Request, State as StateM, free, frees, fresh_on}
-use Rattle.machine.specs.Sound.{sound, sound_channel, sound_writes, sound_write, sound_request, forgets, no_pervol, writes_of}
-use Rattle.machine.proofs.Tests.{and_left, and_right}
-use Rattle.machine.specs.InBytes.{mark_of}
-use Rattle.machine_laws.specs.Lists.{take as both}
-use Rattle.machine_laws.proofs.Lists.{sub_refl, sub_append, sub_right}
-use Rattle.machine_laws.specs.Sound.{Parts}
-use Rattle.machine_laws.proofs.Sound.{parts, ids_few, opens_few}
-use Rattle.queue.specs.declared.Queue.{Queue}
-use Rattle.queue.specs.Queue.{queue_of, pushed}
-use Rattle.queue.proofs.Laws.{pushed_of}
+use Rattle.table.specs.memory.Splice.{splice}
+use Rattle.widening.specs.machine.Lists.{all}
+use Rattle.widening.specs.machine.State.{Write, Channel as ChannelM, Lock, Request, State as StateM, free, frees, fresh_on}
+use Rattle.widening.specs.machine.Sound.{sound, sound_channel, sound_writes, sound_write, sound_request, forgets, no_pervol, writes_of}
+use Rattle.widening.proofs.machine.Tests.{and_left, and_right}
+use Rattle.widening.specs.machine.InBytes.{mark_of}
+use Rattle.widening.specs.machine_laws.Lists.{take as both}
+use Rattle.widening.proofs.machine_laws.Lists.{sub_refl, sub_append, sub_right}
+use Rattle.widening.specs.machine_laws.Sound.{Parts}
+use Rattle.widening.proofs.machine_laws.Sound.{parts, ids_few, opens_few}
+use Rattle.open_keys.specs.queue.declared.Queue.{Queue}
+use Rattle.open_keys.specs.queue.Queue.{queue_of, pushed}
+use Rattle.open_keys.proofs.queue.Laws.{pushed_of}
 use Rattle.open_keys.specs.declared.Keys.{Keys}
 use Rattle.open_keys.specs.OpenKeys.{keys_of}
 use Rattle.open_keys.proofs.Laws.{added_of}
-use Rattle.channel.specs.declared.Channel.{Channel}
-use Rattle.channel.specs.Channel.{channel_of, with_writes}
+use Rattle.board.specs.channel.declared.Channel.{Channel}
+use Rattle.board.specs.channel.Channel.{channel_of, with_writes}
 use Rattle.table.specs.Entry.{pervol_bytes}
-use Rattle.store.specs.declared.State.{State}
-use Rattle.store.specs.Store.{struct_of, lookup, Item, write_item, lock_item, waiter_item, wait_item, write_items, items, entries, table_of, Each, Good}
-use Rattle.store.proofs.Entries.{ins_at, entry_added, good_sub, ins_small}
-use Rattle.store.proofs.Store.{good_of}
+use Rattle.board.specs.store.declared.State.{State}
+use Rattle.board.specs.store.Store.{struct_of, lookup, Item, write_item, lock_item, waiter_item, wait_item, write_items, items, entries, table_of, Each, Good}
+use Rattle.board.proofs.store.Entries.{ins_at, entry_added, good_sub, ins_small}
+use Rattle.board.proofs.store.Store.{good_of}
 use Rattle.saved.specs.Saved.{channel_frame, request_frame, span_frame, write_frame, write_frames, key_frame, frames, kept, LOCK, WAITCYCLE, OPEN, LAST}
-use Rattle.sheet.specs.Sheet.{sheet, taken, taken_all, blank, added_key, with_channels, with_locks, with_waiters, with_waiting, with_opens}
+use Rattle.reading.specs.sheet.Sheet.{sheet, taken, taken_all, blank, added_key, with_channels, with_locks, with_waiters, with_waiting, with_opens}
 use Rattle.read_back.specs.ReadBack.{kept_all, sheet_of}
 use Rattle.read_back.proofs.Fits.{each_all, ChannelFits, channel_fits, RequestFits, request_fits}
 use Rattle.read_back.proofs.OneFrame.{bare, kept_six, channel-frame, request-frame, lock-frame, waiter-frame, remembered_at, remembered, write_frame_lem, open_frame, last_frame}

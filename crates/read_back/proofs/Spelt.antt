@@ -9,15 +9,15 @@ use native.Mathlib.Decide.{dec_lt}
 use borrow.Author.Tests.{le-leb, lt-leb, lt-ltb, le-ltb, ne_eqb}
 use lib.Dec.{leb}
 use lib.ListN.{length}
-use Rattle.machine.specs.Lists.{all}
-use Rattle.machine.specs.Log.{LF, lines, line, digit, hex_digit}
-use Rattle.store.specs.Store.{Each}
+use Rattle.widening.specs.machine.Lists.{all}
+use Rattle.widening.specs.machine.Log.{LF, lines, line, digit, hex_digit}
+use Rattle.board.specs.store.Store.{Each}
 use Rattle.spelling.specs.Spelling.{digits}
 use Rattle.digits.specs.Digits.{is_digit, spells, pairs}
-use Rattle.gathering.specs.Lumps.{ended, front, used}
-use Rattle.gathering.proofs.Lumps.{lines_none, lines_step}
-use Rattle.hex_lines.specs.HexLines.{octets_of}
-use Rattle.hex_lines.proofs.HexLines.{length_digits, line_digits}
+use Rattle.reading.specs.gathering.Lumps.{ended, front, used}
+use Rattle.reading.proofs.gathering.Lumps.{lines_none, lines_step}
+use Rattle.reading.specs.hex_lines.HexLines.{octets_of}
+use Rattle.reading.proofs.hex_lines.HexLines.{length_digits, line_digits}
 use Rattle.reading.specs.Reading.{frames_in}
 use Rattle.saved.specs.Saved.{spelt}
 use Rattle.read_back.specs.ReadBack.{Bytes}

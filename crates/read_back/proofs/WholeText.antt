@@ -4,13 +4,13 @@ use mathlib.Core.Path.{◌≡◌, refl, ap}
 use mathlib.Core.List.{[], append-nil}
 use lib.Dec.{T}
 use lib.ListN.{drop, replicate}
-use Rattle.machine.specs.State.{State}
-use Rattle.machine.specs.Sound.{sound}
-use Rattle.store.specs.Store.{table_of}
+use Rattle.widening.specs.machine.State.{State}
+use Rattle.widening.specs.machine.Sound.{sound}
+use Rattle.board.specs.store.Store.{table_of}
 use Rattle.board.specs.Board.{struct_of}
-use Rattle.machine.specs.Log.{line}
+use Rattle.widening.specs.machine.Log.{line}
 use Rattle.saved.specs.Saved.{frames, spelt, text}
-use Rattle.sheet.specs.Sheet.{Sheet, taken_all}
+use Rattle.reading.specs.sheet.Sheet.{Sheet, taken_all}
 use Rattle.reading.specs.Reading.{read_from}
 use Rattle.read_back.proofs.Spelt.{lines-spelt}
 use Rattle.read_back.proofs.FrameBytes.{frames-bytes}

@@ -5,11 +5,11 @@
 --   kept_all cs    what is remembered for the front write of each channel, six bytes each
 --   sheet_of s     the sheet that the frames of a state make
 use Rattle.std.specs.Prelude.{ℕ, ◌<◌, ◌-◌, ◌*◌, List, [], ◌∷◌, ◌++◌, length, replicate}
-use Rattle.store.specs.Store.{Each, struct_of, table_of}
-use Rattle.machine.specs.State.{Channel as ChannelM, State as StateM}
+use Rattle.board.specs.store.Store.{Each, struct_of, table_of}
+use Rattle.widening.specs.machine.State.{Channel as ChannelM, State as StateM}
 use Rattle.widening.specs.Widening.{widen}
 use Rattle.saved.specs.Saved.{kept}
-use Rattle.sheet.specs.Sheet.{Sheet, sheet}
+use Rattle.reading.specs.sheet.Sheet.{Sheet, sheet}
 
 abbrev pub Bytes : List ℕ → Type 0
 Bytes bs = Each (λ b. b < 256) bs

@@ -9,27 +9,27 @@ use native.Mathlib.Numerals.{add-one}
 use lib.Dec.{T, leb→le}
 use lib.ListN.{length, get_or, take, drop, replicate}
 use lib.Seq.{drop_at}
-use Rattle.machine.specs.State.{State}
-use Rattle.machine.specs.Sound.{sound}
-use Rattle.machine.specs.Log.{line, digit, hex_digit}
-use Rattle.machine_laws.specs.Sound.{Parts}
-use Rattle.machine_laws.proofs.Sound.{parts}
+use Rattle.digits.specs.machine.State.{State}
+use Rattle.digits.specs.machine.Sound.{sound}
+use Rattle.digits.specs.machine.Log.{line, digit, hex_digit}
+use Rattle.display.specs.machine_laws.Sound.{Parts}
+use Rattle.display.proofs.machine_laws.Sound.{parts}
 use Rattle.display.specs.Display.{writes_on, naming, number}
 use Rattle.display.proofs.Numbers.{number_most}
 use Rattle.display.proofs.Pinned.{number_even, number-odd}
-use Rattle.store.specs.Store.{Each, table_of}
+use Rattle.board.specs.store.Store.{Each, table_of}
 use Rattle.board.specs.Board.{struct_of}
 use Rattle.board.proofs.Laws.{one_state}
-use Rattle.saved.specs.Saved.{FIRST, frames, spelt, text, TextOf}
-use Rattle.sheet.specs.Sheet.{Sheet, blank, part_taken, taken, taken_all}
-use Rattle.reading.specs.Reading.{frames_in, read_from}
+use Rattle.read_back.specs.saved.Saved.{FIRST, frames, spelt, text, TextOf}
+use Rattle.read_back.specs.sheet.Sheet.{Sheet, blank, part_taken, taken, taken_all}
+use Rattle.read_back.specs.reading.Reading.{frames_in, read_from}
 use Rattle.read_back.specs.ReadBack.{Bytes, sheet_of}
 use Rattle.read_back.proofs.Spelt.{Frame, digit-hex_digit, lines-spelt}
 use Rattle.read_back.proofs.FrameBytes.{frames-bytes}
 use Rattle.read_back.proofs.ReadBack.{read_back}
 use Rattle.digits.specs.Digits.{value_of}
 use Rattle.number_lines.specs.NumberLines.{number_line, number_lines}
-use Rattle.saved2.specs.Saved2.{number_frame, number_frames, frames2, text2, TextOf2}
+use Rattle.number_lines.specs.saved2.Saved2.{number_frame, number_frames, frames2, text2, TextOf2}
 use Rattle.read_back2.specs.ReadBack2.{text_with}
 
 abbrev pub zeros : List ℕ

@@ -9,19 +9,19 @@ use lib.Dec.{leb, leb→le}
 use lib.ListN.{length, take, drop, replicate, drop_of_length-le, length-drop}
 use lib.Seq.{take_at, drop-drop}
 use Rattle.memory.specs.Splice.{splice}
-use Rattle.machine.specs.Log.{lines}
-use Rattle.machine.proofs.Tests.{if_elim, by_test, test_true, test_false, and_left}
+use Rattle.digits.specs.machine.Log.{lines}
+use Rattle.digits.proofs.machine.Tests.{if_elim, by_test, test_true, test_false, and_left}
 use Rattle.digits.specs.Digits.{spells}
 use Rattle.digits.proofs.Laws.{length_pairs}
 use Rattle.gathering.specs.Lumps.{front, ended}
 use Rattle.gathering.proofs.Lumps.{front_open, front_within, front_used, front_take, lines_none, lines-ended, lines_last}
 use Rattle.hex_lines.specs.HexLines.{octets_of}
-use Rattle.machine.specs.State.{frees, fresh_on}
-use Rattle.store.specs.declared.State.{State}
-use Rattle.store.specs.Store.{struct_of}
-use Rattle.sheet.specs.declared.Draft.{Draft}
-use Rattle.sheet.specs.Sheet.{Sheet, sheet, taken, taken_all, Takes}
-use Rattle.sheet.proofs.Taking.{rest_is_drop, taken_as_many}
+use Rattle.digits.specs.machine.State.{frees, fresh_on}
+use Rattle.saved_frames.specs.store.declared.State.{State}
+use Rattle.saved_frames.specs.store.Store.{struct_of}
+use Rattle.saved_frames.specs.sheet.declared.Draft.{Draft}
+use Rattle.saved_frames.specs.sheet.Sheet.{Sheet, sheet, taken, taken_all, Takes}
+use Rattle.saved_frames.proofs.sheet.Taking.{rest_is_drop, taken_as_many}
 use Rattle.reading.specs.Reading.{frames_in, read_from}
 
 -- ---- a line

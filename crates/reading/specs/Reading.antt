@@ -3,9 +3,9 @@
 --   frames_in t        the bytes that each line of a text spells
 --   read_from t tb     what they make of a fresh state and the table tb
 use Rattle.std.specs.Prelude.{ℕ, List, map}
-use Rattle.machine.specs.Log.{lines}
+use Rattle.digits.specs.machine.Log.{lines}
 use Rattle.hex_lines.specs.HexLines.{octets_of}
-use Rattle.sheet.specs.Sheet.{Sheet, blank, taken_all}
+use Rattle.saved_frames.specs.sheet.Sheet.{Sheet, blank, taken_all}
 
 unfoldable pub frames_in : List ℕ → List (List ℕ)
 frames_in t = map octets_of (lines t)

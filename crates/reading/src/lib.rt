@@ -3,10 +3,13 @@
 
 ghost use Rattle.std.specs.Prelude.{◌+◌, ◌≤◌, min, ◌≡◌, length, drop};
 ghost use Rattle.reading.specs.Reading.{read_from};
-ghost use Rattle.sheet.specs.Sheet.{Took};
+ghost use Rattle.saved_frames.specs.sheet.Sheet.{Took};
 
-use sheet::Draft;
-use store::State;
+pub use gathering;
+pub use hex_lines;
+pub use saved_frames::sheet;
+use saved_frames::sheet::Draft;
+use saved_frames::store::State;
 
 // The place behind a line that ends at `e`, in a text of n bytes: behind its LF, or the end where it has none.
 fn behind(e: usize, n: usize) -> usize

@@ -9,10 +9,10 @@ use lib.Seq.{length-take-le}
 use Rattle.machine.proofs.Tests.{by_test}
 use Rattle.display.specs.Display.{records}
 use Rattle.memory.specs.Splice.{splice}
-use Rattle.board.specs.Board.{state_in}
+use Rattle.image.specs.board.Board.{state_in}
 use Rattle.image.specs.Image.{state_of}
-use Rattle.sizes.specs.Sizes.{RECORDS}
-use Rattle.records.specs.Records.{Lists}
+use Rattle.waiting_list.specs.sizes.Sizes.{RECORDS}
+use Rattle.waiting_list.specs.records.Records.{Lists}
 use Rattle.waiting_list.specs.WaitingList.{Sound, Tells as TellsBytes}
 use Rattle.waiting_list.proofs.Laws.{sound_or_not, few_listed as few_bytes}
 use Rattle.record_structs.specs.declared.Waiter.{Waiter}

@@ -18,9 +18,9 @@ use Rattle.machine.specs.State.{Channel, Request, State}
 use Rattle.machine.specs.Desks.{desk_of}
 use Rattle.machine.specs.Choosing.{look}
 use Rattle.display.specs.Display.{holds}
-use Rattle.board.specs.Board.{state_in}
+use Rattle.image.specs.board.Board.{state_in}
 use Rattle.image.specs.Image.{state_of}
-use Rattle.sizes.specs.Sizes.{RECORDS}
+use Rattle.waiting_list.specs.sizes.Sizes.{RECORDS}
 use Rattle.waiting_list.specs.WaitingList.{Sound}
 use Rattle.record_structs.specs.declared.Waiter.{Waiter}
 

@@ -6,8 +6,10 @@
 ghost use Rattle.std.specs.Prelude.{◌<◌, ◌≡◌};
 ghost use Rattle.record_structs.specs.RecordStructs.{waiter_at, Takes, Filled, Tells};
 
-use store::State;
+use image::store::State;
+pub use waiting_list;
 use waiting_list::Listed;
+pub use waiting_list::decoding;
 
 // Room for every request: a list that is shorter is refused.
 pub const ROOM: usize = State::REQUESTS as usize;

@@ -9,27 +9,27 @@ use lib.Dec.{T, leb, ltb}
 use lib.ListN.{length, take, get_or, length-append, length-map}
 use lib.Seq.{take-suc, length-take-le}
 use Rattle.std.specs.Prelude.{if◌then◌else◌}
-use Rattle.machine.specs.Lists.{all}
-use Rattle.machine.specs.State.{Channel, Request, State as StateM}
-use Rattle.machine.specs.Sound.{sound_request}
-use Rattle.machine.specs.Choosing.{Look as LookM, look}
-use Rattle.machine.proofs.Tests.{and_left, and_right}
+use Rattle.widening.specs.machine.Lists.{all}
+use Rattle.widening.specs.machine.State.{Channel, Request, State as StateM}
+use Rattle.widening.specs.machine.Sound.{sound_request}
+use Rattle.widening.specs.machine.Choosing.{Look as LookM, look}
+use Rattle.widening.proofs.machine.Tests.{and_left, and_right}
 use Rattle.widening.specs.Widening.{wider, small_list}
 use Rattle.widening.proofs.Choosing.{look_wide}
 use Rattle.display.specs.Display.{holds, record_of, records}
 use Rattle.display.proofs.Pinned.{records-length}
-use Rattle.memory.specs.Splice.{splice}
-use Rattle.memory.proofs.Splice.{splice_then, splice_none, length-splice}
+use Rattle.table.specs.memory.Splice.{splice}
+use Rattle.table.proofs.memory.Splice.{splice_then, splice_none, length-splice}
 use Rattle.queue.specs.declared.Queue.{Queue}
 use Rattle.queue.specs.Queue.{list_of}
-use Rattle.standing.specs.declared.Standing.{Standing}
-use Rattle.standing.specs.Standing.{Stood}
+use Rattle.choosing.specs.standing.declared.Standing.{Standing}
+use Rattle.choosing.specs.standing.Standing.{Stood}
 use Rattle.choosing.specs.declared.Look.{Look}
 use Rattle.choosing.specs.Choosing.{look_of, look_in}
 use Rattle.choosing.proofs.Laws.{look_in_of}
-use Rattle.channel.specs.Channel.{channel_in}
-use Rattle.store.specs.Store.{request_in, write_in}
-use Rattle.store.proofs.Store.{waiting-count}
+use Rattle.board.specs.channel.Channel.{channel_in}
+use Rattle.board.specs.store.Store.{request_in, write_in}
+use Rattle.board.proofs.store.Store.{waiting-count}
 use Rattle.board.specs.declared.Board.{Board}
 use Rattle.board.specs.Board.{state_in, Held}
 use Rattle.board.proofs.Laws.{held_wide, held_parts}

@@ -6,12 +6,12 @@
 --   first_records cs q tb i   the records of the first i requests of a queue
 --   Lists b tb l n l'     the promise of `fill_front`: l' has the records of all that wait in front, and is as l behind them; n is how many
 use Rattle.std.specs.Prelude.{ℕ, ◌+◌, ◌%◌, ◌≡◌, List, [], ◌∷◌, map, length, take}
-use Rattle.machine.specs.State.{Channel}
-use Rattle.machine.specs.Desks.{desk_of}
+use Rattle.widening.specs.machine.State.{Channel}
+use Rattle.widening.specs.machine.Desks.{desk_of}
 use Rattle.display.specs.Display.{records}
-use Rattle.memory.specs.Splice.{splice}
+use Rattle.table.specs.memory.Splice.{splice}
 use Rattle.queue.specs.declared.Queue.{Queue}
-use Rattle.store.specs.Store.{request_in}
+use Rattle.board.specs.store.Store.{request_in}
 use Rattle.board.specs.declared.Board.{Board}
 use Rattle.board.specs.Board.{state_in}
 

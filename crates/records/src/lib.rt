@@ -3,19 +3,19 @@
 #![tactic(auto)]
 
 ghost use Rattle.std.specs.Prelude.{◌≡◌, List, ◌+◌, ◌*◌, ◌≤◌, ◌%◌, length, if◌then◌else◌};
-ghost use Rattle.machine.specs.State.{Channel as ChannelM};
+ghost use Rattle.widening.specs.machine.State.{Channel as ChannelM};
 ghost use Rattle.display.specs.Display.{holds};
-ghost use Rattle.memory.specs.Splice.{splice};
-ghost use Rattle.standing.specs.Standing.{Stood};
+ghost use Rattle.table.specs.memory.Splice.{splice};
+ghost use Rattle.choosing.specs.standing.Standing.{Stood};
 ghost use Rattle.choosing.specs.Choosing.{look_in};
 ghost use Rattle.board.specs.Board.{Held};
 ghost use Rattle.waiting.specs.Waiting.{Readable};
 ghost use Rattle.records.specs.Records.{four_bytes, first_records, Lists};
 
 use board::Board;
-use choosing::Look;
+use choosing::standing::Standing;
+use choosing::{Look, standing};
 use queue::Queue;
-use standing::Standing;
 
 // Held or not.
 fn mark(l: Look) -> u8

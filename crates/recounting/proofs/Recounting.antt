@@ -6,27 +6,27 @@ use mathlib.Core.List.{List, [], ◌∷◌, ◌++◌, map}
 use native.Mathlib.Omega.{arith}
 use lib.Dec.{T}
 use lib.ListN.{length, take, drop, get_or, replicate, length-map, length-take}
-use Rattle.memory.specs.Splice.{splice, block}
-use Rattle.memory.proofs.Splice.{splice_all}
-use Rattle.machine.specs.State.{State, frees, fresh_on}
-use Rattle.machine.specs.Machine.{machine}
-use Rattle.machine.specs.Lists.{keep}
-use Rattle.machine.specs.InBytes.{two_bytes}
-use Rattle.machine_laws.specs.Sound.{Parts}
-use Rattle.machine_laws.proofs.Sound.{parts}
+use Rattle.table.specs.memory.Splice.{splice, block}
+use Rattle.table.proofs.memory.Splice.{splice_all}
+use Rattle.widening.specs.machine.State.{State, frees, fresh_on}
+use Rattle.widening.specs.machine.Machine.{machine}
+use Rattle.widening.specs.machine.Lists.{keep}
+use Rattle.widening.specs.machine.InBytes.{two_bytes}
+use Rattle.display.specs.machine_laws.Sound.{Parts}
+use Rattle.display.proofs.machine_laws.Sound.{parts}
 use Rattle.widening.specs.Widening.{widen}
 use Rattle.display.specs.Display.{NUMBERS, number, numbers_from, numbers, corrected}
 use Rattle.display.proofs.Numbers.{number_most, corrected_agrees, fresh-numbers}
 use Rattle.display.proofs.Wide.{number-wide}
-use Rattle.lanes.specs.Lanes.{word_of, weights}
-use Rattle.lanes.proofs.Laws.{weights_most}
-use Rattle.channel_numbers.specs.ChannelNumbers.{count_at, moved, Moves}
-use Rattle.channel_numbers.proofs.Laws.{moves_held, moved-corrected}
+use Rattle.correcting.specs.lanes.Lanes.{word_of, weights}
+use Rattle.correcting.proofs.lanes.Laws.{weights_most}
+use Rattle.correcting.specs.channel_numbers.ChannelNumbers.{count_at, moved, Moves}
+use Rattle.correcting.proofs.channel_numbers.Laws.{moves_held, moved-corrected}
 use Rattle.table.specs.Entry.{list_in}
 use Rattle.queue.specs.Queue.{list_of}
-use Rattle.store.specs.declared.State.{State as Struct}
-use Rattle.store.specs.Store.{struct_of, entries, items, write_items, table_of, state_in as wide_in, Held as WideHeld, lookup, request_in}
-use Rattle.store.proofs.Store.{held_of as wide_held, state_in_of as wide_in_of, held_parts as wide_parts, waiting-count}
+use Rattle.board.specs.store.declared.State.{State as Struct}
+use Rattle.board.specs.store.Store.{struct_of, entries, items, write_items, table_of, state_in as wide_in, Held as WideHeld, lookup, request_in}
+use Rattle.board.proofs.store.Store.{held_of as wide_held, state_in_of as wide_in_of, held_parts as wide_parts, waiting-count}
 use Rattle.board.specs.declared.Board.{Board}
 use Rattle.board.specs.Board.{state_in, Held}
 use Rattle.board.proofs.Laws.{held_wide, fresh-sane}

@@ -3,8 +3,8 @@
 --
 --   counted s    the display of a state that was loaded
 use Rattle.std.specs.Prelude.{ℕ, List, ◌++◌}
-use Rattle.machine.specs.State.{State}
-use Rattle.machine.specs.InBytes.{two_bytes}
+use Rattle.widening.specs.machine.State.{State}
+use Rattle.widening.specs.machine.InBytes.{two_bytes}
 use Rattle.display.specs.Display.{numbers}
 
 abbrev pub counted : State → List ℕ

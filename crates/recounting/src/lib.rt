@@ -4,15 +4,17 @@
 
 ghost use Rattle.std.specs.Prelude.{◌≡◌, map, length};
 ghost use Rattle.queue.specs.Queue.{list_of};
-ghost use Rattle.store.specs.Store.{request_in};
+ghost use Rattle.board.specs.store.Store.{request_in};
 ghost use Rattle.waiting.specs.Waiting.{Readable};
-ghost use Rattle.lanes.specs.Lanes.{weights};
+ghost use Rattle.correcting.specs.lanes.Lanes.{weights};
 ghost use Rattle.board.specs.Board.{state_in, Held};
 ghost use Rattle.recounting.specs.Recounting.{counted};
 
 use board::Board;
+use board::store::State;
+use correcting::lanes;
 use queue::Queue;
-use store::State;
+use table::memory;
 
 // The words of all who wait, added up: in each lane how many name its channel.
 fn words_of(q: Queue, table: &[u8]) -> u64

@@ -7,15 +7,15 @@ use native.Mathlib.Omega.{arith}
 use borrow.Author.Tests.{eq-eqb, ne_eqb, ltb-false, lt-ltb, le-ltb}
 use lib.Dec.{T, eqb, ltb}
 use lib.ListN.{length}
-use Rattle.machine.specs.Numbers.{NOROOM}
+use Rattle.open_keys.specs.machine.Numbers.{NOROOM}
 use Rattle.std.specs.Prelude.{if◌then◌else◌}
-use Rattle.machine.specs.Lists.{any, among}
-use Rattle.machine.specs.State.{State as StateM, Call, Op as OpM, Event, OPEN, CLOSE, ABORT, EVENT, CYCLE_ENDED, GAVE_UP, COMMAND}
-use Rattle.machine.specs.Desks.{desk_of, foreign}
-use Rattle.machine.specs.Sound.{sound, sound_tone, ids}
-use Rattle.machine.specs.Kinds.{kind, unknown, allocates, carries}
-use Rattle.machine.specs.Refusals.{refused, first, bad_list, bad_maps, bad_map, bad_numbers, refusal}
-use Rattle.machine.proofs.Tests.{by_test, test_true, test_false}
+use Rattle.open_keys.specs.machine.Lists.{any, among}
+use Rattle.open_keys.specs.machine.State.{State as StateM, Call, Op as OpM, Event, OPEN, CLOSE, ABORT, EVENT, CYCLE_ENDED, GAVE_UP, COMMAND}
+use Rattle.open_keys.specs.machine.Desks.{desk_of, foreign}
+use Rattle.open_keys.specs.machine.Sound.{sound, sound_tone, ids}
+use Rattle.open_keys.specs.machine.Kinds.{kind, unknown, allocates, carries}
+use Rattle.open_keys.specs.machine.Refusals.{refused, first, bad_list, bad_maps, bad_map, bad_numbers, refusal}
+use Rattle.open_keys.proofs.machine.Tests.{by_test, test_true, test_false}
 use Rattle.open_keys.specs.OpenKeys.{keys_in}
 use Rattle.board.specs.declared.Board.{Board}
 use Rattle.board.specs.Board.{top_of, state_in, Held}

@@ -8,12 +8,12 @@
 --                          those below the bound, and so many keys are open
 --   Refuses .. e           what `refusal` promises of a sound state: the number of the machine's refusal
 use Rattle.std.specs.Prelude.{ℕ, ◌/◌, ◌≡◌, Bool, not, ◌&&◌, List, [], ◌∷◌, eqb, leb, ltb, length, if◌then◌else◌}
-use Rattle.machine.specs.Numbers.{OPENFAIL, NOCMD, BADLENGTH, BADADDRESS, NOTOPEN, INUSE, BADID, OTHERDESK, COMBOS, ENTRIES}
-use Rattle.machine.specs.Lists.{any, among}
-use Rattle.machine.specs.State.{Call, Op as OpM, OPEN, CLOSE, ABORT, EVENT, CYCLE_ENDED, GAVE_UP, COMMAND}
-use Rattle.machine.specs.Desks.{desk_of}
-use Rattle.machine.specs.Kinds.{kind, unknown, allocates, carries}
-use Rattle.machine.specs.Refusals.{refusal}
+use Rattle.open_keys.specs.machine.Numbers.{OPENFAIL, NOCMD, BADLENGTH, BADADDRESS, NOTOPEN, INUSE, BADID, OTHERDESK, COMBOS, ENTRIES}
+use Rattle.open_keys.specs.machine.Lists.{any, among}
+use Rattle.open_keys.specs.machine.State.{Call, Op as OpM, OPEN, CLOSE, ABORT, EVENT, CYCLE_ENDED, GAVE_UP, COMMAND}
+use Rattle.open_keys.specs.machine.Desks.{desk_of}
+use Rattle.open_keys.specs.machine.Kinds.{kind, unknown, allocates, carries}
+use Rattle.open_keys.specs.machine.Refusals.{refusal}
 use Rattle.board.specs.declared.Board.{Board}
 use Rattle.board.specs.Board.{state_in}
 use Rattle.answers.specs.declared.Request.{Request}

@@ -8,10 +8,10 @@ use native.Mathlib.Nat.{zero-add}
 use lib.Dec.{ltb, ltb→lt}
 use lib.ListN.{length}
 use Rattle.std.specs.Prelude.{if◌then◌else◌}
-use Rattle.machine.specs.Commands.{done}
+use Rattle.answers.specs.machine.Commands.{done}
 use Rattle.memory.specs.Splice.{splice}
-use Rattle.reply.specs.Replies.{sent}
-use Rattle.store.specs.declared.State.{State}
+use Rattle.answers.specs.reply.Replies.{sent}
+use Rattle.answers.specs.store.declared.State.{State}
 use Rattle.answers.specs.declared.Request.{Request}
 use Rattle.answers.specs.declared.Answer.{Answer}
 use Rattle.answers.specs.declared.Outcome.{Outcome}

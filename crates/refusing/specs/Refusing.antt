@@ -4,11 +4,11 @@
 --   is_due o e, due_replies o e r    after a refusal with e: a command's own reply is due; what is sent
 --   Refused o e r s l d l'    what a refusal comes to: the number, the state as it was, those replies
 use Rattle.std.specs.Prelude.{ℕ, ◌≡◌, Bool, false, List, [], ltb, length, if◌then◌else◌}
-use Rattle.machine.specs.Numbers.{OTHERDESK, NONE}
-use Rattle.machine.specs.State.{Reply}
-use Rattle.machine.specs.Commands.{done}
-use Rattle.reply.specs.Replies.{sent}
-use Rattle.store.specs.declared.State.{State}
+use Rattle.answers.specs.machine.Numbers.{OTHERDESK, NONE}
+use Rattle.answers.specs.machine.State.{Reply}
+use Rattle.answers.specs.machine.Commands.{done}
+use Rattle.answers.specs.reply.Replies.{sent}
+use Rattle.answers.specs.store.declared.State.{State}
 use Rattle.answers.specs.declared.Request.{Request}
 use Rattle.answers.specs.declared.Outcome.{Outcome}
 use Rattle.answers.specs.Answers.{answer_of, own_reply}

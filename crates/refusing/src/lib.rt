@@ -4,9 +4,9 @@
 ghost use Rattle.std.specs.Prelude.{◌≡◌, ◌≤◌, ◌<◌, length};
 ghost use Rattle.refusing.specs.Refusing.{is_due, Refused};
 
+use answers::store::State;
 use answers::{Outcome, Request};
 use refusals::Op;
-use store::State;
 
 // After -3, -4 and -5 a command's own reply is due.
 fn due(op: Op, e: u8) -> bool

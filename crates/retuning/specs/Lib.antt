@@ -1,1 +1,2 @@
 pub mod Retuning
+pub use Rattle.cycles.specs as cycles

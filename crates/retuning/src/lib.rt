@@ -4,6 +4,7 @@
 ghost use Rattle.std.specs.Prelude.{◌≡◌};
 ghost use Rattle.retuning.specs.Retuning.{tone_set, tone_kept, finish_kept, retuned_of};
 
+pub use cycles;
 use table::Head;
 
 // What is done to a write: its period and volume are set, or remembered for its cycle's end; or its finish is; or a cycle of it ended and it

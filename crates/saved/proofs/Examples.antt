@@ -6,10 +6,10 @@ use mathlib.Core.List.{List, [], ◌∷◌}
 use mathlib.Core.Option.{none, some}
 use lib.Dec.{T}
 use lib.ListN.{length}
-use Rattle.machine.specs.Text.{bytes, page}
-use Rattle.machine.specs.State.{State, fresh, free}
-use Rattle.machine.specs.Sound.{sound}
-use Rattle.machine.specs.Machine.{machine}
+use Rattle.machine_laws.specs.machine.Text.{bytes, page}
+use Rattle.machine_laws.specs.machine.State.{State, fresh, free}
+use Rattle.machine_laws.specs.machine.Sound.{sound}
+use Rattle.machine_laws.specs.machine.Machine.{machine}
 use Rattle.saved.specs.Saved.{text, kept, channel_frame, request_frame, span_frame, write_frame, write_frames, key_frame, frames, spelt}
 
 abbrev fresh_text : List String

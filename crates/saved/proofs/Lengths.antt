@@ -8,13 +8,13 @@ use mathlib.Core.Option.{Option, none, some}
 use native.Mathlib.Omega.{arith}
 use lib.Dec.{T, leb, ltb, leb→le}
 use lib.ListN.{length, length-append, length-map}
-use Rattle.machine.specs.Numbers.{ENTRIES}
-use Rattle.machine.specs.Lists.{all}
-use Rattle.machine.specs.State.{Write, Channel, Lock, Request, State}
-use Rattle.machine.specs.Sound.{sound, sound_request, writes_of}
-use Rattle.machine.specs.Log.{line}
-use Rattle.machine.proofs.Tests.{and_left, and_right}
-use Rattle.machine.specs.InBytes.{mark_of}
+use Rattle.machine_laws.specs.machine.Numbers.{ENTRIES}
+use Rattle.machine_laws.specs.machine.Lists.{all}
+use Rattle.machine_laws.specs.machine.State.{Write, Channel, Lock, Request, State}
+use Rattle.machine_laws.specs.machine.Sound.{sound, sound_request, writes_of}
+use Rattle.machine_laws.specs.machine.Log.{line}
+use Rattle.machine_laws.proofs.machine.Tests.{and_left, and_right}
+use Rattle.machine_laws.specs.machine.InBytes.{mark_of}
 use Rattle.machine_laws.specs.Sound.{Parts}
 use Rattle.machine_laws.proofs.Sound.{parts, ids_few, opens_few}
 use Rattle.table.specs.Entry.{tone_bytes, pervol_bytes}

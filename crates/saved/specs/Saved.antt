@@ -12,10 +12,10 @@
 --   TextOf w s t          the text t was saved of the sound state s of a board with w channels
 use Rattle.std.specs.Prelude.{ℕ, suc, ◌≡◌, List, [], ◌∷◌, ◌++◌, map, T, length}
 use Rattle.std.proofs.Math.Option.{none}
-use Rattle.machine.specs.State.{Write, Channel, Lock, Request, State}
-use Rattle.machine.specs.Sound.{sound}
-use Rattle.machine.specs.Log.{line}
-use Rattle.machine.specs.InBytes.{two_bytes, mark_of, signed}
+use Rattle.machine_laws.specs.machine.State.{Write, Channel, Lock, Request, State}
+use Rattle.machine_laws.specs.machine.Sound.{sound}
+use Rattle.machine_laws.specs.machine.Log.{line}
+use Rattle.machine_laws.specs.machine.InBytes.{two_bytes, mark_of, signed}
 use Rattle.table.specs.Entry.{tone_bytes, pervol_bytes}
 
 -- #101: what is remembered stands with the front write; what is not is 0

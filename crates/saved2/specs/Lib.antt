@@ -1,1 +1,2 @@
 pub mod Saved2
+pub use Rattle.saved.specs as saved

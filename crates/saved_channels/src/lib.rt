@@ -5,11 +5,14 @@
 ghost use Rattle.std.specs.Prelude.{◌≡◌, map, ◌+◌, ◌≤◌, length, take};
 ghost use Rattle.machine.specs.Log.{line};
 ghost use Rattle.hex_lines.specs.HexLines.{Put};
-ghost use Rattle.waiting.specs.Waiting.{Readable};
-ghost use Rattle.saved.specs.Saved.{spelt};
+ghost use Rattle.frame_lines.specs.waiting.Waiting.{Readable};
+ghost use Rattle.frame_lines.specs.saved.Saved.{spelt};
 ghost use Rattle.frame_lines.specs.FrameLines.{kept_in, channel_line, AllListed};
 
 use channel::Channel;
+pub use frame_lines;
+pub use frame_lines::saved;
+pub use hex_lines;
 use queue::Queue;
 
 // What is remembered for the front write of a queue: the last six bytes of its numbers, and zeros where there is none.

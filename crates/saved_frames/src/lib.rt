@@ -3,12 +3,15 @@
 #![tactic(auto)]
 
 ghost use Rattle.std.specs.Prelude.{◌≡◌, [], ◌<◌, length};
-ghost use Rattle.sheet.specs.Sheet.{sheet, added_key, request_taken, open_taken, last_taken, part_taken, taken, Took, Takes};
+ghost use Rattle.channel_frames.specs.sheet.Sheet.{sheet, added_key, request_taken, open_taken, last_taken, part_taken, taken, Took, Takes};
 
+pub use channel_frames::sheet;
+use channel_frames::sheet::Draft;
 use open_keys::Keys;
-use sheet::Draft;
-use store::State;
-use table::Head;
+pub use span_frames::store;
+use span_frames::store::State;
+use span_frames::table;
+use span_frames::table::Head;
 
 // D2: a waiting request, behind the others.
 fn take_request(s: State, f: &[u8], table: &mut [u8]) -> State

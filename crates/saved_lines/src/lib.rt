@@ -3,15 +3,17 @@
 #![tactic(auto)]
 
 ghost use Rattle.std.specs.Prelude.{map, ◌+◌, ◌≤◌, length};
-ghost use Rattle.machine.specs.Log.{line};
+ghost use Rattle.open_keys.specs.machine.Log.{line};
 ghost use Rattle.open_keys.specs.OpenKeys.{keys_in};
-ghost use Rattle.hex_lines.specs.HexLines.{Put};
+ghost use Rattle.saved_channels.specs.hex_lines.HexLines.{Put};
 ghost use Rattle.board.specs.Board.{state_in, Held};
-ghost use Rattle.saved.specs.Saved.{OPEN, key_frame, frames, spelt};
-ghost use Rattle.frame_lines.specs.FrameLines.{key_lines};
+ghost use Rattle.saved_channels.specs.saved.Saved.{OPEN, key_frame, frames, spelt};
+ghost use Rattle.saved_channels.specs.frame_lines.FrameLines.{key_lines};
 
 use board::Board;
 use open_keys::Keys;
+use saved_channels::hex_lines;
+pub use saved_channels::{frame_lines, saved};
 
 // D6 and D7: an open key, the last key.
 fn put_key(out: &mut [u8], at: usize, first: u8, key: u16) -> usize

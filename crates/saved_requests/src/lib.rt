@@ -5,7 +5,7 @@
 ghost use Rattle.std.specs.Prelude.{◌+◌, ◌≤◌, length, take};
 ghost use Rattle.hex_lines.specs.HexLines.{Put};
 ghost use Rattle.store.specs.Store.{Held as WideHeld};
-ghost use Rattle.saved.specs.Saved.{spelt};
+ghost use Rattle.frame_lines.specs.saved.Saved.{spelt};
 ghost use Rattle.frame_lines.specs.FrameLines.{writes_in, request_lines, AllListed};
 
 use channel::Channel;

@@ -16,7 +16,7 @@ use Rattle.machine.specs.Log.{lines, run}
 use Rattle.machine.specs.Drawn.{Talk, given}
 use Rattle.machine.specs.Machine.{machine}
 use Rattle.display.specs.Display.{names, writes_on, naming}
-use Rattle.saved.specs.Saved.{text, kept, channel_frame, request_frame, span_frame, write_frame, write_frames, key_frame, frames, spelt}
+use Rattle.saved2.specs.saved.Saved.{text, kept, channel_frame, request_frame, span_frame, write_frame, write_frames, key_frame, frames, spelt}
 use Rattle.saved2.specs.Saved2.{number_frame, number_frames, frames2, text2}
 
 abbrev pub Keeps : Talk → List String → Type 0

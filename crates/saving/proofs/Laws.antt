@@ -11,16 +11,16 @@ use Rattle.memory.proofs.Splice.{length-splice}
 use Rattle.machine.specs.State.{State}
 use Rattle.machine.specs.Log.{line, hex_digit}
 use Rattle.machine.proofs.Tests.{by_test}
-use Rattle.board.specs.declared.Board.{Board}
-use Rattle.board.specs.Board.{state_in, Held}
-use Rattle.board.proofs.Laws.{held_width}
+use Rattle.image.specs.board.declared.Board.{Board}
+use Rattle.image.specs.board.Board.{state_in, Held}
+use Rattle.image.proofs.board.Laws.{held_width}
 use Rattle.image.specs.Image.{state_of}
 use Rattle.waiting_list.specs.WaitingList.{Sound}
 use Rattle.waiting_list.proofs.Laws.{sound_or_not}
 use Rattle.hex_lines.specs.HexLines.{Put}
-use Rattle.saved.specs.Saved.{frames, spelt, text}
-use Rattle.saved.proofs.Lengths.{frames_most, text_most}
-use Rattle.frame_lines.proofs.FrameLines.{put_then}
+use Rattle.saved_lines.specs.saved.Saved.{frames, spelt, text}
+use Rattle.saved_lines.proofs.saved.Lengths.{frames_most, text_most}
+use Rattle.saved_lines.proofs.frame_lines.FrameLines.{put_then}
 use Rattle.saving.specs.Saving.{held_by, Unwritten, Full, Saves}
 
 -- ---- the text on a page

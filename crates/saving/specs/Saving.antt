@@ -10,11 +10,11 @@
 use Rattle.std.specs.Prelude.{ℕ, ◌≤◌, ◌<◌, ◌≡◌, List, length}
 use Rattle.machine.specs.Numbers.{UNSOUND, TOOSMALL}
 use Rattle.machine.specs.State.{State}
-use Rattle.board.specs.Board.{state_in}
+use Rattle.image.specs.board.Board.{state_in}
 use Rattle.image.specs.Image.{state_of}
 use Rattle.waiting_list.specs.WaitingList.{Sound}
 use Rattle.hex_lines.specs.HexLines.{Put}
-use Rattle.saved.specs.Saved.{text}
+use Rattle.saved_lines.specs.saved.Saved.{text}
 
 abbrev pub TEXT : ℕ
 TEXT = 3344

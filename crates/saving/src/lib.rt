@@ -4,11 +4,14 @@
 
 ghost use Rattle.std.specs.Prelude.{◌≡◌, length};
 ghost use Rattle.hex_lines.specs.HexLines.{Put};
-ghost use Rattle.board.specs.Board.{state_in, Held};
-ghost use Rattle.saved.specs.Saved.{text as text_of};
+ghost use Rattle.image.specs.board.Board.{state_in, Held};
+ghost use Rattle.saved_lines.specs.saved.Saved.{text as text_of};
 ghost use Rattle.saving.specs.Saving.{TEXT, Saves};
 
-use board::Board;
+use image::board::Board;
+pub use saved_lines;
+pub use waiting_list;
+pub use waiting_list::{decoding, sizes, sound};
 
 // The refusal, or 0; how long the text is.
 #[derive(Clone, Copy)]

@@ -14,25 +14,25 @@ use Rattle.machine.specs.Log.{line, hex_digit}
 use Rattle.machine.proofs.Tests.{by_test}
 use Rattle.machine.specs.InBytes.{two_bytes}
 use Rattle.display.specs.Display.{numbers_from, numbers}
-use Rattle.board.specs.declared.Board.{Board}
-use Rattle.board.specs.Board.{sized, state_in, Held}
-use Rattle.board.proofs.Laws.{sized-within, held_width, held_sized}
+use Rattle.image.specs.board.declared.Board.{Board}
+use Rattle.image.specs.board.Board.{sized, state_in, Held}
+use Rattle.image.proofs.board.Laws.{sized-within, held_width, held_sized}
 use Rattle.image.specs.Image.{state_of}
-use Rattle.sound.specs.Sound.{Decides}
-use Rattle.waiting_list.specs.WaitingList.{Sound}
-use Rattle.waiting_list.proofs.Laws.{sound_or_not}
-use Rattle.hex_lines.specs.HexLines.{Put}
-use Rattle.saved.specs.Saved.{frames, spelt}
-use Rattle.saved.proofs.Lengths.{frames_most}
-use Rattle.frame_lines.proofs.FrameLines.{spelt-append, put_then, put_as}
-use Rattle.saved2.specs.Saved2.{SECOND, board_frame, number_frames, frames2, text2}
-use Rattle.saved2.proofs.Lengths2.{text2_most}
+use Rattle.accepting.specs.sound.Sound.{Decides}
+use Rattle.accepting.specs.waiting_list.WaitingList.{Sound}
+use Rattle.accepting.proofs.waiting_list.Laws.{sound_or_not}
+use Rattle.number_lines.specs.hex_lines.HexLines.{Put}
+use Rattle.number_lines.specs.saved.Saved.{frames, spelt}
+use Rattle.number_lines.proofs.saved.Lengths.{frames_most}
+use Rattle.number_lines.proofs.frame_lines.FrameLines.{spelt-append, put_then, put_as}
+use Rattle.number_lines.specs.saved2.Saved2.{SECOND, board_frame, number_frames, frames2, text2}
+use Rattle.number_lines.proofs.saved2.Lengths2.{text2_most}
 use Rattle.recounting.specs.Recounting.{counted}
 use Rattle.number_lines.specs.NumberLines.{number_lines}
 use Rattle.number_lines.proofs.NumberLines.{counted-lines}
 use Rattle.accepting.proofs.Accepting.{same_or_not}
-use Rattle.saving.specs.Saving.{held_by, Unwritten}
-use Rattle.saving.proofs.Laws.{front}
+use Rattle.accepting.specs.saving.Saving.{held_by, Unwritten}
+use Rattle.accepting.proofs.saving.Laws.{front}
 use Rattle.saving2.specs.Saving2.{Filled, Fills, Agrees, Saves2}
 
 -- ---- the text on a page

@@ -10,10 +10,10 @@ use Rattle.std.specs.Prelude.{ℕ, ◌≤◌, ◌<◌, ◌≡◌, List, length, 
 use Rattle.machine.specs.Numbers.{UNSOUND, TOOSMALL}
 use Rattle.machine.specs.State.{State}
 use Rattle.display.specs.Display.{NUMBERS, DISPLAY, numbers}
-use Rattle.waiting_list.specs.WaitingList.{Sound}
-use Rattle.hex_lines.specs.HexLines.{Put}
-use Rattle.saving.specs.Saving.{held_by, Unwritten}
-use Rattle.saved2.specs.Saved2.{text2}
+use Rattle.accepting.specs.waiting_list.WaitingList.{Sound}
+use Rattle.number_lines.specs.hex_lines.HexLines.{Put}
+use Rattle.accepting.specs.saving.Saving.{held_by, Unwritten}
+use Rattle.number_lines.specs.saved2.Saved2.{text2}
 
 abbrev pub TEXT2 : ℕ
 TEXT2 = 3521

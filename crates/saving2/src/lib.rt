@@ -3,14 +3,19 @@
 #![tactic(auto)]
 
 ghost use Rattle.std.specs.Prelude.{◌≡◌, ◌≤◌, length, take};
-ghost use Rattle.hex_lines.specs.HexLines.{Put};
-ghost use Rattle.sound.specs.Sound.{Decides};
-ghost use Rattle.board.specs.Board.{state_in, Held};
-ghost use Rattle.saved2.specs.Saved2.{text2};
+ghost use Rattle.number_lines.specs.hex_lines.HexLines.{Put};
+ghost use Rattle.accepting.specs.sound.Sound.{Decides};
+ghost use Rattle.image.specs.board.Board.{state_in, Held};
+ghost use Rattle.number_lines.specs.saved2.Saved2.{text2};
 ghost use Rattle.saving2.specs.Saving2.{TEXT2, Fills, Agrees, Saves2};
 
-use board::Board;
-use saving::Written;
+pub use accepting;
+use accepting::saving::Written;
+use accepting::{decoding, saved_lines};
+pub use accepting::{saving, sound};
+use image::board::Board;
+use number_lines::hex_lines;
+pub use recounting;
 
 // No text of eight channels is longer.
 pub const LONGEST: usize = 3521;

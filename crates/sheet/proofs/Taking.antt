@@ -9,13 +9,13 @@ use borrow.Author.Tests.{ne_eqb, eq-eqb, le-leb, lt-ltb}
 use lib.Dec.{T, eqb, leb, ltb, eqb→eq, leb→le, ltb→lt}
 use lib.ListN.{length, get_or, take, drop, set, replicate, length-append, length-drop, length-set}
 use lib.Seq.{take_all}
-use Rattle.memory.specs.Splice.{splice}
-use Rattle.memory.proofs.Splice.{splice_then}
+use Rattle.table.specs.memory.Splice.{splice}
+use Rattle.table.proofs.memory.Splice.{splice_then}
 use Rattle.std.specs.Prelude.{if◌then◌else◌}
-use Rattle.machine.specs.State.{free}
-use Rattle.machine.proofs.Tests.{if_elim, by_test, test_true, test_false, and_left, and_right}
-use Rattle.queue.specs.declared.Queue.{Queue}
-use Rattle.queue.specs.Queue.{pushed}
+use Rattle.store.specs.machine.State.{free}
+use Rattle.store.proofs.machine.Tests.{if_elim, by_test, test_true, test_false, and_left, and_right}
+use Rattle.open_keys.specs.queue.declared.Queue.{Queue}
+use Rattle.open_keys.specs.queue.Queue.{pushed}
 use Rattle.open_keys.specs.declared.Keys.{Keys}
 use Rattle.channel.specs.declared.Channel.{Channel}
 use Rattle.channel.specs.Channel.{channel_of, with_writes}

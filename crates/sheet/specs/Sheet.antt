@@ -14,11 +14,11 @@
 --   blank tb            the sheet before the first frame
 --   Took, Takes         the promises of the functions: the parts of the sheet that they make
 use Rattle.std.specs.Prelude.{ℕ, suc, ◌+◌, ◌*◌, ◌≡◌, Bool, true, false, ◌&&◌, List, [], ◌∷◌, ◌++◌, eqb, leb, ltb, length, get_or, take, drop, set, replicate, if◌then◌else◌}
-use Rattle.memory.specs.Splice.{splice}
-use Rattle.machine.specs.State.{fresh_on, free}
-use Rattle.machine.specs.InBytes.{signed}
-use Rattle.queue.specs.declared.Queue.{Queue}
-use Rattle.queue.specs.Queue.{queue_of, pushed}
+use Rattle.table.specs.memory.Splice.{splice}
+use Rattle.store.specs.machine.State.{fresh_on, free}
+use Rattle.store.specs.machine.InBytes.{signed}
+use Rattle.open_keys.specs.queue.declared.Queue.{Queue}
+use Rattle.open_keys.specs.queue.Queue.{queue_of, pushed}
 use Rattle.open_keys.specs.declared.Keys.{Keys}
 use Rattle.channel.specs.declared.Channel.{Channel}
 use Rattle.channel.specs.Channel.{channel_of, with_writes}

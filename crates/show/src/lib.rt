@@ -4,6 +4,7 @@
 
 ghost use Rattle.std.specs.Prelude.{◌<◌};
 
+pub use answers;
 use answers::Answer;
 
 pub fn text(words: &[u8]) {

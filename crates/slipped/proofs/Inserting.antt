@@ -17,11 +17,11 @@ use Rattle.machine.specs.Refusals.{Refusal, refused, first, refusal}
 use Rattle.machine.specs.Call.{answering, call}
 use Rattle.machine.proofs.Tests.{and_both, and_left, and_right, by_test, test_true, test_false}
 use Rattle.machine.specs.InBytes.{two_bytes}
-use Rattle.machine_laws.specs.Lists.{count}
-use Rattle.machine_laws.proofs.Counting.{count_other, count_cons, count_nil}
-use Rattle.machine_laws.proofs.Refusals.{refuse-mute}
-use Rattle.machine_laws.specs.Replies.{heard}
-use Rattle.machine_laws.proofs.Replies.{own, call-counts}
+use Rattle.display.specs.machine_laws.Lists.{count}
+use Rattle.display.proofs.machine_laws.Counting.{count_other, count_cons, count_nil}
+use Rattle.display.proofs.machine_laws.Refusals.{refuse-mute}
+use Rattle.display.specs.machine_laws.Replies.{heard}
+use Rattle.display.proofs.machine_laws.Replies.{own, call-counts}
 use Rattle.display.specs.Display.{NUMBERS, DISPLAY, blank, corrected, looks_of, displayed, Bytes}
 use Rattle.display.proofs.Display.{displayed-length, displayed-numbers, displayed-bytes, displayed-refused}
 use Rattle.display.specs.Runs.{after_calls, shown_after}

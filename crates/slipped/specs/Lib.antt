@@ -1,2 +1,3 @@
 pub mod Slipped
 pub mod Needed
+pub use Rattle.nothing_left.specs as nothing_left

@@ -8,16 +8,16 @@ use native.Mathlib.Omega.{arith}
 use lib.Dec.{T, eqb, eqb→eq}
 use lib.ListN.{length, drop, take, length-drop}
 use Rattle.std.specs.Prelude.{if◌then◌else◌}
-use Rattle.machine.specs.Lists.{all}
-use Rattle.machine.specs.State.{Write, Channel as ChannelM, Request, free, is_free, frees}
-use Rattle.machine.specs.Sound.{sound_channel, sound_request}
-use Rattle.machine.proofs.Tests.{and_left, and_right, and_both, test_true, test_false}
-use Rattle.channel.specs.declared.Channel.{Channel}
-use Rattle.channel.specs.Channel.{channel_in}
-use Rattle.store.specs.Store.{write_in, state_in as wide_in, Held as WideHeld}
-use Rattle.store.proofs.Store.{held_parts as wide_parts}
-use Rattle.shapes.specs.Shapes.{vacant}
-use Rattle.entries.specs.Entries.{request_test}
+use Rattle.machine_laws.specs.machine.Lists.{all}
+use Rattle.machine_laws.specs.machine.State.{Write, Channel as ChannelM, Request, free, is_free, frees}
+use Rattle.machine_laws.specs.machine.Sound.{sound_channel, sound_request}
+use Rattle.machine_laws.proofs.machine.Tests.{and_left, and_right, and_both, test_true, test_false}
+use Rattle.board.specs.channel.declared.Channel.{Channel}
+use Rattle.board.specs.channel.Channel.{channel_in}
+use Rattle.board.specs.store.Store.{write_in, state_in as wide_in, Held as WideHeld}
+use Rattle.board.proofs.store.Store.{held_parts as wide_parts}
+use Rattle.table_rest.specs.shapes.Shapes.{vacant}
+use Rattle.table_rest.specs.entries.Entries.{request_test}
 use Rattle.board.specs.declared.Board.{Board}
 use Rattle.board.specs.Board.{sized, top_of, Held}
 use Rattle.board.proofs.Laws.{top_pow, held_parts, held_width, held_sized, held_wide, held_spare, held_own, own_length}

@@ -9,19 +9,19 @@ use lib.Dec.{T, T_not, not_T, eqb, leb, eqb→eq, eqb_refl}
 use lib.ListN.{length, take, get_or, length-map}
 use Rattle.memory.specs.Splice.{block}
 use Rattle.queue.specs.Queue.{list_of}
-use Rattle.channel.specs.declared.Channel.{Channel}
-use Rattle.channel.specs.Channel.{channel_in}
-use Rattle.table.specs.Entry.{write_entry}
+use Rattle.board.specs.channel.declared.Channel.{Channel}
+use Rattle.board.specs.channel.Channel.{channel_in}
+use Rattle.table_rest.specs.table.Entry.{write_entry}
 use Rattle.std.specs.Prelude.{if◌then◌else◌}
-use Rattle.machine.specs.Lists.{any, all, among, distinct}
-use Rattle.machine.specs.State.{Write}
-use Rattle.machine.specs.Sound.{sound_write, forgets, sound_writes, sound_channel}
-use Rattle.machine.proofs.Tests.{test_true, test_false, and_left, and_right, and_both, nor_left, nor_right, eqb_flip}
-use Rattle.store.specs.Store.{write_item, write_in}
-use Rattle.shapes.specs.Shapes.{blank}
-use Rattle.entries.specs.Entries.{same, write_test}
-use Rattle.entries.proofs.Cases.{same_eq, same_refl}
-use Rattle.placing.specs.Placing.{write_of}
+use Rattle.machine_laws.specs.machine.Lists.{any, all, among, distinct}
+use Rattle.machine_laws.specs.machine.State.{Write}
+use Rattle.machine_laws.specs.machine.Sound.{sound_write, forgets, sound_writes, sound_channel}
+use Rattle.machine_laws.proofs.machine.Tests.{test_true, test_false, and_left, and_right, and_both, nor_left, nor_right, eqb_flip}
+use Rattle.board.specs.store.Store.{write_item, write_in}
+use Rattle.table_rest.specs.shapes.Shapes.{blank}
+use Rattle.table_rest.specs.entries.Entries.{same, write_test}
+use Rattle.table_rest.proofs.entries.Cases.{same_eq, same_refl}
+use Rattle.table_rest.specs.placing.Placing.{write_of}
 use Rattle.sound.proofs.Entries.{Stored}
 
 -- ---- one channel: its numbers stand in the table

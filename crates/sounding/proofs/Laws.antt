@@ -6,23 +6,23 @@ use mathlib.Core.Logic.{inl, inr}
 use mathlib.Core.List.{List, [], ◌∷◌}
 use native.Mathlib.Omega.{arith}
 use lib.ListN.{length}
-use Rattle.machine.specs.Numbers.{synced}
-use Rattle.machine.specs.State.{State as StateM}
-use Rattle.machine.specs.Commands.{matching, in_progress, finished, each, each_change, do_finish, do_pervol}
-use Rattle.machine.specs.Kinds.{kind}
-use Rattle.machine.specs.Call.{perform}
-use Rattle.machine.proofs.Tests.{eqb_false}
-use Rattle.store.specs.declared.State.{State}
-use Rattle.store.specs.Store.{state_in}
-use Rattle.store.specs.Work.{Ready}
-use Rattle.store.proofs.Store.{held_parts}
+use Rattle.answers.specs.machine.Numbers.{synced}
+use Rattle.answers.specs.machine.State.{State as StateM}
+use Rattle.answers.specs.machine.Commands.{matching, in_progress, finished, each, each_change, do_finish, do_pervol}
+use Rattle.answers.specs.machine.Kinds.{kind}
+use Rattle.answers.specs.machine.Call.{perform}
+use Rattle.answers.proofs.machine.Tests.{eqb_false}
+use Rattle.answers.specs.store.declared.State.{State}
+use Rattle.answers.specs.store.Store.{state_in}
+use Rattle.answers.specs.store.Work.{Ready}
+use Rattle.answers.proofs.store.Store.{held_parts}
 use Rattle.answers.specs.declared.Request.{Request}
 use Rattle.answers.specs.Answers.{call_of}
-use Rattle.retuning.specs.declared.Tune.TheVariants.{Set, Later, Finish}
+use Rattle.tuning.specs.retuning.declared.Tune.TheVariants.{Set, Later, Finish}
 use Rattle.tuning.specs.Tuning.{tuned_of}
 use Rattle.cutting.specs.Cutting.{finish_replies}
 use Rattle.changing.specs.Changing.{Accepted, Among}
-use Rattle.granting.proofs.Few.{front_replies_few}
+use Rattle.cutting.proofs.granting.Few.{front_replies_few}
 use Rattle.changing.proofs.Laws.{own_few}
 
 -- ---- combinations: FINISH reads none

@@ -2,13 +2,15 @@
 #![tactic(auto)]
 
 ghost use Rattle.std.specs.Prelude.{◌≡◌, ◌⊎◌, [], ◌∷◌, length};
-ghost use Rattle.machine.specs.Steps.{Carries};
+ghost use Rattle.answers.specs.machine.Steps.{Carries};
 ghost use Rattle.answers.specs.Answers.{call_of, Does};
 ghost use Rattle.changing.specs.Changing.{command_of, Accepted, Among};
 
+use answers::store::State;
 use answers::{Outcome, Request};
-use retuning::Tune;
-use store::State;
+pub use changing;
+pub use changing::freeing;
+use tuning::retuning::Tune;
 
 // FINISH: at once, or remembered.
 fn finish(r: Request, s: State, table: &mut [u8], replies: &mut [u8]) -> Outcome

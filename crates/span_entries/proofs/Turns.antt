@@ -7,8 +7,8 @@ use native.Mathlib.Nat.{div-one}
 use native.Mathlib.Numerals.{add-one}
 use lib.ListN.{length, drop, get_or, drop_of_length-le}
 use lib.Seq.{drop-cons}
-use Rattle.machine.specs.State.{Write, Channel as ChannelM}
-use Rattle.machine.specs.Maps.{odd, named}
+use Rattle.store.specs.machine.State.{Write, Channel as ChannelM}
+use Rattle.store.specs.machine.Maps.{odd, named}
 use Rattle.channel.specs.declared.Channel.{Channel}
 use Rattle.channel.specs.Channel.{channel_in}
 use Rattle.channel.proofs.Turns.{half_pow}

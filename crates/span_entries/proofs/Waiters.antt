@@ -9,11 +9,11 @@ use lib.Dec.{T, eqb}
 use lib.ListN.{length, get_or, take, length-map, length-take}
 use lib.Pow.{shl_exact, pow_pos}
 use Rattle.std.specs.Prelude.{if◌then◌else◌}
-use Rattle.machine.specs.State.{Write, Channel as ChannelM, Lock, free}
-use Rattle.machine.specs.Maps.{odd, half, bit, lowest, named}
-use Rattle.machine.specs.Sound.{sound_waiter}
-use Rattle.machine.proofs.Tests.{by_test, test_true, test_false, eqb_false}
-use Rattle.machine_laws.proofs.Maps.{odd-bit, half-bit, named_zero}
+use Rattle.store.specs.machine.State.{Write, Channel as ChannelM, Lock, free}
+use Rattle.store.specs.machine.Maps.{odd, half, bit, lowest, named}
+use Rattle.store.specs.machine.Sound.{sound_waiter}
+use Rattle.store.proofs.machine.Tests.{by_test, test_true, test_false, eqb_false}
+use Rattle.channel.proofs.machine_laws.Maps.{odd-bit, half-bit, named_zero}
 use Rattle.queue.specs.Queue.{list_of}
 use Rattle.channel.specs.declared.Channel.{Channel}
 use Rattle.channel.specs.Channel.{channel_in, channel_of, lowest_from}

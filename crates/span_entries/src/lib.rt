@@ -2,16 +2,19 @@
 #![tactic(auto)]
 
 ghost use Rattle.std.specs.Prelude.{◌≡◌, not, ◌&&◌, map as each, ℕ, ◌<◌, eqb, length};
-ghost use Rattle.memory.specs.Splice.{block};
+ghost use Rattle.table.specs.memory.Splice.{block};
 ghost use Rattle.queue.specs.Queue.{list_of};
 ghost use Rattle.channel.specs.Channel.{channel_in};
 ghost use Rattle.table.specs.Entry.{span_entry};
-ghost use Rattle.machine.specs.Maps.{named};
-ghost use Rattle.machine.specs.State.{Write};
+ghost use Rattle.store.specs.machine.Maps.{named};
+ghost use Rattle.store.specs.machine.State.{Write};
 ghost use Rattle.store.specs.Store.{lock_in};
 ghost use Rattle.entries.specs.Entries.{same as same_m, lock_test, waiter_test};
 
 use channel::Channel;
+pub use entries;
+pub use shapes;
+pub use store;
 
 // Whether the entry is that of the lock, or of the WAITCYCLE, which can be read from it: `command` says which.
 fn is_span(table: &[u8], id: u8, command: u8) -> bool

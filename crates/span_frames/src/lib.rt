@@ -3,11 +3,13 @@
 #![tactic(auto)]
 
 ghost use Rattle.std.specs.Prelude.{◌≡◌, [], ◌*◌, ◌<◌, length, get_or};
-ghost use Rattle.memory.specs.Splice.{splice};
+ghost use Rattle.table.specs.memory.Splice.{splice};
 ghost use Rattle.sheet.specs.Sheet.{sheet, span_of, lock_taken, waiter_taken, Took};
 
+pub use store;
 use store::State;
-use table::Head;
+pub use table;
+use table::{Head, memory};
 
 // The entry of a lock or a WAITCYCLE.
 fn put_span(command: u8, f: &[u8], table: &mut [u8])

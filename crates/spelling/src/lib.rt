@@ -7,6 +7,9 @@ ghost use Rattle.memory.specs.Splice.{splice};
 ghost use Rattle.machine.specs.Log.{hex_digit, line};
 ghost use Rattle.spelling.specs.Spelling.{digits};
 
+pub use machine;
+pub use memory;
+
 fn digit(n: u8) -> u8
     requires { n < 16 }
     ensures { result ≡ hex_digit n }

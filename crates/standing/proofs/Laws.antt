@@ -10,7 +10,7 @@ use lib.ListN.{length}
 use Rattle.std.specs.Prelude.{if◌then◌else◌}
 use Rattle.machine.specs.State.{Channel, is_free}
 use Rattle.machine.specs.Maps.{odd, half, bit}
-use Rattle.machine_laws.proofs.Maps.{bit_of}
+use Rattle.channel.proofs.machine_laws.Maps.{bit_of}
 use Rattle.standing.specs.declared.Standing.{Standing}
 use Rattle.standing.specs.Standing.{failing, Stood}
 

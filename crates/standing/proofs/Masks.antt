@@ -14,7 +14,7 @@ use lib.Pow.{pow_pos}
 use Rattle.std.specs.Prelude.{if◌then◌else◌}
 use Rattle.machine.specs.State.{Channel}
 use Rattle.machine.specs.Maps.{odd, half, bit, named}
-use Rattle.machine_laws.proofs.Maps.{odd-bit, half-bit, bit_of}
+use Rattle.channel.proofs.machine_laws.Maps.{odd-bit, half-bit, bit_of}
 use Rattle.standing.specs.Standing.{failing}
 
 -- ---- the bit step

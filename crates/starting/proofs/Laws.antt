@@ -1,12 +1,14 @@
 -- Which half of the promise is asked, by the number of channels and the lengths lent. Assumes nothing.
 use Prim.Native.Nat.{ℕ}
+use mathlib.Core.Bool.{Bool, true, false}
 use mathlib.Core.Path.{◌≡◌, refl, sym, subst, ◌∙◌}
+use lib.Dec.{T}
 use mathlib.Core.List.{List}
 use lib.ListN.{length, replicate, length-replicate}
 use Rattle.memory.specs.Splice.{splice}
-use Rattle.board.specs.declared.Board.{Board}
-use Rattle.board.specs.Board.{fresh_board}
-use Rattle.board.proofs.Laws.{fresh_of}
+use Rattle.image.specs.board.declared.Board.{Board}
+use Rattle.image.specs.board.Board.{fresh_board, sized}
+use Rattle.image.proofs.board.Laws.{fresh_of}
 use Rattle.image.specs.Image.{Saved}
 use Rattle.image.proofs.Laws.{splice_whole}
 use Rattle.starting.specs.Starting.{Fits, Started}
@@ -28,3 +30,17 @@ module _ {w : ℕ} {st tb dp : List ℕ} where
         };
         otherwise = λ n. absurd (n h);
       }
+
+  -- by the test of each: a board of no such width, and memory of another length
+
+  pub not_sized : {b : Bool} → b ≡ sized w → b ≡ false → Started w st tb dp 1 st tb dp
+  not_sized e f = not_begun (λ h. rw (sym e ∙ f) at h.board)
+
+  pub other_state : (length st ≡ 823 → ⊥) → Started w st tb dp 1 st tb dp
+  other_state n = not_begun (λ h. n h.state)
+
+  pub other_table : (length tb ≡ 1472 → ⊥) → Started w st tb dp 1 st tb dp
+  other_table n = not_begun (λ h. n h.table)
+
+  pub other_display : (length dp ≡ 18 → ⊥) → Started w st tb dp 1 st tb dp
+  other_display n = not_begun (λ h. n h.display)

@@ -1,1 +1,2 @@
 pub mod Starting
+pub use Rattle.sizes.specs as sizes

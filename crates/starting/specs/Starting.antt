@@ -8,7 +8,7 @@
 use Rattle.std.specs.Prelude.{ℕ, ◌≡◌, List, T, length, replicate}
 use Rattle.machine.specs.State.{fresh_on}
 use Rattle.display.specs.Display.{DISPLAY, blank}
-use Rattle.board.specs.Board.{sized, struct_of}
+use Rattle.image.specs.board.Board.{sized, struct_of}
 use Rattle.image.specs.Image.{STATE, Saved}
 use Rattle.sizes.specs.Sizes.{TABLE}
 

@@ -11,15 +11,15 @@ use lib.Dec.{T, eqb, leb, ltb}
 use lib.ListN.{length, get_or, drop, drop_of_length-le}
 use lib.Seq.{drop-cons}
 use Rattle.memory.specs.Splice.{block}
-use Rattle.table.specs.Entry.{write_entry, span_entry, wait_entry}
+use Rattle.numbers.specs.table.Entry.{write_entry, span_entry, wait_entry}
 use Rattle.std.specs.Prelude.{if◌then◌else◌}
-use Rattle.machine.specs.Lists.{any, all, among}
-use Rattle.machine.specs.State.{Channel as ChannelM, State as StateM}
-use Rattle.machine.specs.Commands.{period_in, volume_in}
-use Rattle.machine.specs.Sound.{sound_tone, ids}
-use Rattle.machine.specs.Kinds.{kind, unknown, allocates}
-use Rattle.machine.specs.Refusals.{first}
-use Rattle.machine.proofs.Tests.{by_test, test_true, test_false, and_left, and_right}
+use Rattle.store.specs.machine.Lists.{any, all, among}
+use Rattle.store.specs.machine.State.{Channel as ChannelM, State as StateM}
+use Rattle.store.specs.machine.Commands.{period_in, volume_in}
+use Rattle.store.specs.machine.Sound.{sound_tone, ids}
+use Rattle.store.specs.machine.Kinds.{kind, unknown, allocates}
+use Rattle.store.specs.machine.Refusals.{first}
+use Rattle.store.proofs.machine.Tests.{by_test, test_true, test_false, and_left, and_right}
 use Rattle.machine_laws.specs.Sound.{Parts}
 use Rattle.store.specs.Store.{Item, write_item, lock_item, waiter_item, wait_item, write_items, items, lookup, keys, Each, table_of}
 use Rattle.store.proofs.Store.{keys-items, parts_long, block_table_of}

@@ -9,11 +9,11 @@
 --   wrong_numbers ms        cycles, period and volume of another length than 0 or 6, or out of range; number_tests ms: with its number
 use Rattle.std.specs.Prelude.{ℕ, Bool, not, ◌&&◌, ◌||◌, List, [], ◌∷◌, eqb, leb, ltb, length, get_or}
 use Rattle.memory.specs.Splice.{block}
-use Rattle.machine.specs.Numbers.{BADLENGTH, BADADDRESS, COMBOS}
-use Rattle.machine.specs.Lists.{any}
-use Rattle.machine.specs.Commands.{period_in, volume_in}
-use Rattle.machine.specs.Sound.{sound_tone}
-use Rattle.machine.specs.Refusals.{Refusal, accepted, refused}
+use Rattle.store.specs.machine.Numbers.{BADLENGTH, BADADDRESS, COMBOS}
+use Rattle.store.specs.machine.Lists.{any}
+use Rattle.store.specs.machine.Commands.{period_in, volume_in}
+use Rattle.store.specs.machine.Sound.{sound_tone}
+use Rattle.store.specs.machine.Refusals.{Refusal, accepted, refused}
 
 abbrev pub number_of : Refusal → ℕ
 number_of accepted = 0

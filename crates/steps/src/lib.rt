@@ -2,11 +2,12 @@
 #![tactic(auto)]
 
 ghost use Rattle.std.specs.Prelude.{◌≡◌, not, ◌+◌, ◌<◌, length};
-ghost use Rattle.machine.specs.Lists.{any};
-ghost use Rattle.machine.specs.Kinds.{kind, unknown, carries as carries_m};
-ghost use Rattle.machine.specs.Refusals.{first};
+ghost use Rattle.store.specs.machine.Lists.{any};
+ghost use Rattle.store.specs.machine.Kinds.{kind, unknown, carries as carries_m};
+ghost use Rattle.store.specs.machine.Refusals.{first};
 ghost use Rattle.steps.specs.Steps.{number_of, high, used, list_tests, event_tests, number_tests};
 
+use numbers::table;
 use store::State;
 
 // Whether a combination is above the board's highest map.

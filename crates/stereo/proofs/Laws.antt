@@ -11,8 +11,8 @@ use lib.Dec.{T, T_not, not_T, eqb, leb, ltb, eqb→eq, eqb_refl, leb→le, nleb�
 use borrow.Author.Tests.{le-leb}
 use lib.ListN.{length, drop, take, get_or, length-append}
 use Rattle.std.specs.Prelude.{if◌then◌else◌}
-use Rattle.machine.specs.Lists.{all, any, keep, among}
-use Rattle.machine.proofs.Tests.{and_left, and_right, and_both, or_map, eqb_flip, test_true, test_false, by_test}
+use Rattle.machine_laws.specs.machine.Lists.{all, any, keep, among}
+use Rattle.machine_laws.proofs.machine.Tests.{and_left, and_right, and_both, or_map, eqb_flip, test_true, test_false, by_test}
 use Rattle.machine_laws.proofs.Lists.{keep_append, keep_all, among_all, among-append}
 use Rattle.wishes.specs.Wishes.{named, lefts, rights, meets}
 use Rattle.stereo.specs.Stereo.{below, wished, times, accepts, Accepted, ascending}

@@ -11,8 +11,8 @@ use lib.Dec.{T, not_T, eqb, eqb→eq}
 use lib.ListN.{length, length-append, drop, drop_of_length-le, get_or, set}
 use lib.Seq.{drop-cons}
 use Rattle.std.specs.Prelude.{if◌then◌else◌}
-use Rattle.machine.specs.Lists.{all, keep}
-use Rattle.machine.proofs.Tests.{test_true, test_false}
+use Rattle.machine_laws.specs.machine.Lists.{all, keep}
+use Rattle.machine_laws.proofs.machine.Tests.{test_true, test_false}
 use Rattle.machine_laws.proofs.Lists.{all_append, among_all}
 use Rattle.memory.specs.Splice.{splice}
 use Rattle.memory.proofs.Splice.{splice_none, splice_snoc, length-splice}

@@ -14,8 +14,8 @@
 --   accepts l r ms       the checker's test
 --   Accepted l r ms      the same as the request words it
 use Rattle.std.specs.Prelude.{ℕ, zero, suc, ◌≤◌, ◌≡◌, Bool, ◌&&◌, ◌||◌, true, List, [], ◌∷◌, ◌++◌, eqb, leb, ltb, length, if◌then◌else◌}
-use Rattle.machine.specs.Lists.{all, keep}
-use Rattle.machine.specs.Numbers.{TOOSMALL}
+use Rattle.machine_laws.specs.machine.Lists.{all, keep}
+use Rattle.machine_laws.specs.machine.Numbers.{TOOSMALL}
 use Rattle.memory.specs.Splice.{splice}
 use Rattle.wishes.specs.Wishes.{meets}
 use Rattle.stereo.specs.declared.Made.{Made}

@@ -3,12 +3,12 @@
 #![tactic(auto)]
 
 ghost use Rattle.std.specs.Prelude.{◌≡◌, ◌≤◌, eqb, length};
-ghost use Rattle.machine.specs.Lists.{all};
+ghost use Rattle.machine_laws.specs.machine.Lists.{all};
 ghost use Rattle.memory.specs.Splice.{splice};
 ghost use Rattle.wishes.specs.Wishes.{meets as meets_of};
 ghost use Rattle.stereo.specs.Stereo.{wished, Makes, times as timesOf, accepts as accepts_of};
 
-use board::Board;
+use wishes::board::Board;
 
 // The refusal, or 0, and how many maps were written.
 #[derive(Clone, Copy)]

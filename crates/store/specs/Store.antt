@@ -13,14 +13,14 @@
 --   Each P xs, Small is   each element has the property; each id is one of the table's
 --   Held st tb        they hold a sound state with eight channels, and are the ones that stand for it
 use Rattle.std.specs.Prelude.{ℕ, zero, suc, ◌<◌, ◌≡◌, Bool, true, false, List, [], ◌∷◌, ◌++◌, map, T, eqb, length, get_or, if◌then◌else◌}
-use Rattle.queue.specs.Queue.{queue_of, list_of}
+use Rattle.open_keys.specs.queue.Queue.{queue_of, list_of}
 use Rattle.open_keys.specs.OpenKeys.{keys_of, keys_in}
 use Rattle.channel.specs.Channel.{channel_of, channel_in}
-use Rattle.memory.specs.Splice.{block}
+use Rattle.table.specs.memory.Splice.{block}
 use Rattle.table.specs.Entry.{idle, write_entry, lock_entry, waiter_entry, wait_entry, key_in, list_in, numbers_in}
-use Rattle.machine.specs.Lists.{distinct}
-use Rattle.machine.specs.State.{Write, Channel as ChannelM, Lock, Request, State as StateM}
-use Rattle.machine.specs.Sound.{sound}
+use Rattle.open_keys.specs.machine.Lists.{distinct}
+use Rattle.open_keys.specs.machine.State.{Write, Channel as ChannelM, Lock, Request, State as StateM}
+use Rattle.open_keys.specs.machine.Sound.{sound}
 use Rattle.store.specs.declared.State.{State}
 
 abbrev pub struct_of : StateM → State

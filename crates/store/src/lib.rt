@@ -4,12 +4,14 @@
 #![tactic(auto)]
 
 ghost use Rattle.std.specs.Prelude.{◌≡◌, set, ◌<◌};
-ghost use Rattle.machine.specs.State.{fresh_on};
+ghost use Rattle.open_keys.specs.machine.State.{fresh_on};
 ghost use Rattle.store.specs.Store.{struct_of};
 
 use channel::Channel;
 use open_keys::Keys;
-use queue::Queue;
+pub use open_keys::machine;
+use open_keys::queue::Queue;
+pub use reply;
 use table::Head;
 
 #[derive(Clone, Copy)]

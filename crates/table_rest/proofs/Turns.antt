@@ -13,10 +13,10 @@ use lib.Seq.{get_or-drop}
 use Rattle.machine.proofs.Tests.{and_left, and_right}
 use Rattle.words.specs.Words.{number, zeros}
 use Rattle.words.proofs.Laws.{or_none, number_none, zeros_then}
-use Rattle.memory.specs.Splice.{block}
+use Rattle.table.specs.memory.Splice.{block}
 use Rattle.table.specs.Entry.{idle}
-use Rattle.store.specs.Store.{request_in}
-use Rattle.entries.specs.Entries.{same}
+use Rattle.placing.specs.store.Store.{request_in}
+use Rattle.placing.specs.entries.Entries.{same}
 use Rattle.placing.proofs.Turns.{front}
 use Rattle.table_rest.specs.TableRest.{falling, rest_idle}
 

@@ -4,10 +4,10 @@
 --   falling tb p is    the precedences of the requests fall, from p on
 --   rest_idle tb seen n the entries of the ids below n that were not seen are all 0
 use Rattle.std.specs.Prelude.{ℕ, zero, suc, Bool, true, not, ◌&&◌, ◌||◌, List, [], ◌∷◌, eqb, leb, get_or}
-use Rattle.memory.specs.Splice.{block}
+use Rattle.table.specs.memory.Splice.{block}
 use Rattle.table.specs.Entry.{idle}
-use Rattle.store.specs.Store.{request_in}
-use Rattle.entries.specs.Entries.{same}
+use Rattle.placing.specs.store.Store.{request_in}
+use Rattle.placing.specs.entries.Entries.{same}
 
 unfoldable pub falling : List ℕ → ℕ → List ℕ → Bool
 falling tb p [] = true

@@ -3,13 +3,16 @@
 #![tactic(auto)]
 
 ghost use Rattle.std.specs.Prelude.{◌≡◌, ◌&&◌, ◌+◌, ◌-◌, ◌≤◌, ◌<◌, T, ltb, leb, length, take, drop};
-ghost use Rattle.memory.specs.Splice.{block};
+ghost use Rattle.table.specs.memory.Splice.{block};
 ghost use Rattle.words.specs.Words.{zeros};
 ghost use Rattle.queue.specs.Queue.{list_of};
 ghost use Rattle.machine.specs.Lists.{all};
 ghost use Rattle.table_rest.specs.TableRest.{falling as falling_m, rest_idle};
 
+pub use placing;
+pub use placing::{entries, open_shape, shapes};
 use queue::Queue;
+pub use table;
 
 // The waiting requests stand by precedence, highest first.
 pub fn falling(table: &[u8], q: Queue) -> bool

@@ -11,26 +11,26 @@ use lib.ListN.{length, get_or}
 use Rattle.memory.specs.Splice.{splice, block}
 use Rattle.memory.proofs.Splice.{splice_none}
 use Rattle.queue.specs.Queue.{pad}
-use Rattle.table.specs.Entry.{head_bytes, padded, number_bytes, write_entry}
+use Rattle.numbers.specs.table.Entry.{head_bytes, padded, number_bytes, write_entry}
 use Rattle.std.specs.Prelude.{if◌then◌else◌}
-use Rattle.machine.specs.State.{Write, Channel as ChannelM, State as StateM, with_channels}
-use Rattle.machine.specs.Maps.{odd, half, change}
-use Rattle.machine.specs.Commands.{matching, playing, in_progress, set_writes, on_first, on_front, period_in, volume_in, done, each_change}
-use Rattle.machine.specs.Sound.{writes_of}
-use Rattle.machine.proofs.Tests.{if_elim}
-use Rattle.machine_laws.proofs.Maps.{odd-bit, half-bit}
-use Rattle.machine_laws.specs.Sound.{Parts}
+use Rattle.answers.specs.machine.State.{Write, Channel as ChannelM, State as StateM, with_channels}
+use Rattle.answers.specs.machine.Maps.{odd, half, change}
+use Rattle.answers.specs.machine.Commands.{matching, playing, in_progress, set_writes, on_first, on_front, period_in, volume_in, done, each_change}
+use Rattle.answers.specs.machine.Sound.{writes_of}
+use Rattle.answers.proofs.machine.Tests.{if_elim}
+use Rattle.channel.proofs.machine_laws.Maps.{odd-bit, half-bit}
+use Rattle.channel.specs.machine_laws.Sound.{Parts}
 use Rattle.channel.specs.declared.Channel.{Channel}
 use Rattle.channel.specs.Channel.{channel_of, map_where, matching_each}
 use Rattle.fronts.specs.declared.Front.TheVariants.{Plays}
 use Rattle.fronts.specs.Fronts.{named}
 use Rattle.fronts.proofs.Laws.{in_progress_is}
-use Rattle.store.specs.declared.State.{State}
-use Rattle.store.specs.Store.{Item, write_item, lock_item, waiter_item, wait_item, write_items, items, lookup, entries, struct_of, table_of, state_in, Held, Good, Each}
-use Rattle.store.specs.Work.{Did}
-use Rattle.store.proofs.Entries.{Ins, ins_right, ins_at, ins_sub, ins_new, ins_small, good_sub, good_add, block-entries, entry_replaced}
-use Rattle.store.proofs.Store.{good_of, parts_long, block_table_of, write_long, write_key, write_list, Written, written, write_entries, write_ids, held_parts}
-use Rattle.granting.proofs.Laws.{held_channels, small_left, small-right}
+use Rattle.answers.specs.store.declared.State.{State}
+use Rattle.answers.specs.store.Store.{Item, write_item, lock_item, waiter_item, wait_item, write_items, items, lookup, entries, struct_of, table_of, state_in, Held, Good, Each}
+use Rattle.answers.specs.store.Work.{Did}
+use Rattle.answers.proofs.store.Entries.{Ins, ins_right, ins_at, ins_sub, ins_new, ins_small, good_sub, good_add, block-entries, entry_replaced}
+use Rattle.answers.proofs.store.Store.{good_of, parts_long, block_table_of, write_long, write_key, write_list, Written, written, write_entries, write_ids, held_parts}
+use Rattle.sweep.proofs.granting.Laws.{held_channels, small_left, small-right}
 use Rattle.answers.specs.declared.Request.{Request}
 use Rattle.answers.specs.declared.Answer.{Answer}
 use Rattle.answers.specs.declared.Outcome.{Outcome}

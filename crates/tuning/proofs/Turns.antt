@@ -12,14 +12,14 @@ use lib.Seq.{drop-cons}
 use Rattle.memory.specs.Splice.{splice, block}
 use Rattle.memory.proofs.Splice.{length-splice, block_same, block_other}
 use Rattle.std.specs.Prelude.{if◌then◌else◌}
-use Rattle.machine.specs.Maps.{odd, half}
-use Rattle.machine.proofs.Tests.{by_test}
+use Rattle.answers.specs.machine.Maps.{odd, half}
+use Rattle.answers.proofs.machine.Tests.{by_test}
 use Rattle.channel.specs.declared.Channel.{Channel}
 use Rattle.channel.proofs.Turns.{half_pow}
-use Rattle.table.specs.Entry.{head_bytes, padded, key_in, list_in}
+use Rattle.numbers.specs.table.Entry.{head_bytes, padded, key_in, list_in}
 use Rattle.retuning.specs.declared.Tune.{Tune}
 use Rattle.retuning.specs.declared.Tune.TheVariants.{Set, Later, Finish, Next}
-use Rattle.cycles.proofs.Laws.{next_long}
+use Rattle.retuning.proofs.cycles.Laws.{next_long}
 use Rattle.retuning.specs.Retuning.{retuned_of}
 use Rattle.tuning.specs.Tuning.{tuned_entry, tuned_at, front_of, tune_each, Tunable}
 

@@ -12,18 +12,18 @@
 --                          carries
 use Rattle.std.specs.Prelude.{ℕ, ◌*◌, ◌<◌, ◌≡◌, true, false, List, [], ◌∷◌, ◌++◌, get_or, if◌then◌else◌}
 use Rattle.memory.specs.Splice.{splice, block}
-use Rattle.table.specs.Entry.{head_bytes, padded, key_in, list_in, number_bytes}
-use Rattle.machine.specs.Numbers.{CMD_WRITE}
-use Rattle.machine.specs.State.{Write, State as StateM, Outcome as OutcomeM, with_channels}
-use Rattle.machine.specs.Maps.{odd, half, change}
-use Rattle.machine.specs.Commands.{period_in, volume_in, on_front, each_change}
+use Rattle.numbers.specs.table.Entry.{head_bytes, padded, key_in, list_in, number_bytes}
+use Rattle.answers.specs.machine.Numbers.{CMD_WRITE}
+use Rattle.answers.specs.machine.State.{Write, State as StateM, Outcome as OutcomeM, with_channels}
+use Rattle.answers.specs.machine.Maps.{odd, half, change}
+use Rattle.answers.specs.machine.Commands.{period_in, volume_in, on_front, each_change}
 use Rattle.channel.specs.declared.Channel.{Channel}
 use Rattle.channel.specs.Channel.{map_where}
 use Rattle.fronts.specs.declared.Front.TheVariants.{Plays}
 use Rattle.fronts.specs.Fronts.{named}
-use Rattle.store.specs.declared.State.{State}
-use Rattle.store.specs.Store.{state_in}
-use Rattle.store.specs.Work.{Stands}
+use Rattle.answers.specs.store.declared.State.{State}
+use Rattle.answers.specs.store.Store.{state_in}
+use Rattle.answers.specs.store.Work.{Stands}
 use Rattle.retuning.specs.declared.Tune.{Tune}
 use Rattle.retuning.specs.Retuning.{retuned_of, meaning}
 use Rattle.answers.specs.declared.Request.{Request}

@@ -4,17 +4,21 @@
 
 ghost use Rattle.std.specs.Prelude.{◌≡◌, ◌⊎◌, ◌<◌, length, get_or};
 ghost use Rattle.memory.specs.Splice.{block};
-ghost use Rattle.store.specs.Store.{Held};
-ghost use Rattle.store.specs.Work.{Ready};
+ghost use Rattle.answers.specs.store.Store.{Held};
+ghost use Rattle.answers.specs.store.Work.{Ready};
 ghost use Rattle.answers.specs.Answers.{Does};
 ghost use Rattle.tuning.specs.Tuning.{tuned_at, tune_each, Tunable, Tunes, tuned_of};
 
+use answers::store::State;
+pub use answers::{reply, store};
 use answers::{Outcome, Request};
 use channel::Channel;
 use fronts::Front;
+pub use numbers::table;
+use numbers::table::Head;
+pub use retuning;
 use retuning::Tune;
-use store::State;
-use table::Head;
+pub use retuning::cycles;
 
 // The write of an id.
 fn tune(table: &mut [u8], id: u8, new: [u8; Head::NUMBERS], how: Tune)

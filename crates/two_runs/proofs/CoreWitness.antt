@@ -8,11 +8,11 @@ use mathlib.Core.Bool.{false, true}
 use mathlib.Core.Logic.{inl}
 use mathlib.Core.List.{List, [], ◌∷◌, map}
 use lib.ListN.{length}
-use Rattle.machine.specs.State.{COMMAND, State}
-use Rattle.machine.specs.Call.{call}
-use Rattle.machine.specs.Lists.{among}
-use Rattle.machine.specs.Machine.{machine}
-use Rattle.machine.specs.Walks.{plays}
+use Rattle.machine_laws.specs.machine.State.{COMMAND, State}
+use Rattle.machine_laws.specs.machine.Call.{call}
+use Rattle.machine_laws.specs.machine.Lists.{among}
+use Rattle.machine_laws.specs.machine.Machine.{machine}
+use Rattle.machine_laws.specs.machine.Walks.{plays}
 use Rattle.two_runs.specs.TwoRuns.{Party, Step, claim, our, own, reached, seen, their}
 use Rattle.two_runs.specs.Core.{Begins, Goes, may_also, of_party}
 use Rattle.two_runs.proofs.Part.{project}

@@ -8,14 +8,14 @@ use mathlib.Core.Logic.{◌⊎◌, inl, inr}
 use mathlib.Core.List.{List, [], ◌∷◌}
 use lib.Dec.{T, T_not, not_T, eqb, eqb→eq}
 use lib.ListN.{length, take}
-use Rattle.machine.specs.Lists.{all}
-use Rattle.machine.specs.State.{State, Call, Op, OPEN, CLOSE, ABORT, EVENT, CYCLE_ENDED, GAVE_UP, COMMAND, free}
-use Rattle.machine.specs.Desks.{desk_of, foreign}
-use Rattle.machine.specs.Kinds.{kind}
-use Rattle.machine.specs.Call.{call}
-use Rattle.machine.specs.Machine.{machine}
-use Rattle.machine.specs.Walks.{plays, asks_from}
-use Rattle.machine.proofs.Tests.{and_both, and_left, and_right, by_test, test_true, test_false}
+use Rattle.machine_laws.specs.machine.Lists.{all}
+use Rattle.machine_laws.specs.machine.State.{State, Call, Op, OPEN, CLOSE, ABORT, EVENT, CYCLE_ENDED, GAVE_UP, COMMAND, free}
+use Rattle.machine_laws.specs.machine.Desks.{desk_of, foreign}
+use Rattle.machine_laws.specs.machine.Kinds.{kind}
+use Rattle.machine_laws.specs.machine.Call.{call}
+use Rattle.machine_laws.specs.machine.Machine.{machine}
+use Rattle.machine_laws.specs.machine.Walks.{plays, asks_from}
+use Rattle.machine_laws.proofs.machine.Tests.{and_both, and_left, and_right, by_test, test_true, test_false}
 use Rattle.two_runs.specs.TwoRuns.{Party, Start, Step, our, their, calls, lends, in_bytes, own, seen, reached, claim, peeks, avoids}
 use Rattle.two_runs.specs.TwoRuns.{ByK}
 use Rattle.two_runs.specs.Core.{Goes, Missing, OfK, misses}

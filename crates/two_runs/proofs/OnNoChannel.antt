@@ -8,22 +8,22 @@ use mathlib.Core.List.{List, [], ◌++◌, ◌∷◌, map}
 use native.Mathlib.Omega.{arith}
 use lib.Dec.{T, T_not, eqb, eqb→eq, ltb, ltb→lt, not_T}
 use lib.ListN.{length}
-use Rattle.machine.specs.Numbers.{synced}
+use Rattle.machine_laws.specs.machine.Numbers.{synced}
 use Rattle.std.specs.Prelude.{if◌then◌else◌}
-use Rattle.machine.specs.Lists.{all, keep}
-use Rattle.machine.specs.State.{ABORT, CLOSE, COMMAND, Call, Channel, EVENT, Lock, OPEN, Op, Outcome, Reply, State, free}
-use Rattle.machine.specs.Maps.{at, bit, change, half, lowest, minus, named, odd}
-use Rattle.machine.specs.Granting.{cut, on_channels}
-use Rattle.machine.specs.Commands.{cleared, do_finish, do_free, do_lock, do_pervol, do_read, do_waitcycle, do_write, each, each_change, finished, flushed, freed, freeing, front_gone, in_progress, is_empty, matches, matching, mismatch, on_front, remember_finish, reset, same, set_prec, set_stop, silent}
-use Rattle.machine.specs.Call.{accept, answering, call, perform, settling}
-use Rattle.machine.specs.Kinds.{ALLOCATE, CLEAR, FLUSH, FREE, Kind, LOCK, READ, RESET, SETPREC, START, STOP, FINISH, PERVOL, WAITCYCLE, UNKNOWN, UPDATE, WRITE, allocates, kind}
-use Rattle.machine.specs.Refusals.{Refusal, accepted, bad_map, bad_maps, refusal, refused}
-use Rattle.machine.specs.Settling.{settle}
-use Rattle.machine.specs.Sound.{sound, sound_lock}
-use Rattle.machine.proofs.Tests.{and_left, and_right, by_test, if_elim, or_named, test_false, test_true}
+use Rattle.machine_laws.specs.machine.Lists.{all, keep}
+use Rattle.machine_laws.specs.machine.State.{ABORT, CLOSE, COMMAND, Call, Channel, EVENT, Lock, OPEN, Op, Outcome, Reply, State, free}
+use Rattle.machine_laws.specs.machine.Maps.{at, bit, change, half, lowest, minus, named, odd}
+use Rattle.machine_laws.specs.machine.Granting.{cut, on_channels}
+use Rattle.machine_laws.specs.machine.Commands.{cleared, do_finish, do_free, do_lock, do_pervol, do_read, do_waitcycle, do_write, each, each_change, finished, flushed, freed, freeing, front_gone, in_progress, is_empty, matches, matching, mismatch, on_front, remember_finish, reset, same, set_prec, set_stop, silent}
+use Rattle.machine_laws.specs.machine.Call.{accept, answering, call, perform, settling}
+use Rattle.machine_laws.specs.machine.Kinds.{ALLOCATE, CLEAR, FLUSH, FREE, Kind, LOCK, READ, RESET, SETPREC, START, STOP, FINISH, PERVOL, WAITCYCLE, UNKNOWN, UPDATE, WRITE, allocates, kind}
+use Rattle.machine_laws.specs.machine.Refusals.{Refusal, accepted, bad_map, bad_maps, refusal, refused}
+use Rattle.machine_laws.specs.machine.Settling.{settle}
+use Rattle.machine_laws.specs.machine.Sound.{sound, sound_lock}
+use Rattle.machine_laws.proofs.machine.Tests.{and_left, and_right, by_test, if_elim, or_named, test_false, test_true}
 use Rattle.machine_laws.proofs.Lists.{all_any, keep_each}
 use Rattle.machine_laws.proofs.Maps.{bit_of, meets_zero, minus-apart}
-use Rattle.machine.proofs.Steps.{first_none}
+use Rattle.machine_laws.proofs.machine.Steps.{first_none}
 use Rattle.machine_laws.proofs.Refusals.{refuse_same}
 use Rattle.machine_laws.proofs.Sound.{parts}
 use Rattle.machine_laws.specs.Settling.{AtRest}
@@ -105,7 +105,7 @@ module _ (c : Call) (s : State) (a : Absent c.key s.channels) where
       let x = not (eqb l.map 0) in
       let y = ltb l.map (2 ^ length s.channels) in
       let z = not (eqb l.key 0) in
-      Rattle.machine.proofs.Tests.and_both x (all (λ k. not (is_empty k)) ls) (and_left x y (and_left (x && y) z (and_left (x && y && z) _ (and_left (sound_lock s.channels l) (all (sound_lock s.channels) ls) t))))
+      Rattle.machine_laws.proofs.machine.Tests.and_both x (all (λ k. not (is_empty k)) ls) (and_left x y (and_left (x && y) z (and_left (x && y && z) _ (and_left (sound_lock s.channels l) (all (sound_lock s.channels) ls) t))))
       (locks-full ls (and_right (sound_lock s.channels l) (all (sound_lock s.channels) ls) t))
 
   free_same : T (all (sound_lock s.channels) s.locks) → (do_free c s).next ≡ s

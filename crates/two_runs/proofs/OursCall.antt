@@ -10,17 +10,17 @@ use native.Mathlib.Omega.{arith}
 use lib.Dec.{T, eqb, eqb→eq, leb, leb→le, ltb}
 use lib.ListN.{length, length-map}
 use Rattle.std.specs.Prelude.{if◌then◌else◌}
-use Rattle.machine.specs.Lists.{all, among}
-use Rattle.machine.specs.State.{ABORT, CLOSE, COMMAND, Call, EVENT, Event, OPEN, Op, State}
-use Rattle.machine.specs.Maps.{at, lowest}
-use Rattle.machine.specs.Commands.{do_abort, do_event, done, finished, flushed, reset, same, set_stop, silent}
-use Rattle.machine.specs.Call.{accept, answering, call, perform, settling}
-use Rattle.machine.specs.Kinds.{ALLOCATE, CLEAR, FLUSH, FREE, Kind, LOCK, READ, RESET, SETPREC, START, STOP, FINISH, PERVOL, WAITCYCLE, UNKNOWN, UPDATE, WRITE, allocates, kind, unknown}
-use Rattle.machine.specs.Refusals.{Refusal, accepted, bad_map, bad_maps, refusal, refuse, refused}
-use Rattle.machine.specs.Sound.{sound}
-use Rattle.machine.proofs.Tests.{and_left, and_right, by_test, test_false, test_true}
+use Rattle.machine_laws.specs.machine.Lists.{all, among}
+use Rattle.machine_laws.specs.machine.State.{ABORT, CLOSE, COMMAND, Call, EVENT, Event, OPEN, Op, State}
+use Rattle.machine_laws.specs.machine.Maps.{at, lowest}
+use Rattle.machine_laws.specs.machine.Commands.{do_abort, do_event, done, finished, flushed, reset, same, set_stop, silent}
+use Rattle.machine_laws.specs.machine.Call.{accept, answering, call, perform, settling}
+use Rattle.machine_laws.specs.machine.Kinds.{ALLOCATE, CLEAR, FLUSH, FREE, Kind, LOCK, READ, RESET, SETPREC, START, STOP, FINISH, PERVOL, WAITCYCLE, UNKNOWN, UPDATE, WRITE, allocates, kind, unknown}
+use Rattle.machine_laws.specs.machine.Refusals.{Refusal, accepted, bad_map, bad_maps, refusal, refuse, refused}
+use Rattle.machine_laws.specs.machine.Sound.{sound}
+use Rattle.machine_laws.proofs.machine.Tests.{and_left, and_right, by_test, test_false, test_true}
 use Rattle.machine_laws.proofs.Refusals.{refuse_same}
-use Rattle.machine.proofs.Steps.{first_none}
+use Rattle.machine_laws.proofs.machine.Steps.{first_none}
 use Rattle.two_runs.specs.TwoRuns.{Party, holds, mask, may_send, on_k}
 use Rattle.two_runs.specs.Core.{may_also, of_party}
 use Rattle.two_runs.proofs.Part.{Ours, Ready, allowed, allowed-kind, project, project_out}

@@ -6,11 +6,11 @@ use mathlib.Core.Path.{◌∙◌, ◌≡◌, ap, ap₂, refl}
 use mathlib.Core.Bool.{Bool, ◌&&◌, ◌||◌, false, not, true}
 use mathlib.Core.List.{List, [], ◌∷◌, map}
 use lib.Dec.{T, eqb, leb}
-use Rattle.machine.specs.Numbers.{synced}
-use Rattle.machine.specs.State.{Call, Channel, Outcome, State, Write}
-use Rattle.machine.specs.Maps.{bit, half, named, odd}
-use Rattle.machine.specs.Commands.{do_finish, do_pervol, each, each_change, cut_fronts, finished, front_replies, in_progress, matching, on_front, period_in, playing, remember_finish, remember_tone, set_tone, volume_in}
-use Rattle.machine.proofs.Tests.{and_left, and_right, by_test, if_elim, or_named, test_false, test_true}
+use Rattle.machine_laws.specs.machine.Numbers.{synced}
+use Rattle.machine_laws.specs.machine.State.{Call, Channel, Outcome, State, Write}
+use Rattle.machine_laws.specs.machine.Maps.{bit, half, named, odd}
+use Rattle.machine_laws.specs.machine.Commands.{do_finish, do_pervol, each, each_change, cut_fronts, finished, front_replies, in_progress, matching, on_front, period_in, playing, remember_finish, remember_tone, set_tone, volume_in}
+use Rattle.machine_laws.proofs.machine.Tests.{and_left, and_right, by_test, if_elim, or_named, test_false, test_true}
 use Rattle.machine_laws.proofs.KeepingCalls.{in_progress-named}
 use Rattle.two_runs.specs.TwoRuns.{Party, holds, mask}
 use Rattle.two_runs.specs.Part.{fitting, our_write}

@@ -8,12 +8,12 @@ use mathlib.Core.List.{List, [], ◌++◌, ◌∷◌, map}
 use lib.Dec.{T, T_not, eqb, lt→ltb, ltb}
 use lib.ListN.{length, length-map}
 use Rattle.std.specs.Prelude.{if◌then◌else◌}
-use Rattle.machine.specs.Lists.{all, any, keep}
-use Rattle.machine.specs.State.{Call, Channel, Lock, Reply, State, free}
-use Rattle.machine.specs.Maps.{bit, change, half, meets, minus, named, odd}
-use Rattle.machine.specs.Granting.{cut, dropped, on_channels}
-use Rattle.machine.specs.Commands.{cleared, do_free, each, ended, finished, freed, freeing, freeing_replies, is_empty, matching}
-use Rattle.machine.proofs.Tests.{and_both, and_left, and_right, by_test, if_elim, or_named, or_from, test_false, test_true}
+use Rattle.machine_laws.specs.machine.Lists.{all, any, keep}
+use Rattle.machine_laws.specs.machine.State.{Call, Channel, Lock, Reply, State, free}
+use Rattle.machine_laws.specs.machine.Maps.{bit, change, half, meets, minus, named, odd}
+use Rattle.machine_laws.specs.machine.Granting.{cut, dropped, on_channels}
+use Rattle.machine_laws.specs.machine.Commands.{cleared, do_free, each, ended, finished, freed, freeing, freeing_replies, is_empty, matching}
+use Rattle.machine_laws.proofs.machine.Tests.{and_both, and_left, and_right, by_test, if_elim, or_named, or_from, test_false, test_true}
 use Rattle.machine_laws.proofs.Keeping.{named_away}
 use Rattle.machine_laws.proofs.Lists.{all_kept, keep_swap}
 use Rattle.machine_laws.proofs.Maps.{half-bit, length-change, minus_lt, odd-bit}

@@ -13,15 +13,15 @@ use mathlib.Core.Path.{◌≡◌, refl, subst}
 use mathlib.Core.Bool.{Bool, ◌&&◌, ◌||◌, false, not, true}
 use mathlib.Core.List.{List, [], ◌∷◌, map}
 use lib.Dec.{T, T_not, eqb, eqb→eq, leb}
-use Rattle.machine.specs.Numbers.{ADCMD_ALLOCATE, ADCMD_FREE, ADCMD_SETPREC}
+use Rattle.machine_laws.specs.machine.Numbers.{ADCMD_ALLOCATE, ADCMD_FREE, ADCMD_SETPREC}
 use Rattle.std.specs.Prelude.{if◌then◌else◌}
-use Rattle.machine.specs.Lists.{all, among}
-use Rattle.machine.specs.State.{COMMAND, Call, Channel, Lock, Op, Outcome, Reply, State, free}
-use Rattle.machine.specs.Commands.{matching}
-use Rattle.machine.specs.Kinds.{ALLOCATE, CLEAR, FLUSH, FREE, Kind, LOCK, READ, RESET, SETPREC, START, STOP, FINISH, PERVOL, WAITCYCLE, UNKNOWN, UPDATE, WRITE, kind}
-use Rattle.machine.specs.Refusals.{accepted, refusal}
-use Rattle.machine.specs.Sound.{sound}
-use Rattle.machine.proofs.Tests.{and_left, and_right, by_test, if_elim, or_named, test_false, test_true}
+use Rattle.machine_laws.specs.machine.Lists.{all, among}
+use Rattle.machine_laws.specs.machine.State.{COMMAND, Call, Channel, Lock, Op, Outcome, Reply, State, free}
+use Rattle.machine_laws.specs.machine.Commands.{matching}
+use Rattle.machine_laws.specs.machine.Kinds.{ALLOCATE, CLEAR, FLUSH, FREE, Kind, LOCK, READ, RESET, SETPREC, START, STOP, FINISH, PERVOL, WAITCYCLE, UNKNOWN, UPDATE, WRITE, kind}
+use Rattle.machine_laws.specs.machine.Refusals.{accepted, refusal}
+use Rattle.machine_laws.specs.machine.Sound.{sound}
+use Rattle.machine_laws.proofs.machine.Tests.{and_left, and_right, by_test, if_elim, or_named, test_false, test_true}
 use Rattle.machine_laws.proofs.Lists.{keep_twice}
 use Rattle.two_runs.specs.TwoRuns.{Party, avoids, holds, keeps_floor, mask, may_send, modest, own_replies, selected, sets, view, waiters_of}
 unfoldable pub use Rattle.two_runs.specs.Part.{own_locks, project}

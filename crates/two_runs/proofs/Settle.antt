@@ -9,17 +9,17 @@ use mathlib.Core.List.{List, [], ◌++◌, ◌∷◌, map}
 use native.Mathlib.Omega.{arith}
 use lib.Dec.{T, eqb, eqb→eq, leb, leb→le, ltb}
 use lib.ListN.{length, length-map}
-use Rattle.machine.specs.Numbers.{ALLOCFAILED, CHANNELSTOLEN}
+use Rattle.machine_laws.specs.machine.Numbers.{ALLOCFAILED, CHANNELSTOLEN}
 use Rattle.std.specs.Prelude.{if◌then◌else◌}
-use Rattle.machine.specs.Lists.{all, any, keep, among}
-use Rattle.machine.specs.State.{Channel, Lock, Reply, Request, State}
-use Rattle.machine.specs.Maps.{at, change, lowest, meets, named}
-use Rattle.machine.specs.Choosing.{Look, fails, grants, held, look}
-use Rattle.machine.specs.Granting.{aborted_in, cut, cut_replies, dropped, given_up, granted, key_for, on_channels, taken}
-use Rattle.machine.specs.Commands.{ended}
-use Rattle.machine.specs.Settling.{Found, Settled, Walk, go_on, nobody, on_look, replied, rounds, saying, settle, somebody, staying, walk, walked}
-use Rattle.machine.specs.Sound.{sound_lock, sound_waiter}
-use Rattle.machine.proofs.Tests.{and_both, and_left, and_right, by_test, if_elim, test_false, test_true}
+use Rattle.machine_laws.specs.machine.Lists.{all, any, keep, among}
+use Rattle.machine_laws.specs.machine.State.{Channel, Lock, Reply, Request, State}
+use Rattle.machine_laws.specs.machine.Maps.{at, change, lowest, meets, named}
+use Rattle.machine_laws.specs.machine.Choosing.{Look, fails, grants, held, look}
+use Rattle.machine_laws.specs.machine.Granting.{aborted_in, cut, cut_replies, dropped, given_up, granted, key_for, on_channels, taken}
+use Rattle.machine_laws.specs.machine.Commands.{ended}
+use Rattle.machine_laws.specs.machine.Settling.{Found, Settled, Walk, go_on, nobody, on_look, replied, rounds, saying, settle, somebody, staying, walk, walked}
+use Rattle.machine_laws.specs.machine.Sound.{sound_lock, sound_waiter}
+use Rattle.machine_laws.proofs.machine.Tests.{and_both, and_left, and_right, by_test, if_elim, test_false, test_true}
 use Rattle.machine_laws.specs.Choosing.{Spares}
 use Rattle.machine_laws.proofs.Choosing.{look_spares}
 use Rattle.machine_laws.proofs.Lists.{all_keep}

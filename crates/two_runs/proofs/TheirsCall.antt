@@ -8,22 +8,22 @@ use mathlib.Core.Bool.{Bool, ◌&&◌, ◌||◌, false, not, true}
 use native.Mathlib.Omega.{arith}
 use lib.Dec.{T, eqb, leb, leb→le, nleb→lt}
 use lib.ListN.{length}
-use Rattle.machine.specs.Numbers.{ALLOCFAILED}
-use Rattle.machine.specs.Lists.{all, keep}
-use Rattle.machine.specs.State.{Channel, ABORT, CLOSE, COMMAND, Call, EVENT, Event, OPEN, Op, Outcome, State}
-use Rattle.machine.specs.Maps.{at, change, half, lowest, odd}
-use Rattle.machine.specs.Choosing.{look}
-use Rattle.machine.specs.Desks.{foreign}
-use Rattle.machine.specs.Commands.{do_abort, do_close, do_event, do_read, done, each, each_change, matches, matching, flushed, reset, same, set_prec, set_stop, silent}
-use Rattle.machine.specs.Allocating.{do_allocate, do_open, opening}
-use Rattle.machine.specs.Call.{accept, answering, call, open_settling, perform, settling}
-use Rattle.machine.specs.Kinds.{ALLOCATE, CLEAR, FLUSH, FREE, Kind, LOCK, READ, RESET, SETPREC, START, STOP, FINISH, PERVOL, WAITCYCLE, UNKNOWN, UPDATE, WRITE, kind}
-use Rattle.machine.specs.Refusals.{Refusal, accepted, bad_map, refusal, refuse, refused}
-use Rattle.machine.specs.Settling.{settle}
-use Rattle.machine.proofs.Tests.{and_left, and_right, if_elim}
+use Rattle.machine_laws.specs.machine.Numbers.{ALLOCFAILED}
+use Rattle.machine_laws.specs.machine.Lists.{all, keep}
+use Rattle.machine_laws.specs.machine.State.{Channel, ABORT, CLOSE, COMMAND, Call, EVENT, Event, OPEN, Op, Outcome, State}
+use Rattle.machine_laws.specs.machine.Maps.{at, change, half, lowest, odd}
+use Rattle.machine_laws.specs.machine.Choosing.{look}
+use Rattle.machine_laws.specs.machine.Desks.{foreign}
+use Rattle.machine_laws.specs.machine.Commands.{do_abort, do_close, do_event, do_read, done, each, each_change, matches, matching, flushed, reset, same, set_prec, set_stop, silent}
+use Rattle.machine_laws.specs.machine.Allocating.{do_allocate, do_open, opening}
+use Rattle.machine_laws.specs.machine.Call.{accept, answering, call, open_settling, perform, settling}
+use Rattle.machine_laws.specs.machine.Kinds.{ALLOCATE, CLEAR, FLUSH, FREE, Kind, LOCK, READ, RESET, SETPREC, START, STOP, FINISH, PERVOL, WAITCYCLE, UNKNOWN, UPDATE, WRITE, kind}
+use Rattle.machine_laws.specs.machine.Refusals.{Refusal, accepted, bad_map, refusal, refuse, refused}
+use Rattle.machine_laws.specs.machine.Settling.{settle}
+use Rattle.machine_laws.proofs.machine.Tests.{and_left, and_right, if_elim}
 use Rattle.machine_laws.proofs.Refusals.{first_past}
 use Rattle.machine_laws.proofs.Choosing.{look_spares}
-use Rattle.machine.proofs.Steps.{first_none}
+use Rattle.machine_laws.proofs.machine.Steps.{first_none}
 use Rattle.machine_laws.proofs.Sound.{parts, in_use_few}
 use Rattle.two_runs.specs.TwoRuns.{Party, avoids, holds, modest, on_k, own_replies, peeks}
 use Rattle.two_runs.proofs.Part.{Ready, Theirs, modest-kind, modestly}

@@ -6,11 +6,11 @@ use mathlib.Core.Path.{◌≡◌, refl}
 use mathlib.Core.Bool.{Bool, false, not}
 use mathlib.Core.List.{List, [], ◌∷◌}
 use lib.Dec.{T, eqb}
-use Rattle.machine.specs.Numbers.{synced}
-use Rattle.machine.specs.Lists.{all}
-use Rattle.machine.specs.State.{Call, Channel, State, Write}
-use Rattle.machine.specs.Commands.{do_finish, do_pervol, each, each_change, finished, front_replies, in_progress, matching, on_first, on_front, period_in, playing, remember_finish, remember_tone, set_tone, volume_in}
-use Rattle.machine.proofs.Tests.{and_both, and_left, and_right, if_elim}
+use Rattle.machine_laws.specs.machine.Numbers.{synced}
+use Rattle.machine_laws.specs.machine.Lists.{all}
+use Rattle.machine_laws.specs.machine.State.{Call, Channel, State, Write}
+use Rattle.machine_laws.specs.machine.Commands.{do_finish, do_pervol, each, each_change, finished, front_replies, in_progress, matching, on_first, on_front, period_in, playing, remember_finish, remember_tone, set_tone, volume_in}
+use Rattle.machine_laws.proofs.machine.Tests.{and_both, and_left, and_right, if_elim}
 use Rattle.machine_laws.proofs.KeepingCalls.{in_progress-named}
 use Rattle.two_runs.specs.TwoRuns.{Party, holds}
 use Rattle.two_runs.specs.Part.{their_write}

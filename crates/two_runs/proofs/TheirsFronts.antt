@@ -7,12 +7,12 @@ use mathlib.Core.Bool.{Bool, ◌||◌, not, true}
 use mathlib.Core.List.{List, [], ◌∷◌, map}
 use lib.Dec.{T, leb}
 use lib.ListN.{take}
-use Rattle.machine.specs.Lists.{all}
-use Rattle.machine.specs.State.{Channel, State, Write}
-use Rattle.machine.specs.Maps.{half, named, odd}
-use Rattle.machine.specs.Granting.{aborted_in, cut_replies}
-use Rattle.machine.specs.Commands.{back, cut_fronts, front_gone, front_only, front_replies}
-use Rattle.machine.proofs.Tests.{and_both, and_left, and_right, by_test, test_false, test_true}
+use Rattle.machine_laws.specs.machine.Lists.{all}
+use Rattle.machine_laws.specs.machine.State.{Channel, State, Write}
+use Rattle.machine_laws.specs.machine.Maps.{half, named, odd}
+use Rattle.machine_laws.specs.machine.Granting.{aborted_in, cut_replies}
+use Rattle.machine_laws.specs.machine.Commands.{back, cut_fronts, front_gone, front_only, front_replies}
+use Rattle.machine_laws.proofs.machine.Tests.{and_both, and_left, and_right, by_test, test_false, test_true}
 use Rattle.two_runs.specs.TwoRuns.{Party, holds, own_replies}
 use Rattle.two_runs.specs.Part.{fitting, our_write, their_write}
 use Rattle.two_runs.proofs.Part.{project}

@@ -12,23 +12,23 @@ use native.Mathlib.Omega.{arith}
 use lib.Dec.{T, eqb, eqb→eq, leb, leb→le, le→leb, ltb, ltb→lt, not_T}
 use lib.ListN.{length, length-map}
 use borrow.Author.Tests.{lt-ltb}
-use Rattle.machine.specs.Numbers.{REQUESTS, CYCLES, BADID, OTHERDESK, NONE}
+use Rattle.machine_laws.specs.machine.Numbers.{REQUESTS, CYCLES, BADID, OTHERDESK, NONE}
 use Rattle.std.specs.Prelude.{if◌then◌else◌}
-use Rattle.machine.specs.Lists.{all, keep}
-use Rattle.machine.specs.State.{ABORT, CLOSE, COMMAND, Call, Channel, EVENT, Event, Lock, OPEN, Op, Outcome, State}
-use Rattle.machine.specs.Maps.{bit, half, lowest, odd}
-use Rattle.machine.specs.Choosing.{Look, fails, grants, held, look}
-use Rattle.machine.specs.Desks.{foreign}
-use Rattle.machine.specs.Commands.{cycles_in, done, do_abort, do_close, do_event, do_finish, do_free, do_lock, do_pervol, do_read, do_waitcycle}
-use Rattle.machine.specs.Commands.{do_write, each, each_change, finished, silent}
-use Rattle.machine.specs.Allocating.{allocating, do_allocate, do_open, opening, waits}
-use Rattle.machine.specs.Call.{accept, answering, call, in_range, open_settling, perform, settling}
-use Rattle.machine.specs.Kinds.{ALLOCATE, CLEAR, FLUSH, FREE, Kind, LOCK, READ, RESET, SETPREC, START, STOP, FINISH, PERVOL, WAITCYCLE}
-use Rattle.machine.specs.Kinds.{UNKNOWN, UPDATE, WRITE, kind}
-use Rattle.machine.specs.Log.{opened}
-use Rattle.machine.specs.Refusals.{Refusal, accepted, bad_list, bad_map, bad_maps, bad_numbers, first, refusal, refuse, refused}
-use Rattle.machine.specs.Sound.{sound}
-use Rattle.machine.proofs.Tests.{and_both, and_left, and_right, by_test, if_elim, test_false, test_true}
+use Rattle.machine_laws.specs.machine.Lists.{all, keep}
+use Rattle.machine_laws.specs.machine.State.{ABORT, CLOSE, COMMAND, Call, Channel, EVENT, Event, Lock, OPEN, Op, Outcome, State}
+use Rattle.machine_laws.specs.machine.Maps.{bit, half, lowest, odd}
+use Rattle.machine_laws.specs.machine.Choosing.{Look, fails, grants, held, look}
+use Rattle.machine_laws.specs.machine.Desks.{foreign}
+use Rattle.machine_laws.specs.machine.Commands.{cycles_in, done, do_abort, do_close, do_event, do_finish, do_free, do_lock, do_pervol, do_read, do_waitcycle}
+use Rattle.machine_laws.specs.machine.Commands.{do_write, each, each_change, finished, silent}
+use Rattle.machine_laws.specs.machine.Allocating.{allocating, do_allocate, do_open, opening, waits}
+use Rattle.machine_laws.specs.machine.Call.{accept, answering, call, in_range, open_settling, perform, settling}
+use Rattle.machine_laws.specs.machine.Kinds.{ALLOCATE, CLEAR, FLUSH, FREE, Kind, LOCK, READ, RESET, SETPREC, START, STOP, FINISH, PERVOL, WAITCYCLE}
+use Rattle.machine_laws.specs.machine.Kinds.{UNKNOWN, UPDATE, WRITE, kind}
+use Rattle.machine_laws.specs.machine.Log.{opened}
+use Rattle.machine_laws.specs.machine.Refusals.{Refusal, accepted, bad_list, bad_map, bad_maps, bad_numbers, first, refusal, refuse, refused}
+use Rattle.machine_laws.specs.machine.Sound.{sound}
+use Rattle.machine_laws.proofs.machine.Tests.{and_both, and_left, and_right, by_test, if_elim, test_false, test_true}
 use Rattle.machine_laws.proofs.Maps.{half-bit, odd-bit}
 use Rattle.machine_laws.proofs.Sound.{parts}
 use Rattle.machine_laws.proofs.Rooms.{room_unread}

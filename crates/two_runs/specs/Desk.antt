@@ -13,11 +13,11 @@
 --   RunOfDesk d p s xs    all that is asked of a run
 --   Demand3Desk          two runs with the same calls of the desk show it the same
 use Rattle.std.specs.Prelude.{ℕ, ◌≡◌, Bool, true, not, ◌||◌, ◌⊎◌, List, [], ◌∷◌, T, eqb}
-use Rattle.machine.specs.Lists.{all}
-use Rattle.machine.specs.State.{State, Call, Op, OPEN, CLOSE, ABORT, EVENT, COMMAND}
-use Rattle.machine.specs.Desks.{desk_of, foreign}
-use Rattle.machine.specs.Kinds.{kind}
-use Rattle.machine.specs.Call.{call}
+use Rattle.machine_laws.specs.machine.Lists.{all}
+use Rattle.machine_laws.specs.machine.State.{State, Call, Op, OPEN, CLOSE, ABORT, EVENT, COMMAND}
+use Rattle.machine_laws.specs.machine.Desks.{desk_of, foreign}
+use Rattle.machine_laws.specs.machine.Kinds.{kind}
+use Rattle.machine_laws.specs.machine.Call.{call}
 use Rattle.two_runs.specs.TwoRuns.{Party, Start, Step, our, their, on_k, peeks, modest, ByK, calls, lends, in_bytes, own, seen}
 use Rattle.two_runs.specs.Core.{misses}
 

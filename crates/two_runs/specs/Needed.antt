@@ -7,7 +7,7 @@
 --   Needs x                two runs that keep to all premises but x, with the same calls of the K party, of which it sees unlike things
 use Rattle.std.specs.Prelude.{ℕ, ◌≡◌, Bool, ◌&&◌, false, not, true, List, [], ◌++◌, ◌∷◌, T, eqb, length}
 use Rattle.std.proofs.Math.Option.{Option, none, some}
-use Rattle.machine.specs.State.{Channel, Lock, State, Write}
+use Rattle.machine_laws.specs.machine.State.{Channel, Lock, State, Write}
 use Rattle.two_runs.specs.TwoRuns.{Party, Seen, Step, answered, own, owning, received, seen}
 use Rattle.two_runs.specs.Premises.{Premise, runs_but, starts_but}
 

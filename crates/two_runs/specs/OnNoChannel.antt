@@ -5,10 +5,10 @@
 --   Absent k cs    the key is on no channel; key 0 never is
 --   Harmless o     a command, and not ALLOCATE
 use Rattle.std.specs.Prelude.{ℕ, not, List, T}
-use Rattle.machine.specs.Lists.{all}
-use Rattle.machine.specs.State.{ABORT, CLOSE, COMMAND, Channel, EVENT, OPEN, Op}
-use Rattle.machine.specs.Commands.{matches}
-use Rattle.machine.specs.Kinds.{allocates, kind}
+use Rattle.machine_laws.specs.machine.Lists.{all}
+use Rattle.machine_laws.specs.machine.State.{ABORT, CLOSE, COMMAND, Channel, EVENT, OPEN, Op}
+use Rattle.machine_laws.specs.machine.Commands.{matches}
+use Rattle.machine_laws.specs.machine.Kinds.{allocates, kind}
 
 abbrev pub Absent : ℕ → List Channel → Type 0
 Absent k cs = T (all (λ c. not (matches k c)) cs)

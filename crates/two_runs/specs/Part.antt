@@ -8,8 +8,8 @@
 --   fitting p c        a channel with K is at P or more and has writes of the party's alone; another has none of them
 --   lower p r          a waiting allocation is at most P, without K and without an id of the party's
 use Rattle.std.specs.Prelude.{List, [], ◌∷◌, map, Bool, ◌&&◌, not, eqb, leb, if◌then◌else◌}
-use Rattle.machine.specs.Lists.{keep, all}
-use Rattle.machine.specs.State.{Lock, State, Channel, Request, Write}
+use Rattle.machine_laws.specs.machine.Lists.{keep, all}
+use Rattle.machine_laws.specs.machine.State.{Lock, State, Channel, Request, Write}
 use Rattle.two_runs.specs.TwoRuns.{Party, mask, holds}
 
 unfoldable pub own_locks : Party → List Lock → List Lock

@@ -8,10 +8,10 @@
 --   by_kbut, by_others_but x p s c    all that is asked of a call of either kind, but for x
 --   keeps_but x p s xs, runs_but x p s xs   all that `Keeps` and `Run` ask, but for x
 use Rattle.std.specs.Prelude.{ℕ, Bool, ◌&&◌, ◌||◌, not, true, List, [], ◌∷◌, eqb}
-use Rattle.machine.specs.Lists.{all, among, any}
-use Rattle.machine.specs.State.{Call, State}
-use Rattle.machine.specs.Call.{call}
-use Rattle.machine.specs.Sound.{sound}
+use Rattle.machine_laws.specs.machine.Lists.{all, among, any}
+use Rattle.machine_laws.specs.machine.State.{Call, State}
+use Rattle.machine_laws.specs.machine.Call.{call}
+use Rattle.machine_laws.specs.machine.Sound.{sound}
 use Rattle.two_runs.specs.TwoRuns.{Party, Step, at_least, at_most, avoids, calls, carries, elsewhere, holds, in_bytes, keeps_floor, lends, may_send, modest, of_k, our, their, under}
 
 pub data Premise : Type 0 where

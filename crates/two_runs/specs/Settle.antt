@@ -6,10 +6,10 @@
 --   FoundCalm p cs f       whom a walk grants takes no channel with K, and is none of the party
 --   WalkCalm p cs n ls w   what a walk from the locks ls does: such a grant or none, no reply to the party, and its locks as they were
 use Rattle.std.specs.Prelude.{◌^◌, ◌≤◌, ℕ, ◌≡◌, Bool, ◌&&◌, not, List, [], T, eqb, ltb, length, if◌then◌else◌}
-use Rattle.machine.specs.Lists.{all}
-use Rattle.machine.specs.State.{Channel, Lock}
-use Rattle.machine.specs.Maps.{named}
-use Rattle.machine.specs.Settling.{Found, Walk, nobody, somebody}
+use Rattle.machine_laws.specs.machine.Lists.{all}
+use Rattle.machine_laws.specs.machine.State.{Channel, Lock}
+use Rattle.machine_laws.specs.machine.Maps.{named}
+use Rattle.machine_laws.specs.machine.Settling.{Found, Walk, nobody, somebody}
 use Rattle.two_runs.specs.TwoRuns.{Party, holds, own_replies}
 use Rattle.two_runs.specs.Part.{own_locks, lower}
 

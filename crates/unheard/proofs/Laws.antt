@@ -4,8 +4,8 @@ use mathlib.Core.Path.{◌≡◌, refl, ap, sym, ◌∙◌}
 use mathlib.Core.List.{List}
 use mathlib.Core.Option.{none}
 use lib.ListN.{length}
-use Rattle.machine.specs.Commands.{done}
-use Rattle.machine.specs.Log.{unhex, frame, answer_line}
+use Rattle.answers.specs.machine.Commands.{done}
+use Rattle.answers.specs.machine.Log.{unhex, frame, answer_line}
 use Rattle.memory.specs.Splice.{splice}
 use Rattle.board.specs.declared.Board.{Board}
 use Rattle.answers.specs.declared.Answer.{Answer}

@@ -1,1 +1,3 @@
 pub mod Unheard
+pub use Rattle.frames.specs as frames
+pub use Rattle.lines.specs as lines

@@ -8,10 +8,10 @@
 --   Unheard s l out f out'          its promise: that output, and the state stays
 use Rattle.std.specs.Prelude.{ℕ, ◌≡◌, List, length}
 use Rattle.std.proofs.Math.Option.{Option, none, some}
-use Rattle.machine.specs.Numbers.{MALFORMED, UNSOUND, NONE}
-use Rattle.machine.specs.State.{Call}
-use Rattle.machine.specs.Commands.{done}
-use Rattle.machine.specs.Log.{unhex, frame, answer_line}
+use Rattle.answers.specs.machine.Numbers.{MALFORMED, UNSOUND, NONE}
+use Rattle.answers.specs.machine.State.{Call}
+use Rattle.answers.specs.machine.Commands.{done}
+use Rattle.answers.specs.machine.Log.{unhex, frame, answer_line}
 use Rattle.memory.specs.Splice.{splice}
 use Rattle.board.specs.declared.Board.{Board}
 

@@ -5,7 +5,9 @@
 ghost use Rattle.board.specs.declared.Board.{Board};
 ghost use Rattle.unheard.specs.Unheard.{Dull, Unheard};
 
+pub use frames;
 use frames::Line;
+pub use lines;
 
 // A line that is no frame: 7, map 0, key 0. How many bytes of output there are; the state, whatever it is, stays.
 pub fn malformed(out: &mut [u8; audio::ROOM_SIZE]) -> usize

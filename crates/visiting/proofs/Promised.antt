@@ -11,19 +11,19 @@ use Rattle.machine.specs.State.{Channel as ChannelM, Request, State as StateM}
 use Rattle.machine.specs.Choosing.{Choice, none, chosen, eligible, all_free, costs_less, first_free, cheaper, cheapest, or_else, choose, Look, fails, held, grants, standing, look}
 use Rattle.machine.specs.Maps.{named}
 use Rattle.machine.specs.Granting.{key_for, dropped, granted, taken}
-use Rattle.machine_laws.proofs.Maps.{length-change}
+use Rattle.display.proofs.machine_laws.Maps.{length-change}
 use Rattle.machine.specs.Settling.{replied, settle}
 use Rattle.machine.proofs.Tests.{if_elim, and_left, and_right}
-use Rattle.machine_laws.proofs.Looking.{behind, resume_drops, resume_held, resume-grants}
+use Rattle.display.proofs.machine_laws.Looking.{behind, resume_drops, resume_held, resume-grants}
 use Rattle.display.specs.Looks.{looks}
 use Rattle.display.proofs.Looking.{further_drops, further_held, further-grants}
-use Rattle.store.specs.declared.State.{State}
-use Rattle.store.specs.Store.{struct_of, state_in}
-use Rattle.store.specs.Work.{Ready, Did}
-use Rattle.store.proofs.Store.{held_parts, held_eight, held_next}
+use Rattle.one_request.specs.store.declared.State.{State}
+use Rattle.one_request.specs.store.Store.{struct_of, state_in}
+use Rattle.one_request.specs.store.Work.{Ready, Did}
+use Rattle.one_request.proofs.store.Store.{held_parts, held_eight, held_next}
 use Rattle.lanes.specs.Lanes.{word_of, weights}
 use Rattle.lanes.proofs.Laws.{weights_out}
-use Rattle.waiting.specs.Waiting.{nobody, waiter}
+use Rattle.one_request.specs.waiting.Waiting.{nobody, waiter}
 use Rattle.one_request.specs.OneRequest.{out_at, dropped_replies, stolen, without_locks}
 use Rattle.choosing.specs.declared.Look.{Look as LookC}
 use Rattle.choosing.specs.declared.Look.TheVariants.{Fails}
@@ -31,9 +31,9 @@ use Rattle.choosing.specs.Choosing.{look_in}
 use Rattle.choosing.proofs.Laws.{look_in_of}
 use Rattle.visiting.specs.Visiting.{onward, after_look, replies_to, next_place, is_grant, Looked, Visits, Turned, to_look, SameTurn}
 use Rattle.visiting.specs.declared.Turn.{Turn}
-use Rattle.waiting.proofs.Waiting.{waiter_in}
+use Rattle.one_request.proofs.waiting.Waiting.{waiter_in}
 use Rattle.one_request.proofs.Without.{out_sound}
-use Rattle.waiting.proofs.Finding.{comes-impatient}
+use Rattle.one_request.proofs.waiting.Finding.{comes-impatient}
 use Rattle.visiting.proofs.Turns.{same_behind, fits_behind, onward_at, onward_next, onward_out, out_length, waiter-sound, request_ranges, locks-sound, granted-sound, to_look_at, to_look_next, to_look_out}
 
 -- ---- the chosen map is on the board

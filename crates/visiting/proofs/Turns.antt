@@ -8,8 +8,8 @@ use native.Mathlib.Numerals.{add-one}
 use lib.Dec.{T, leb, ltb, leb→le}
 use lib.ListN.{length, take, drop, get_or, length-append, length-take, length-drop}
 use lib.Seq.{drop-cons, take-suc, take_at, drop_at, length-take-le}
-use Rattle.reply.specs.Replies.{sent}
-use Rattle.reply.proofs.Laws.{sent-append, length-sent}
+use Rattle.one_request.specs.reply.Replies.{sent}
+use Rattle.one_request.proofs.reply.Laws.{sent-append, length-sent}
 use Rattle.machine.specs.Lists.{all}
 use Rattle.machine.specs.State.{Channel as ChannelM, Lock, Request, Reply, State as StateM}
 use Rattle.machine.specs.Maps.{named, meets}
@@ -18,17 +18,17 @@ use Rattle.machine.specs.Granting.{granted}
 use Rattle.machine.specs.Sound.{sound_request, sound_lock, ids, writes_of}
 use Rattle.machine.specs.Settling.{Settled}
 use Rattle.machine.proofs.Tests.{and_left, and_right}
-use Rattle.machine_laws.proofs.Lists.{sub_refl, sub_append, sub_map, sub_keep, sub_all}
-use Rattle.machine_laws.proofs.Keeping.{ids_sub, parts_sub, grant-sound}
-use Rattle.machine_laws.proofs.KeepingSettle.{Unlocked, look_unlocked}
-use Rattle.machine_laws.specs.Looking.{resume}
-use Rattle.machine_laws.proofs.Looking.{behind, resume-waiting}
+use Rattle.display.proofs.machine_laws.Lists.{sub_refl, sub_append, sub_map, sub_keep, sub_all}
+use Rattle.display.proofs.machine_laws.Keeping.{ids_sub, parts_sub, grant-sound}
+use Rattle.display.proofs.machine_laws.KeepingSettle.{Unlocked, look_unlocked}
+use Rattle.display.specs.machine_laws.Looking.{resume}
+use Rattle.display.proofs.machine_laws.Looking.{behind, resume-waiting}
 use Rattle.display.specs.Looks.{further}
 use Rattle.display.proofs.Looking.{further-waiting}
-use Rattle.machine_laws.specs.Sound.{Parts}
-use Rattle.store.specs.declared.State.{State}
-use Rattle.store.specs.Work.{Did}
-use Rattle.waiting.specs.Waiting.{nobody, waiter}
+use Rattle.display.specs.machine_laws.Sound.{Parts}
+use Rattle.one_request.specs.store.declared.State.{State}
+use Rattle.one_request.specs.store.Work.{Did}
+use Rattle.one_request.specs.waiting.Waiting.{nobody, waiter}
 use Rattle.one_request.specs.OneRequest.{out_at, without_locks}
 use Rattle.visiting.specs.Visiting.{onward, to_look, Same}
 use Rattle.one_request.proofs.Without.{out_sound}

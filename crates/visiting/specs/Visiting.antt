@@ -15,16 +15,16 @@ use Rattle.std.specs.Prelude.{ℕ, suc, ◌+◌, ◌-◌, ◌≤◌, ◌<◌, �
 use Rattle.machine.specs.State.{Reply, State}
 use Rattle.machine.specs.Choosing.{Look, fails, held, grants}
 use Rattle.machine.specs.Settling.{Settled, settle}
-use Rattle.machine_laws.specs.Looking.{resume}
+use Rattle.display.specs.machine_laws.Looking.{resume}
 use Rattle.display.specs.Looks.{looks as looks_m, further}
 use Rattle.lanes.specs.Lanes.{weights}
-use Rattle.reply.specs.Replies.{sent}
+use Rattle.one_request.specs.reply.Replies.{sent}
 use Rattle.choosing.specs.declared.Look.{Look as LookC}
 use Rattle.choosing.specs.Choosing.{look_of}
-use Rattle.store.specs.declared.State.{State as Struct}
-use Rattle.store.specs.Store.{state_in, Held}
-use Rattle.store.specs.Work.{Ready, Did}
-use Rattle.waiting.specs.Waiting.{comes, waiter, look_at}
+use Rattle.one_request.specs.store.declared.State.{State as Struct}
+use Rattle.one_request.specs.store.Store.{state_in, Held}
+use Rattle.one_request.specs.store.Work.{Ready, Did}
+use Rattle.one_request.specs.waiting.Waiting.{comes, waiter, look_at}
 use Rattle.one_request.specs.OneRequest.{out_at, dropped_replies, granted_at, granted_replies, stolen, without_locks}
 use Rattle.visiting.specs.declared.Turn.{Turn}
 

@@ -5,13 +5,17 @@
 ghost use Rattle.std.specs.Prelude.{◌≡◌, ◌+◌, ◌<◌, true, false};
 ghost use Rattle.machine.specs.Choosing.{fails as fails_m, held, grants};
 ghost use Rattle.lanes.specs.Lanes.{word_of};
-ghost use Rattle.store.specs.Store.{state_in, Held};
-ghost use Rattle.waiting.specs.Waiting.{waiter};
+ghost use Rattle.one_request.specs.store.Store.{state_in, Held};
+ghost use Rattle.one_request.specs.waiting.Waiting.{waiter};
 ghost use Rattle.visiting.specs.Visiting.{Looked, Visits, Turned};
 
+pub use choosing;
 use choosing::Look;
-use one_request::Settled;
-use store::State;
+pub use choosing::standing;
+pub use lanes;
+use one_request::store::State;
+pub use one_request::{reply, store, waiting};
+use one_request::{Settled, table};
 
 // One look: what became of the request at place i. `next` is the place to look at next; after a grant the walk starts again. `left` is the
 // word of who left the waiting list: a 1 in the lane of each channel that it named.

@@ -2,13 +2,15 @@
 #![tactic(auto)]
 
 ghost use Rattle.std.specs.Prelude.{◌≡◌, ◌+◌, ◌≤◌, ◌<◌, ltb, length, get_or, if◌then◌else◌};
-ghost use Rattle.memory.specs.Splice.{block};
+ghost use Rattle.table.specs.memory.Splice.{block};
 ghost use Rattle.table.specs.Entry.{wait_entry};
-ghost use Rattle.machine.specs.Lists.{all};
+ghost use Rattle.store.specs.machine.Lists.{all};
 ghost use Rattle.store.specs.Store.{request_in};
 ghost use Rattle.entries.specs.Entries.{same as same_m, wait_test};
 
+pub use open_shape;
 use store::State;
+use table::memory;
 
 // Whether each combination is at most the highest map.
 fn low(combos: &[u8], top: u8) -> bool

@@ -5,12 +5,12 @@ use mathlib.Core.Bool.{Bool, true, false}
 use mathlib.Core.List.{List}
 use native.Mathlib.Omega.{arith}
 use lib.Dec.{ltb, ltb→lt, nltb→le}
-use Rattle.machine.specs.State.{Channel, Request}
-use Rattle.machine.specs.Choosing.{Look as LookM, fails, held, grants, look}
-use Rattle.machine.proofs.Tests.{by_test}
+use Rattle.store.specs.machine.State.{Channel, Request}
+use Rattle.store.specs.machine.Choosing.{Look as LookM, fails, held, grants, look}
+use Rattle.store.proofs.machine.Tests.{by_test}
 use Rattle.queue.specs.declared.Queue.{Queue}
-use Rattle.standing.specs.declared.Standing.{Standing}
-use Rattle.standing.specs.Standing.{Stood}
+use Rattle.choosing.specs.standing.declared.Standing.{Standing}
+use Rattle.choosing.specs.standing.Standing.{Stood}
 use Rattle.choosing.specs.declared.Look.{Look}
 use Rattle.choosing.specs.declared.Look.TheVariants.{Fails}
 use Rattle.choosing.specs.Choosing.{look_of, look_in}

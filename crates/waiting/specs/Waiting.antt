@@ -10,9 +10,9 @@
 --   Readable q tb the entries of a queue's ids can be read
 --   Finds ..      the promise of `next`: from a place on nothing comes of the requests passed, and something of the one found
 use Rattle.std.specs.Prelude.{ℕ, ◌≤◌, ◌<◌, max, ◌≡◌, Bool, true, false, List, [], length, get_or}
-use Rattle.machine.specs.State.{Channel, Request, State}
-use Rattle.machine.specs.Choosing.{Look, fails, held, grants, look}
-use Rattle.memory.specs.Splice.{block}
+use Rattle.store.specs.machine.State.{Channel, Request, State}
+use Rattle.store.specs.machine.Choosing.{Look, fails, held, grants, look}
+use Rattle.table.specs.memory.Splice.{block}
 use Rattle.queue.specs.declared.Queue.{Queue}
 use Rattle.choosing.specs.declared.Look.TheVariants.{Fails}
 use Rattle.choosing.specs.Choosing.{look_of}

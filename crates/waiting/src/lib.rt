@@ -2,14 +2,14 @@
 #![tactic(auto)]
 
 ghost use Rattle.std.specs.Prelude.{◌≡◌, List};
-ghost use Rattle.machine.specs.State.{Channel as ChannelM};
-ghost use Rattle.standing.specs.Standing.{Stood};
+ghost use Rattle.store.specs.machine.State.{Channel as ChannelM};
+ghost use Rattle.choosing.specs.standing.Standing.{Stood};
 ghost use Rattle.choosing.specs.Choosing.{look_in};
 ghost use Rattle.waiting.specs.Waiting.{comes, Readable, Finds};
 
 use choosing::Look;
+use choosing::standing::Standing;
 use queue::Queue;
-use standing::Standing;
 
 // Where a walk stops: a place, and what the request there comes to.
 #[derive(Clone, Copy)]

@@ -8,8 +8,8 @@ use lib.Dec.{T_not, leb, leb→le, nleb→lt}
 use lib.ListN.{length}
 use Rattle.machine.proofs.Tests.{by_test, test_true}
 use Rattle.refusing.proofs.Laws.{false_true}
-use Rattle.board.specs.declared.Board.{Board}
-use Rattle.board.specs.Board.{Held}
+use Rattle.image.specs.board.declared.Board.{Board}
+use Rattle.image.specs.board.Board.{Held}
 use Rattle.image.specs.Image.{state_of, is_whole, Whole}
 use Rattle.sound.specs.Sound.{Decides, board_test}
 use Rattle.sound.proofs.Laws.{yes_T}

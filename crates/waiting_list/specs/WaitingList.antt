@@ -8,7 +8,7 @@
 --   Tells st tb l e n l'     the promise of `waiting`: 1 comes before 5
 use Rattle.std.specs.Prelude.{ℕ, ◌≤◌, ◌<◌, ◌≡◌, List, length}
 use Rattle.machine.specs.Numbers.{UNSOUND, NOROOM}
-use Rattle.board.specs.Board.{Held}
+use Rattle.image.specs.board.Board.{Held}
 use Rattle.image.specs.Image.{state_of, Whole}
 use Rattle.sizes.specs.Sizes.{RECORDS}
 use Rattle.records.specs.Records.{Lists}

@@ -4,6 +4,11 @@
 
 ghost use Rattle.waiting_list.specs.WaitingList.{Tells};
 
+pub use decoding;
+pub use records;
+pub use sizes;
+pub use sound;
+
 // The refusal, or 0; how many records stand in front of the list.
 #[derive(Clone, Copy)]
 pub struct Listed {

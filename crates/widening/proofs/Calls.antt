@@ -9,25 +9,25 @@ use native.Mathlib.Omega.{arith}
 use native.Mathlib.Nat.{pow-le-pow_right}
 use lib.Dec.{T, eqb, leb, ltb, leb→le, le→leb, ltb→lt, lt→ltb}
 use lib.ListN.{length}
-use Rattle.machine.specs.Numbers.{ALLOCFAILED, NONE, CYCLES, CMD_WRITE}
+use Rattle.machine_laws.specs.machine.Numbers.{ALLOCFAILED, NONE, CYCLES, CMD_WRITE}
 use Rattle.std.specs.Prelude.{if◌then◌else◌}
-use Rattle.machine.specs.Lists.{all, any, among}
-use Rattle.machine.specs.State.{Channel, Lock, Request, State, Reply, Outcome, Call, Op, OPEN, CLOSE, ABORT, EVENT, COMMAND, free}
-use Rattle.machine.specs.Maps.{lowest, named, at}
-use Rattle.machine.specs.Sound.{sound_lock, sound_request, ids, sound}
-use Rattle.machine.specs.Commands.{reset, same, set_stop, flushed, set_prec, done, finished, silent, matches, set_writes, cycles_in, write_of, do_pervol, do_write, do_close, do_abort, do_event}
-use Rattle.machine.specs.Allocating.{do_open}
-use Rattle.machine.specs.Settling.{Settled, settle}
-use Rattle.machine.specs.Kinds.{Kind, RESET, READ, WRITE, UPDATE, CLEAR, STOP, START, FLUSH, FREE, SETPREC, FINISH, PERVOL, LOCK, WAITCYCLE, ALLOCATE, UNKNOWN, kind, allocates}
-use Rattle.machine.specs.Bytes.{number}
-use Rattle.machine.specs.Refusals.{Refusal, accepted, refused, first, bad_map, bad_maps, refusal, refuse}
-use Rattle.machine.specs.Call.{perform, settling, open_settling, accept, answering, call, in_range}
-use Rattle.machine.proofs.Tests.{if_elim, and_left, and_right, and_both, nor_left, nor_right, nor_both, test_false}
+use Rattle.machine_laws.specs.machine.Lists.{all, any, among}
+use Rattle.machine_laws.specs.machine.State.{Channel, Lock, Request, State, Reply, Outcome, Call, Op, OPEN, CLOSE, ABORT, EVENT, COMMAND, free}
+use Rattle.machine_laws.specs.machine.Maps.{lowest, named, at}
+use Rattle.machine_laws.specs.machine.Sound.{sound_lock, sound_request, ids, sound}
+use Rattle.machine_laws.specs.machine.Commands.{reset, same, set_stop, flushed, set_prec, done, finished, silent, matches, set_writes, cycles_in, write_of, do_pervol, do_write, do_close, do_abort, do_event}
+use Rattle.machine_laws.specs.machine.Allocating.{do_open}
+use Rattle.machine_laws.specs.machine.Settling.{Settled, settle}
+use Rattle.machine_laws.specs.machine.Kinds.{Kind, RESET, READ, WRITE, UPDATE, CLEAR, STOP, START, FLUSH, FREE, SETPREC, FINISH, PERVOL, LOCK, WAITCYCLE, ALLOCATE, UNKNOWN, kind, allocates}
+use Rattle.machine_laws.specs.machine.Bytes.{number}
+use Rattle.machine_laws.specs.machine.Refusals.{Refusal, accepted, refused, first, bad_map, bad_maps, refusal, refuse}
+use Rattle.machine_laws.specs.machine.Call.{perform, settling, open_settling, accept, answering, call, in_range}
+use Rattle.machine_laws.proofs.machine.Tests.{if_elim, and_left, and_right, and_both, nor_left, nor_right, nor_both, test_false}
 use Rattle.machine_laws.proofs.Maps.{length-change}
 use Rattle.machine_laws.specs.Sound.{Parts}
 use Rattle.machine_laws.proofs.Sound.{unparts, in_use_few}
-use Rattle.machine.specs.Steps.{NoneOf}
-use Rattle.machine.proofs.Steps.{first_none}
+use Rattle.machine_laws.specs.machine.Steps.{NoneOf}
+use Rattle.machine_laws.proofs.machine.Steps.{first_none}
 use Rattle.machine_laws.proofs.KeepingSettle.{look_unlocked}
 use Rattle.machine_laws.proofs.KeepingCalls.{open_sound, close_sound, abort_sound, event_sound, perform-sound, range-prec, range-key, id-small}
 use Rattle.widening.specs.Widening.{wider, widen, widen_o, widen_s, small_list, Few, Waits}

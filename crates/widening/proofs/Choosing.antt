@@ -7,11 +7,11 @@ use lib.Dec.{T, ltb, ltb→lt}
 use lib.ListN.{length}
 use lib.Pow.{pow_pos}
 use Rattle.std.specs.Prelude.{if◌then◌else◌}
-use Rattle.machine.specs.Lists.{all}
-use Rattle.machine.specs.State.{Channel, is_free}
-use Rattle.machine.specs.Maps.{named}
-use Rattle.machine.specs.Choosing.{Choice, none, chosen, Look, fails, held, grants, takeable, eligible, all_free, costs_less, first_free, cheaper, cheapest, or_else, choose, standing, look}
-use Rattle.machine.proofs.Tests.{if_elim, and_left, and_right}
+use Rattle.machine_laws.specs.machine.Lists.{all}
+use Rattle.machine_laws.specs.machine.State.{Channel, is_free}
+use Rattle.machine_laws.specs.machine.Maps.{named}
+use Rattle.machine_laws.specs.machine.Choosing.{Choice, none, chosen, Look, fails, held, grants, takeable, eligible, all_free, costs_less, first_free, cheaper, cheapest, or_else, choose, standing, look}
+use Rattle.machine_laws.proofs.machine.Tests.{if_elim, and_left, and_right}
 use Rattle.widening.specs.Widening.{wider, small_list}
 use Rattle.widening.proofs.Maps.{named-wide, highest-wide, stolen-wide}
 

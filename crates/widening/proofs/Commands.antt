@@ -5,18 +5,18 @@ use mathlib.Core.Bool.{Bool, true, false, not}
 use mathlib.Core.List.{List, [], ◌∷◌, ◌++◌, map}
 use lib.Dec.{T, eqb, ltb, ltb→lt}
 use lib.ListN.{length, length-map}
-use Rattle.machine.specs.Numbers.{nowait, synced, NOALLOCATION, NONE, ALLOCFAILED}
+use Rattle.machine_laws.specs.machine.Numbers.{nowait, synced, NOALLOCATION, NONE, ALLOCFAILED}
 use Rattle.std.specs.Prelude.{if◌then◌else◌}
-use Rattle.machine.specs.Lists.{all, keep}
-use Rattle.machine.specs.State.{Channel, Lock, Request, State, Reply, Answer, Outcome, Event, CYCLE_ENDED, GAVE_UP, Call, free, with_channels, with_locks, with_waiters, frees}
-use Rattle.machine.specs.Maps.{minus, lowest, named, change, at}
-use Rattle.machine.specs.Choosing.{Look, fails, held, grants, look}
-use Rattle.machine.specs.Granting.{key_for, aborted, aborted_in, cut, cut_replies, dropped, granted}
-use Rattle.machine.specs.Commands.{matches, matching, mismatch, done, pending, finished, silent, freed, set_lock, set_writes, cleared, is_empty, ended, freeing, freeing_replies, each, each_change, do_free, do_lock, front, playing, do_read, write_of, do_write, do_waitcycle, in_progress, front_only, front_gone, front_cycled, cut_fronts, front_replies, event_replies, happened, on_front, remember_finish, do_finish, do_event, owned, do_close, aborted_writes, aborted_waits, without, led_by, aborted_by, leaving, do_abort}
-use Rattle.machine.specs.Allocating.{enqueue, waits, allocating, do_allocate, opening, do_open}
-use Rattle.machine.specs.Kinds.{Kind, RESET, READ, WRITE, UPDATE, CLEAR, STOP, START, FLUSH, FREE, SETPREC, LOCK, ALLOCATE, UNKNOWN}
-use Rattle.machine.specs.Call.{perform}
-use Rattle.machine.proofs.Tests.{and_left, and_right, by_test, test_true, test_false}
+use Rattle.machine_laws.specs.machine.Lists.{all, keep}
+use Rattle.machine_laws.specs.machine.State.{Channel, Lock, Request, State, Reply, Answer, Outcome, Event, CYCLE_ENDED, GAVE_UP, Call, free, with_channels, with_locks, with_waiters, frees}
+use Rattle.machine_laws.specs.machine.Maps.{minus, lowest, named, change, at}
+use Rattle.machine_laws.specs.machine.Choosing.{Look, fails, held, grants, look}
+use Rattle.machine_laws.specs.machine.Granting.{key_for, aborted, aborted_in, cut, cut_replies, dropped, granted}
+use Rattle.machine_laws.specs.machine.Commands.{matches, matching, mismatch, done, pending, finished, silent, freed, set_lock, set_writes, cleared, is_empty, ended, freeing, freeing_replies, each, each_change, do_free, do_lock, front, playing, do_read, write_of, do_write, do_waitcycle, in_progress, front_only, front_gone, front_cycled, cut_fronts, front_replies, event_replies, happened, on_front, remember_finish, do_finish, do_event, owned, do_close, aborted_writes, aborted_waits, without, led_by, aborted_by, leaving, do_abort}
+use Rattle.machine_laws.specs.machine.Allocating.{enqueue, waits, allocating, do_allocate, opening, do_open}
+use Rattle.machine_laws.specs.machine.Kinds.{Kind, RESET, READ, WRITE, UPDATE, CLEAR, STOP, START, FLUSH, FREE, SETPREC, LOCK, ALLOCATE, UNKNOWN}
+use Rattle.machine_laws.specs.machine.Call.{perform}
+use Rattle.machine_laws.proofs.machine.Tests.{and_left, and_right, by_test, test_true, test_false}
 use Rattle.machine_laws.proofs.Maps.{lowest-small}
 use Rattle.widening.specs.Widening.{wider, widen, widen_o, small_list, Few}
 use Rattle.widening.proofs.Maps.{length-wider, named-wide, change-wide, at_wide, matching-wide, in_progress-wide, led_wide, owned-wide, fronts_wide, aborted-wide, lowest-wide, minus-wide, matching-small, in_progress-small, led_small, owned-small}

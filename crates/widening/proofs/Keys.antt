@@ -9,11 +9,11 @@ use native.Mathlib.Nat.{zero-add, suc-add}
 use lib.Dec.{T, T_not, eqb, ltb, ltb→lt}
 use lib.ListN.{length}
 use Rattle.std.specs.Prelude.{if◌then◌else◌}
-use Rattle.machine.specs.Lists.{among, any, keep}
-use Rattle.machine.specs.State.{Channel, Lock, Request, State, Reply, frees, with_waiters}
-use Rattle.machine.specs.Maps.{change}
-use Rattle.machine.specs.Granting.{after, in_use, first_unused, new_key, key_for, last_for, on_channels, given_up, cut, cut_replies, dropped, taken, granted}
-use Rattle.machine.proofs.Tests.{if_elim, by_test, test_true, test_false, eqb_false}
+use Rattle.machine_laws.specs.machine.Lists.{among, any, keep}
+use Rattle.machine_laws.specs.machine.State.{Channel, Lock, Request, State, Reply, frees, with_waiters}
+use Rattle.machine_laws.specs.machine.Maps.{change}
+use Rattle.machine_laws.specs.machine.Granting.{after, in_use, first_unused, new_key, key_for, last_for, on_channels, given_up, cut, cut_replies, dropped, taken, granted}
+use Rattle.machine_laws.proofs.machine.Tests.{if_elim, by_test, test_true, test_false, eqb_false}
 use Rattle.machine_laws.proofs.Granting.{new_key-unused, in_use-length}
 use Rattle.widening.specs.Widening.{wider, widen, Few}
 use Rattle.widening.proofs.Maps.{change-wide, length-frees, length-wider, meets-wide, aborted-wide}

@@ -8,13 +8,13 @@ use native.Mathlib.Nat.{pow-suc, zero-add, suc-add}
 use lib.Dec.{T, T_not, eqb, eqb→eq}
 use lib.ListN.{length, length-append}
 use Rattle.std.specs.Prelude.{if◌then◌else◌}
-use Rattle.machine.specs.State.{Channel, Reply, free, is_free, frees}
-use Rattle.machine.specs.Maps.{odd, half, bit, minus, meets, lowest, named, change, at}
-use Rattle.machine.specs.Choosing.{highest, stolen}
-use Rattle.machine.specs.Granting.{aborted, aborted_in}
-use Rattle.machine.specs.Commands.{matches, matching, playing, in_progress, front_only, owned, leads, led_by}
-use Rattle.machine.specs.Sound.{writes_of}
-use Rattle.machine.proofs.Tests.{by_test, test_true, test_false, eqb_false}
+use Rattle.machine_laws.specs.machine.State.{Channel, Reply, free, is_free, frees}
+use Rattle.machine_laws.specs.machine.Maps.{odd, half, bit, minus, meets, lowest, named, change, at}
+use Rattle.machine_laws.specs.machine.Choosing.{highest, stolen}
+use Rattle.machine_laws.specs.machine.Granting.{aborted, aborted_in}
+use Rattle.machine_laws.specs.machine.Commands.{matches, matching, playing, in_progress, front_only, owned, leads, led_by}
+use Rattle.machine_laws.specs.machine.Sound.{writes_of}
+use Rattle.machine_laws.proofs.machine.Tests.{by_test, test_true, test_false, eqb_false}
 use Rattle.machine_laws.proofs.Maps.{bit-small}
 use Rattle.widening.specs.Widening.{wider}
 

@@ -5,16 +5,16 @@ use mathlib.Core.Bool.{Bool, true, false, not, ◌&&◌}
 use mathlib.Core.List.{List, [], ◌∷◌, ◌++◌, map}
 use native.Mathlib.Omega.{arith}
 use lib.ListN.{length}
-use Rattle.machine.specs.Numbers.{ALLOCFAILED, CHANNELSTOLEN}
+use Rattle.machine_laws.specs.machine.Numbers.{ALLOCFAILED, CHANNELSTOLEN}
 use Rattle.std.specs.Prelude.{if◌then◌else◌}
-use Rattle.machine.specs.Lists.{all, keep}
-use Rattle.machine.specs.State.{Channel, Lock, Request, State, Reply}
-use Rattle.machine.specs.Maps.{meets}
-use Rattle.machine.specs.Choosing.{Look, fails, held, grants, look}
-use Rattle.machine.specs.Granting.{key_for, dropped, granted, taken}
-use Rattle.machine.specs.Commands.{ended}
-use Rattle.machine.specs.Settling.{Found, nobody, somebody, Walk, Settled, replied, staying, saying, on_look, walk, walked, go_on, rounds, settle}
-use Rattle.machine.proofs.Tests.{if_elim, and_left, and_right, and_both}
+use Rattle.machine_laws.specs.machine.Lists.{all, keep}
+use Rattle.machine_laws.specs.machine.State.{Channel, Lock, Request, State, Reply}
+use Rattle.machine_laws.specs.machine.Maps.{meets}
+use Rattle.machine_laws.specs.machine.Choosing.{Look, fails, held, grants, look}
+use Rattle.machine_laws.specs.machine.Granting.{key_for, dropped, granted, taken}
+use Rattle.machine_laws.specs.machine.Commands.{ended}
+use Rattle.machine_laws.specs.machine.Settling.{Found, nobody, somebody, Walk, Settled, replied, staying, saying, on_look, walk, walked, go_on, rounds, settle}
+use Rattle.machine_laws.proofs.machine.Tests.{if_elim, and_left, and_right, and_both}
 use Rattle.machine_laws.proofs.Maps.{length-change}
 use Rattle.widening.specs.Widening.{wider, widen, widen_s, small_list, Few, Waits}
 use Rattle.widening.proofs.Maps.{length-wider, meets-wide}

@@ -8,11 +8,11 @@ use native.Mathlib.Nat.{pow-suc, add-zero, zero-add, suc-add}
 use lib.Dec.{T, T_not, eqb, leb, ltb, leb→le, le→leb, ltb→lt, lt→ltb}
 use lib.ListN.{length}
 use Rattle.std.specs.Prelude.{if◌then◌else◌}
-use Rattle.machine.specs.Lists.{all, distinct}
-use Rattle.machine.specs.State.{Channel, Lock, Request, State, free, frees}
-use Rattle.machine.specs.Maps.{odd, half, lowest, named}
-use Rattle.machine.specs.Sound.{sound_channel, sound_lock, sound_waiter, sound_request, writes_of, ids, sound}
-use Rattle.machine.proofs.Tests.{and_left, and_right, and_both, test_true}
+use Rattle.machine_laws.specs.machine.Lists.{all, distinct}
+use Rattle.machine_laws.specs.machine.State.{Channel, Lock, Request, State, free, frees}
+use Rattle.machine_laws.specs.machine.Maps.{odd, half, lowest, named}
+use Rattle.machine_laws.specs.machine.Sound.{sound_channel, sound_lock, sound_waiter, sound_request, writes_of, ids, sound}
+use Rattle.machine_laws.proofs.machine.Tests.{and_left, and_right, and_both, test_true}
 use Rattle.machine_laws.proofs.Lists.{all_append, all_mono}
 use Rattle.machine_laws.specs.Sound.{Parts}
 use Rattle.machine_laws.proofs.Keeping.{served}

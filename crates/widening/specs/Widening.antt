@@ -6,9 +6,9 @@
 --   Waits n rs       so do those of all waiting requests
 --   Few s            fewer keys may be in use than there are: a new one is found before the count comes round
 use Rattle.std.specs.Prelude.{ℕ, ◌^◌, ◌+◌, ◌<◌, Bool, List, ◌++◌, T, ltb, length}
-use Rattle.machine.specs.Lists.{all}
-use Rattle.machine.specs.State.{Channel, State, Outcome, frees, with_channels, Request}
-use Rattle.machine.specs.Settling.{Settled}
+use Rattle.machine_laws.specs.machine.Lists.{all}
+use Rattle.machine_laws.specs.machine.State.{Channel, State, Outcome, frees, with_channels, Request}
+use Rattle.machine_laws.specs.machine.Settling.{Settled}
 
 abbrev pub wider : ℕ → List Channel → List Channel
 wider k cs = cs ++ frees k

@@ -1,1 +1,2 @@
 pub mod Wishes
+pub use Rattle.board.specs as board

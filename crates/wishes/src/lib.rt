@@ -4,6 +4,7 @@
 ghost use Rattle.std.specs.Prelude.{◌≡◌, ◌≤◌, ◌<◌};
 ghost use Rattle.wishes.specs.Wishes.{named as named_of, lefts as leftsOf, rights as rightsOf, meets as meets_of};
 
+pub use board;
 use board::Board;
 
 // 1 where the map names channel c, else 0.

@@ -7,7 +7,7 @@ ghost use Rattle.sheet.specs.Sheet.{sheet, numbers_from, write_taken, Took};
 
 use queue::Queue;
 use store::State;
-use table::Head;
+use table::{Head, memory};
 
 // The numbers of a write: its own, and for the first of a channel what is remembered there.
 fn numbers(f: &[u8], q: Queue, kept: &[u8]) -> [u8; 12]

@@ -11,15 +11,15 @@ use Rattle.queue.specs.declared.Queue.{Queue}
 use Rattle.queue.specs.Queue.{pushed}
 use Rattle.channel.specs.declared.Channel.{Channel}
 use Rattle.channel.specs.Channel.{channel_of, with_writes}
-use Rattle.table.specs.Entry.{number_bytes, write_entry, head_bytes, padded}
-use Rattle.machine.specs.Numbers.{NONE, NOALLOCATION}
-use Rattle.machine.specs.Lists.{among}
-use Rattle.machine.specs.State.{Write, free}
-use Rattle.machine.specs.Sound.{ids}
-use Rattle.machine.specs.Commands.{done, pending, finished, silent, do_write}
-use Rattle.store.specs.declared.State.{State}
-use Rattle.store.specs.Store.{struct_of, state_in, Held}
-use Rattle.store.proofs.Store.{held_parts, held_eight}
+use Rattle.numbers.specs.table.Entry.{number_bytes, write_entry, head_bytes, padded}
+use Rattle.answers.specs.machine.Numbers.{NONE, NOALLOCATION}
+use Rattle.answers.specs.machine.Lists.{among}
+use Rattle.answers.specs.machine.State.{Write, free}
+use Rattle.answers.specs.machine.Sound.{ids}
+use Rattle.answers.specs.machine.Commands.{done, pending, finished, silent, do_write}
+use Rattle.answers.specs.store.declared.State.{State}
+use Rattle.answers.specs.store.Store.{struct_of, state_in, Held}
+use Rattle.answers.proofs.store.Store.{held_parts, held_eight}
 use Rattle.answers.specs.declared.Request.{Request}
 use Rattle.answers.specs.declared.Answer.{Answer}
 use Rattle.answers.specs.Answers.{call_of, answer_of, Told}

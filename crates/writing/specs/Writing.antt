@@ -4,11 +4,11 @@
 --   Joins i r ms s .. the promise of `join`: the write at the back of channel i, and its entry in the table
 use Rattle.std.specs.Prelude.{ℕ, ◌*◌, ◌≡◌, List}
 use Rattle.memory.specs.Splice.{splice}
-use Rattle.table.specs.Entry.{write_entry}
-use Rattle.machine.specs.State.{Write}
+use Rattle.numbers.specs.table.Entry.{write_entry}
+use Rattle.answers.specs.machine.State.{Write}
 use Rattle.numbers.specs.Numbers.{carried}
-use Rattle.store.specs.declared.State.{State}
-use Rattle.store.specs.Store.{struct_of, state_in}
+use Rattle.answers.specs.store.declared.State.{State}
+use Rattle.answers.specs.store.Store.{struct_of, state_in}
 use Rattle.answers.specs.declared.Request.{Request}
 use Rattle.play.specs.Play.{with_back}
 

@@ -2,20 +2,21 @@
 #![tactic(auto)]
 
 ghost use Rattle.std.specs.Prelude.{◌≡◌, ◌⊎◌, ◌<◌, length, get_or, not, T};
-ghost use Rattle.machine.specs.Lists.{among};
-ghost use Rattle.machine.specs.Sound.{ids};
-ghost use Rattle.machine.specs.State.{free};
-ghost use Rattle.machine.specs.Commands.{do_write};
+ghost use Rattle.answers.specs.machine.Lists.{among};
+ghost use Rattle.answers.specs.machine.Sound.{ids};
+ghost use Rattle.answers.specs.machine.State.{free};
+ghost use Rattle.answers.specs.machine.Commands.{do_write};
 ghost use Rattle.channel.specs.Channel.{channel_of};
-ghost use Rattle.store.specs.Store.{state_in, Held};
-ghost use Rattle.store.specs.Work.{Ready};
+ghost use Rattle.answers.specs.store.Store.{state_in, Held};
+ghost use Rattle.answers.specs.store.Work.{Ready};
 ghost use Rattle.answers.specs.Answers.{call_of, Does};
 ghost use Rattle.writing.specs.Writing.{Joins};
 
+use answers::store::State;
 use answers::{Outcome, Request};
 use channel::Channel;
-use store::State;
-use table::Head;
+use numbers::table;
+use numbers::table::Head;
 
 pub fn write(r: Request, s: State, combos: &[u8], table: &mut [u8], replies: &mut [u8]) -> Outcome
     requires { Ready s table.old replies.old 0 1 × (r.command ≡ 3) × (r.id < 64) × T (not (among r.id (ids (state_in s table.old)))) × ((length combos.now ≡ 0) ⊎ (length combos.now ≡ 6)) }

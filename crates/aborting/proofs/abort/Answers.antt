@@ -1,6 +1,6 @@
 -- `abort` meets its contract: the entry's command says whether there is something to cancel. Assumes nothing.
 use mathlib.Core.Path.{sym, ◌∙◌}
-use Rattle.store.proofs.Store.{held_length}
+use Rattle.answers.proofs.store.Store.{held_length}
 use Rattle.aborting.proofs.Steps.{stay_told}
 use Rattle.aborting.proofs.abort.Goals as goal
 

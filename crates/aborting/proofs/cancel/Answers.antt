@@ -1,7 +1,7 @@
 -- `cancel` meets its contract: the id's only place is left, its entry cleared and its reply sent; who waits for a cycle of it follows. Assumes nothing.
 use mathlib.Core.Path.{refl}
 use native.Mathlib.Omega.{arith}
-use Rattle.store.proofs.Store.{held_length}
+use Rattle.answers.proofs.store.Store.{held_length}
 use Rattle.leaving.proofs.Queues.{tidy-channels, tidy-waiters, tidy-waiting}
 use Rattle.aborting.proofs.Steps.{cancelled, abort_sifts, cancel_told}
 use Rattle.aborting.proofs.cancel.Goals as goal

@@ -1,6 +1,6 @@
 -- `allocate` meets its contract: each look has its own function. Assumes nothing.
 use mathlib.Core.Path.{sym, ◌∙◌}
-use Rattle.store.specs.Store.{state_in}
+use Rattle.answers.specs.store.Store.{state_in}
 use Rattle.answers.specs.Answers.{call_of}
 use Rattle.answers.proofs.Laws.{told_as}
 use Rattle.allocating.proofs.Steps.{is_fails, is_held, is_grants, allocate_by, held_waits, gain_ready}

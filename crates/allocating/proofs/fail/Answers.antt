@@ -5,7 +5,7 @@ use mathlib.Core.List.{[]}
 use native.Mathlib.Omega.{arith}
 use lib.ListN.{length}
 use Rattle.memory.proofs.Splice.{splice_none}
-use Rattle.store.specs.Store.{state_in}
+use Rattle.answers.specs.store.Store.{state_in}
 use Rattle.answers.specs.Answers.{call_of}
 use Rattle.answers.proofs.Laws.{finished_of, finished-told, told_as}
 use Rattle.allocating.proofs.Steps.{fail_refused, fail_waits}

@@ -1,6 +1,6 @@
 -- `done` meets its contract: the fields are the machine's. Assumes nothing.
 use mathlib.Core.Path.{refl}
-use Rattle.machine.specs.Commands.{done}
+use Rattle.store.specs.machine.Commands.{done}
 use Rattle.answers.proofs.done.Goals as goal
 
 pub returns : goal.returns

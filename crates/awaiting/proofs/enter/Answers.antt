@@ -1,7 +1,7 @@
 -- `enter` meets its contract: the id is new, so the queue has room and its entry is one item more. Assumes nothing.
 use mathlib.Core.Path.{◌∙◌}
 use Rattle.table.specs.Entry.{span_entry}
-use Rattle.store.proofs.Store.{held_length}
+use Rattle.answers.proofs.store.Store.{held_length}
 use Rattle.awaiting.proofs.Awaiting.{waiter_room, waiter-table, waiter-struct}
 use Rattle.awaiting.proofs.enter.Goals as goal
 

@@ -4,9 +4,9 @@ use mathlib.Core.Path.{refl, ap, sym, ◌∙◌}
 use mathlib.Core.List.{[]}
 use native.Mathlib.Omega.{arith}
 use lib.ListN.{length}
-use Rattle.memory.proofs.Splice.{splice_none}
-use Rattle.machine.specs.Commands.{done}
-use Rattle.store.specs.Store.{state_in}
+use Rattle.table.proofs.memory.Splice.{splice_none}
+use Rattle.answers.specs.machine.Commands.{done}
+use Rattle.answers.specs.store.Store.{state_in}
 use Rattle.answers.specs.Answers.{answer_of}
 use Rattle.answers.proofs.Laws.{finished_of, finished-told, told_as}
 use Rattle.awaiting.proofs.Awaiting.{wait-refused, wait-idle, wait-told}

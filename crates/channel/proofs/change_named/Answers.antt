@@ -3,7 +3,7 @@ use Prim.Native.Nat.{◌<◌, ◌-◌}
 use mathlib.Core.Path.{sym, ◌∙◌}
 use native.Mathlib.Omega.{arith}
 use lib.ListN.{length, length-set}
-use Rattle.machine.specs.State.{free}
+use Rattle.machine_laws.specs.machine.State.{free}
 use Rattle.channel.specs.Channel.{channel_of}
 use Rattle.channel.proofs.Turns.{change_start, change-named, change-passed, change_end}
 use borrow.Author.Rules.{rules}

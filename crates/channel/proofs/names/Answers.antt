@@ -2,7 +2,7 @@
 -- Assumes nothing.
 use Prim.Native.Nat.{◌/◌, ◌^◌}
 use lib.Bits.{and_mask}
-use Rattle.machine.specs.Maps.{odd}
+use Rattle.machine_laws.specs.machine.Maps.{odd}
 use Rattle.channel.proofs.names.Goals as goal
 
 pub returns : goal.returns

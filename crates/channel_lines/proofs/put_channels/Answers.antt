@@ -4,8 +4,8 @@ use mathlib.Core.Path.{◌≡◌, refl, ap, sym, ◌∙◌}
 use native.Mathlib.Omega.{arith}
 use borrow.Author.Rules.{rules}
 use lib.ListN.{length, take}
-use Rattle.memory.specs.Splice.{splice}
-use Rattle.memory.proofs.Splice.{splice_none}
+use Rattle.spelling.specs.memory.Splice.{splice}
+use Rattle.spelling.proofs.memory.Splice.{splice_none}
 use Rattle.channel_lines.specs.ChannelLines.{channel_lines}
 use Rattle.channel_lines.proofs.ChannelLines.{channel_turn}
 use Rattle.channel_lines.proofs.put_channels.Goals as goal

@@ -2,7 +2,7 @@
 use Prim.Native.Nat.{◌≤◌, ◌-◌}
 use mathlib.Core.Path.{◌≡◌}
 use lib.ListN.{length, take}
-use Rattle.memory.specs.Splice.{splice}
+use Rattle.spelling.specs.memory.Splice.{splice}
 use Rattle.channel_lines.specs.ChannelLines.{channel_lines}
 use Rattle.channel_lines.proofs.put_channels.Given as goal
 

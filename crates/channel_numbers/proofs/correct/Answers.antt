@@ -5,7 +5,7 @@ use mathlib.Core.List.{List}
 use native.Mathlib.Nat.{div-one}
 use native.Mathlib.Omega.{arith}
 use lib.ListN.{length, take}
-use Rattle.memory.specs.Splice.{splice}
+use Rattle.table.specs.memory.Splice.{splice}
 use Rattle.channel_numbers.specs.ChannelNumbers.{count_at, moved}
 use Rattle.channel_numbers.proofs.Laws.{corrected_start, corrected_two, lanes_next}
 use borrow.Author.Rules.{rules}

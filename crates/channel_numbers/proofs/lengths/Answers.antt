@@ -4,8 +4,8 @@ use mathlib.Core.Path.{◌≡◌, refl, ap, sym, ◌∙◌}
 use mathlib.Core.List.{map}
 use native.Mathlib.Omega.{arith}
 use lib.ListN.{length, take, length-set}
-use Rattle.memory.specs.Splice.{splice}
-use Rattle.memory.proofs.Splice.{splice_none}
+use Rattle.table.specs.memory.Splice.{splice}
+use Rattle.table.proofs.memory.Splice.{splice_none}
 use Rattle.channel_numbers.proofs.Laws.{lengths_turn, lengths_end}
 use borrow.Author.Rules.{rules}
 use Rattle.channel_numbers.proofs.lengths.Goals as goal

@@ -3,7 +3,7 @@ use Prim.Native.Nat.{◌-◌, ◌≤◌}
 use mathlib.Core.Path.{◌≡◌}
 use mathlib.Core.List.{map}
 use lib.ListN.{length, take}
-use Rattle.memory.specs.Splice.{splice}
+use Rattle.table.specs.memory.Splice.{splice}
 use Rattle.channel_numbers.proofs.lengths.Given as goal
 
 abbrev pub invariant-loop-i : goal.invariant-loop-i

@@ -1,7 +1,7 @@
 -- `look_by` meets its contract: it asks for locks of the map that `choose` chose. Assumes nothing.
 use mathlib.Core.Bool.{not}
 use native.Mathlib.Omega.{arith}
-use Rattle.standing.proofs.Masks.{failing_pass, failing_fail}
+use Rattle.picking.proofs.standing.Masks.{failing_pass, failing_fail}
 use Rattle.choosing.proofs.Laws.{look_fails, look_grants, look_held}
 use Rattle.choosing.proofs.look_by.Goals as goal
 

@@ -1,6 +1,6 @@
 -- `single` meets its contract. Assumes nothing.
 use Rattle.answers.proofs.Laws.{told_as}
-use Rattle.changing.proofs.Laws.{is_read_lem, is_wait, is_lock, left_lock, ready_one}
+use Rattle.sounding.proofs.changing.Laws.{is_read_lem, is_wait, is_lock, left_lock, ready_one}
 use Rattle.commands.proofs.single.Goals as goal
 
 pub read-requires : goal.read-requires

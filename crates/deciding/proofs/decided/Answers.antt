@@ -1,7 +1,7 @@
 -- `decided` meets its contract: refused, or performed and then settled but for an OPEN answered -11. Assumes nothing.
 use mathlib.Core.Path.{sym, ◌∙◌}
 use native.Mathlib.Omega.{arith}
-use Rattle.store.proofs.Store.{held_length}
+use Rattle.answers.proofs.store.Store.{held_length}
 use Rattle.deciding.proofs.Laws.{refused-told, zero_allowed, resting_told, settle-ready, settled_told, refused-looks}
 use Rattle.deciding.proofs.Laws.{resting_looks, settled_looks, refused-moved, resting_moved, settled_moved}
 use Rattle.deciding.proofs.Moves.{begin_abort, act_balanced, balanced_fits}

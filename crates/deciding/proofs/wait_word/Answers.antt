@@ -1,7 +1,7 @@
 -- `wait_word` meets its contract: the combinations stand in the entry. Assumes nothing.
 use mathlib.Core.Path.{refl, ap, sym, ◌∙◌}
 use borrow.Author.Tests.{eq-eqb, ne_eqb}
-use Rattle.lanes.specs.Lanes.{word_of}
+use Rattle.settling.specs.lanes.Lanes.{word_of}
 use Rattle.deciding.proofs.wait_word.Goals as goal
 
 pub returns-then-command-ne-ADCMD_ALLOCATE : goal.returns-then-command-ne-ADCMD_ALLOCATE

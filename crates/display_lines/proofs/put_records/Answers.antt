@@ -3,8 +3,8 @@ use Prim.Native.Nat.{◌-◌, ◌<◌}
 use mathlib.Core.Path.{◌≡◌, refl, ap, sym, ◌∙◌}
 use native.Mathlib.Omega.{arith}
 use lib.ListN.{take}
-use Rattle.memory.specs.Splice.{splice}
-use Rattle.memory.proofs.Splice.{splice_none}
+use Rattle.spelling.specs.memory.Splice.{splice}
+use Rattle.spelling.proofs.memory.Splice.{splice_none}
 use Rattle.display_lines.specs.DisplayLines.{record_lines}
 use Rattle.display_lines.proofs.DisplayLines.{record_turn}
 use borrow.Author.Rules.{rules}

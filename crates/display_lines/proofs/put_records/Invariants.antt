@@ -2,7 +2,7 @@
 use Prim.Native.Nat.{◌+◌, ◌-◌, ◌*◌, ◌≤◌}
 use mathlib.Core.Path.{◌≡◌}
 use lib.ListN.{length, take}
-use Rattle.memory.specs.Splice.{splice}
+use Rattle.spelling.specs.memory.Splice.{splice}
 use Rattle.display_lines.specs.DisplayLines.{record_lines}
 use Rattle.display_lines.proofs.put_records.Given as goal
 

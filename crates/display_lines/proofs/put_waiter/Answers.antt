@@ -2,8 +2,8 @@
 use Prim.Native.Nat.{ℕ}
 use mathlib.Core.Path.{◌∙◌, ap}
 use mathlib.Core.List.{[], ◌∷◌}
-use Rattle.machine.specs.Log.{line}
-use Rattle.memory.specs.Splice.{splice}
+use Rattle.spelling.specs.machine.Log.{line}
+use Rattle.spelling.specs.memory.Splice.{splice}
 use Rattle.display_lines.proofs.put_waiter.Goals as goal
 
 pub returns : goal.returns

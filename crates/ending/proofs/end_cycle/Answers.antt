@@ -1,6 +1,6 @@
 -- `end_cycle` meets its contract: the front write's turn is read from its entry, and each turn is the machine's. Assumes nothing.
 use mathlib.Core.Path.{refl, ◌∙◌}
-use Rattle.store.proofs.Store.{held_length}
+use Rattle.tuning.proofs.store.Store.{held_length}
 use Rattle.ending.proofs.Steps.{first_small, first_count, first_turn, cycle_cut, cycle_over, cycle_on}
 use Rattle.ending.proofs.end_cycle.Goals as goal
 

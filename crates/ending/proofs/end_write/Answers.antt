@@ -1,5 +1,5 @@
 -- `end_write` meets its contract: the write in front is replied, its id is idle, its queue one shorter. Assumes nothing.
-use Rattle.store.proofs.Store.{held_length}
+use Rattle.tuning.proofs.store.Store.{held_length}
 use Rattle.ending.proofs.Steps.{queue_held, first_small, write_ends}
 use Rattle.ending.proofs.end_write.Goals as goal
 

@@ -3,7 +3,7 @@ use mathlib.Core.Path.{ap, ◌∙◌}
 use native.Mathlib.Omega.{arith}
 use lib.ListN.{length}
 use Rattle.tuning.proofs.Turns.{list-long, copied}
-use Rattle.cycles.specs.Cycles.{turn_in}
+use Rattle.tuning.specs.cycles.Cycles.{turn_in}
 use Rattle.ending.proofs.turn_at.Goals as goal
 
 pub copy-requires : goal.copy-requires

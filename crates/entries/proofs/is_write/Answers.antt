@@ -4,7 +4,7 @@ use mathlib.Core.Path.{◌≡◌, refl, sym, ap, ◌∙◌}
 use mathlib.Core.Bool.{true, false}
 use native.Mathlib.Omega.{arith}
 use Rattle.memory.specs.Splice.{block}
-use Rattle.table.specs.Entry.{list_in}
+use Rattle.numbers.specs.table.Entry.{list_in}
 use Rattle.numbers.specs.Numbers.{sound_numbers}
 use Rattle.entries.proofs.Writes.{copied, other_command_lem, other_count, list-long, other_numbers, told}
 use borrow.Author.Rules.{rules}

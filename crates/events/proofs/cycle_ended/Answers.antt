@@ -1,7 +1,7 @@
 -- `cycle_ended` meets its contract: those who wait are answered, then what becomes of the write, on the state without them. Assumes
 -- nothing.
 use Prim.Native.Nat.{◌<◌}
-use Rattle.machine.specs.State.{CYCLE_ENDED}
+use Rattle.answers.specs.machine.State.{CYCLE_ENDED}
 use Rattle.events.proofs.Places.{found, not_found}
 use Rattle.events.proofs.Steps.{cycle_ready, cycle_led, told_quiet, told_cycle}
 use Rattle.events.proofs.cycle_ended.Goals as goal

@@ -1,6 +1,6 @@
 -- `gave_up` meets its contract: the front write of the channel is cut, as FINISH cuts one. Assumes nothing.
 use Prim.Native.Nat.{◌<◌}
-use Rattle.machine.specs.State.{GAVE_UP}
+use Rattle.answers.specs.machine.State.{GAVE_UP}
 use Rattle.events.proofs.Places.{found, not_found}
 use Rattle.events.proofs.Steps.{up_ready, told_quiet, told_up}
 use Rattle.events.proofs.gave_up.Goals as goal

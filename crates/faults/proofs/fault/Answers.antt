@@ -3,8 +3,8 @@ use Prim.Native.Nat.{◌+◌, ◌-◌, ◌≤◌, ◌<◌}
 use mathlib.Core.Path.{◌≡◌, refl, ap, sym, ◌∙◌}
 use native.Mathlib.Omega.{arith}
 use lib.ListN.{length, drop}
-use Rattle.gathering.specs.Lumps.{front}
-use Rattle.hex_lines.specs.HexLines.{octets_of}
+use Rattle.reading.specs.gathering.Lumps.{front}
+use Rattle.reading.specs.hex_lines.HexLines.{octets_of}
 use Rattle.reading.proofs.Turns.{end_within, line_is_front}
 use Rattle.faults.specs.Faults.{frame_of}
 use Rattle.faults.proofs.Laws.{without_end, good_line, bad_line, no_bytes, some_bytes, all_passed}

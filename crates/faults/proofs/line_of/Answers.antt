@@ -5,7 +5,7 @@ use native.Mathlib.Omega.{arith}
 use lib.ListN.{length, replicate}
 use lib.Seq.{length-take-le}
 use Rattle.memory.proofs.Splice.{length-splice}
-use Rattle.hex_lines.specs.HexLines.{octets_of}
+use Rattle.reading.specs.hex_lines.HexLines.{octets_of}
 use Rattle.reading.proofs.Turns.{octets_most, front_put}
 use Rattle.faults.specs.Faults.{frame_of}
 use Rattle.faults.proofs.line_of.Goals as goal

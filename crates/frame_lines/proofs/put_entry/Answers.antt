@@ -3,7 +3,7 @@ use Prim.Native.Nat.{◌-◌}
 use mathlib.Core.Path.{◌≡◌, ap, sym}
 use native.Mathlib.Omega.{arith}
 use lib.ListN.{length}
-use Rattle.machine.specs.Log.{line}
+use Rattle.machine_laws.specs.machine.Log.{line}
 use Rattle.frame_lines.proofs.FrameLines.{put_as, entry-request, entry_write, entry_span, length-request, length_write, length_span}
 use Rattle.frame_lines.proofs.put_entry.Goals as goal
 

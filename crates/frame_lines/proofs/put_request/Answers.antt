@@ -3,7 +3,7 @@ use Prim.Native.Nat.{ℕ, ◌+◌, ◌-◌, ◌%◌}
 use mathlib.Core.Path.{ap, ◌∙◌}
 use native.Mathlib.Omega.{arith}
 use lib.ListN.{length}
-use Rattle.machine.specs.InBytes.{mark_of}
+use Rattle.machine_laws.specs.machine.InBytes.{mark_of}
 use Rattle.frame_lines.proofs.FrameLines.{put_as, length-list, request_line_lem}
 use Rattle.frame_lines.proofs.put_request.Goals as goal
 

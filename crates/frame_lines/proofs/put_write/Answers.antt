@@ -3,7 +3,7 @@ use Prim.Native.Nat.{◌+◌, ◌-◌, ◌*◌}
 use mathlib.Core.Path.{ap}
 use mathlib.Core.List.{◌∷◌}
 use native.Mathlib.Omega.{arith}
-use Rattle.machine.specs.Log.{line}
+use Rattle.machine_laws.specs.machine.Log.{line}
 use Rattle.frame_lines.proofs.FrameLines.{put_as, entry_part}
 use Rattle.frame_lines.proofs.put_write.Goals as goal
 

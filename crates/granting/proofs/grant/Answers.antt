@@ -1,7 +1,7 @@
 -- `grant` meets its contract: the named channels' writes go and who waits for them, then the channels change hands. Assumes nothing.
 use mathlib.Core.Path.{refl, ◌∙◌}
-use Rattle.machine.specs.Granting.{key_for, taken}
-use Rattle.store.specs.Store.{state_in}
+use Rattle.keys.specs.machine.Granting.{key_for, taken}
+use Rattle.keys.specs.store.Store.{state_in}
 use Rattle.granting.proofs.Laws.{dropping_all, cuts_all, grant-struct, grant-table}
 use borrow.Author.Rules.{rules}
 use Rattle.granting.proofs.grant.Goals as goal

@@ -7,8 +7,8 @@ use native.Mathlib.Omega.{arith}
 use native.Mathlib.Nat.{zero-add}
 use lib.ListN.{length-set}
 use lib.Seq.{take_all}
-use Rattle.memory.specs.Splice.{splice}
-use Rattle.memory.proofs.Splice.{splice_none, copy_turn}
+use Rattle.spelling.specs.memory.Splice.{splice}
+use Rattle.spelling.proofs.memory.Splice.{splice_none, copy_turn}
 use Rattle.digits.specs.Digits.{pairs}
 use Rattle.digits.proofs.Laws.{length_pairs}
 use Rattle.hex_lines.proofs.HexLines.{octets_long, octets_unspelt, octets_are}

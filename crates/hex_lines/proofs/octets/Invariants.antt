@@ -4,7 +4,7 @@ use Prim.Native.Nat.{◌-◌, ◌/◌, ◌≤◌}
 use mathlib.Core.Path.{◌≡◌}
 use mathlib.Core.Bool.{true}
 use lib.ListN.{length, take}
-use Rattle.memory.specs.Splice.{splice}
+use Rattle.spelling.specs.memory.Splice.{splice}
 use Rattle.digits.specs.Digits.{spells, pairs}
 use Rattle.hex_lines.proofs.octets.Given as goal
 

@@ -4,8 +4,8 @@ use mathlib.Core.Path.{refl, ap, sym, ◌∙◌}
 use native.Mathlib.Omega.{arith}
 use lib.ListN.{length}
 use lib.Seq.{take_all}
-use Rattle.memory.specs.Splice.{splice}
-use Rattle.memory.proofs.Splice.{splice_none}
+use Rattle.spelling.specs.memory.Splice.{splice}
+use Rattle.spelling.proofs.memory.Splice.{splice_none}
 use Rattle.spelling.specs.Spelling.{digits}
 use Rattle.hex_lines.proofs.HexLines.{digits_turn}
 use borrow.Author.Rules.{rules}

@@ -1,5 +1,5 @@
 -- `wait` meets its contract: its id stands at its place, and its entry is written. Assumes nothing.
-use Rattle.store.proofs.Store.{held_length, waiting-count, waiting-small}
+use Rattle.answers.proofs.store.Store.{held_length, waiting-count, waiting-small}
 use Rattle.joining.proofs.Joining.{wait_few, wait_place, wait-told}
 use Rattle.joining.proofs.wait.Goals as goal
 

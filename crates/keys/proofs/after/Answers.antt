@@ -1,6 +1,6 @@
 -- `after` meets its contract: the two cases of the definition. Assumes nothing.
 use borrow.Author.Tests.{lt-ltb, le-ltb}
-use Rattle.machine.specs.Granting.{after}
+use Rattle.store.specs.machine.Granting.{after}
 use Rattle.keys.proofs.after.Goals as goal
 
 pub returns-then-k-lt65535 : goal.returns-then-k-lt65535

@@ -1,11 +1,11 @@
 -- `new_key` meets its contract: with i candidates passed, the first unused of the rest is the new key. Assumes nothing.
 use native.Mathlib.Nat.{sub-zero}
-use Rattle.queue.specs.Queue.{list_of}
+use Rattle.open_keys.specs.queue.Queue.{list_of}
 use Rattle.open_keys.specs.OpenKeys.{keys_in}
 use Prim.Native.Nat.{◌-◌, ◌+◌}
 use mathlib.Core.Path.{◌≡◌, refl, sym, ◌∙◌}
 use native.Mathlib.Omega.{arith}
-use Rattle.machine.specs.Granting.{first_unused}
+use Rattle.store.specs.machine.Granting.{first_unused}
 use Rattle.store.proofs.Store.{held_length, waiting-small, waiting-count, opens-count}
 use Rattle.keys.proofs.Turns.{used_keys, used_is, new_key_is, first_found, first_turn}
 use Rattle.keys.proofs.new_key.Goals as goal

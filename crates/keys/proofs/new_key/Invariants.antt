@@ -1,9 +1,9 @@
 -- `new_key` meets its contract: with i candidates passed, the first unused of the rest is the new key. Assumes nothing.
-use Rattle.queue.specs.Queue.{list_of}
+use Rattle.open_keys.specs.queue.Queue.{list_of}
 use Rattle.open_keys.specs.OpenKeys.{keys_in}
 use Prim.Native.Nat.{◌≤◌, ◌-◌}
 use mathlib.Core.Path.{◌≡◌}
-use Rattle.machine.specs.Granting.{first_unused}
+use Rattle.store.specs.machine.Granting.{first_unused}
 use Rattle.keys.proofs.Turns.{used_keys}
 use Rattle.keys.proofs.new_key.Given as goal
 

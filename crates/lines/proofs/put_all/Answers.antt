@@ -1,7 +1,7 @@
 -- `put_all` meets its contract: after i turns the lines of the first i records stand in front. Assumes nothing.
 use mathlib.Core.Path.{◌≡◌, refl, sym}
 use native.Mathlib.Omega.{arith}
-use Rattle.memory.proofs.Splice.{splice_none}
+use Rattle.spelling.proofs.memory.Splice.{splice_none}
 use Rattle.lines.specs.Lines.{record_lines}
 use Rattle.lines.proofs.Laws.{record_turn, answer_last}
 use Rattle.lines.proofs.put_all.Goals as goal

@@ -2,7 +2,7 @@
 use Prim.Native.Nat.{◌≤◌, ◌-◌}
 use mathlib.Core.Path.{◌≡◌}
 use lib.ListN.{length}
-use Rattle.memory.specs.Splice.{splice}
+use Rattle.spelling.specs.memory.Splice.{splice}
 use Rattle.lines.specs.Lines.{record_lines}
 use Rattle.lines.proofs.put_all.Given as goal
 

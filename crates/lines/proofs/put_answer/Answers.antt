@@ -4,10 +4,10 @@ use mathlib.Core.Path.{◌≡◌}
 use mathlib.Core.List.{[], ◌∷◌, ◌++◌}
 use native.Mathlib.Omega.{arith}
 use lib.ListN.{length-set}
-use Rattle.memory.specs.Splice.{splice}
-use Rattle.memory.proofs.Splice.{splice_snoc}
+use Rattle.spelling.specs.memory.Splice.{splice}
+use Rattle.spelling.proofs.memory.Splice.{splice_snoc}
 use Rattle.std.specs.Prelude.{if◌then◌else◌}
-use Rattle.machine.specs.Log.{line, answer_line}
+use Rattle.spelling.specs.machine.Log.{line, answer_line}
 use Rattle.spelling.specs.Spelling.{digits}
 use Rattle.spelling.proofs.Laws.{runs_splice}
 use Rattle.lines.proofs.put_answer.Goals as goal

@@ -2,7 +2,7 @@
 use mathlib.Core.Path.{sym, ◌∙◌}
 use native.Mathlib.Omega.{arith}
 use borrow.Author.Tests.{not-true, not-false}
-use Rattle.board.proofs.Laws.{held_length}
+use Rattle.image.proofs.board.Laws.{held_length}
 use Rattle.loading.specs.Loading.{Fits}
 use Rattle.memory.proofs.Splice.{splice_all}
 use Rattle.loading.proofs.Laws.{does_not_fit, not_four, not_saved, was_saved}

@@ -2,7 +2,7 @@
 use mathlib.Core.Path.{ap, sym, ◌∙◌}
 use lib.ListN.{length}
 use native.Mathlib.Omega.{arith}
-use Rattle.store.specs.Store.{lock_in}
+use Rattle.fates.specs.store.Store.{lock_in}
 use Rattle.fates.specs.Fates.{ends_at, map_at}
 use Rattle.locks.proofs.Turns.{ending_one, step_gone, step_stays}
 use Rattle.locks.proofs.one.Goals as goal

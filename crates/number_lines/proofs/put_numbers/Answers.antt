@@ -2,7 +2,7 @@
 use Prim.Native.Nat.{◌-◌}
 use mathlib.Core.Path.{◌≡◌, refl, ap}
 use native.Mathlib.Omega.{arith}
-use Rattle.saved.specs.Saved.{spelt}
+use Rattle.saved2.specs.saved.Saved.{spelt}
 use Rattle.frame_lines.proofs.FrameLines.{put_none, put_then, put_as}
 use Rattle.number_lines.specs.NumberLines.{number_lines}
 use Rattle.number_lines.proofs.NumberLines.{lines_nine, lines_more}

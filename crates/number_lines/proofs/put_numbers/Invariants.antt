@@ -3,7 +3,7 @@ use Prim.Native.Nat.{◌+◌, ◌-◌, ◌*◌, ◌≤◌}
 use mathlib.Core.Path.{◌≡◌}
 use lib.ListN.{length}
 use Rattle.hex_lines.specs.HexLines.{Put}
-use Rattle.saved.specs.Saved.{spelt}
+use Rattle.saved2.specs.saved.Saved.{spelt}
 use Rattle.number_lines.specs.NumberLines.{number_lines}
 use Rattle.number_lines.proofs.put_numbers.Given as goal
 

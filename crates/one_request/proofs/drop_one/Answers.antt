@@ -2,7 +2,7 @@
 use Rattle.one_request.proofs.Steps.{told-list}
 use mathlib.Core.Path.{◌∙◌}
 use native.Mathlib.Omega.{arith}
-use Rattle.store.proofs.Store.{held_length, waiting-count}
+use Rattle.locks.proofs.store.Store.{held_length, waiting-count}
 use Rattle.waiting.proofs.Waiting.{id-small}
 use Rattle.one_request.proofs.drop_one.Goals as goal
 

@@ -1,7 +1,7 @@
 -- `grant_one` meets its contract: the request is taken out, its map granted, then it is replied. Assumes nothing.
 use mathlib.Core.Path.{◌∙◌}
 use native.Mathlib.Omega.{arith}
-use Rattle.store.proofs.Store.{held_length, waiting-count}
+use Rattle.locks.proofs.store.Store.{held_length, waiting-count}
 use Rattle.waiting.proofs.Waiting.{id-small}
 use Rattle.one_request.proofs.Steps.{key_is, prec_is, out_ready, out_room, out_granted}
 use Rattle.one_request.proofs.grant_one.Goals as goal

@@ -1,7 +1,7 @@
 -- `take_out` meets its contract: the id leaves its queue, and its entry is cleared. Assumes nothing.
 use mathlib.Core.Path.{◌∙◌}
 use native.Mathlib.Omega.{arith}
-use Rattle.store.proofs.Store.{held_length, waiting-count}
+use Rattle.locks.proofs.store.Store.{held_length, waiting-count}
 use Rattle.waiting.proofs.Waiting.{id-small}
 use Rattle.one_request.proofs.Without.{out_struct, out_held}
 use Rattle.one_request.proofs.take_out.Goals as goal

@@ -1,7 +1,7 @@
 -- `open` meets its contract: a look that does not grant changes nothing. Assumes nothing.
 use mathlib.Core.Path.{sym, ap, ◌∙◌}
-use Rattle.choosing.specs.Choosing.{look_of}
-use Rattle.store.specs.Store.{state_in}
+use Rattle.allocating.specs.choosing.Choosing.{look_of}
+use Rattle.answers.specs.store.Store.{state_in}
 use Rattle.answers.specs.Answers.{call_of}
 use Rattle.answers.proofs.Laws.{told_as}
 use Rattle.allocating.proofs.Steps.{is_grants, open_by, open_shut, grant-ready}

@@ -1,7 +1,7 @@
 -- `better` meets its contract: each return is a case of what a best so far and one more combination choose. Assumes nothing.
 use native.Mathlib.Omega.{arith}
-use Rattle.machine.specs.Choosing.{takeable, eligible}
-use Rattle.standing.proofs.Masks.{failing_pass, failing_fail}
+use Rattle.pricing.specs.machine.Choosing.{takeable, eligible}
+use Rattle.pricing.proofs.standing.Masks.{failing_pass, failing_fail}
 use Rattle.picking.proofs.Laws.{better_refused, better_cheaper, better_stays}
 use Rattle.picking.proofs.better.Goals as goal
 

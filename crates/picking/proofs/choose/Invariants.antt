@@ -3,8 +3,8 @@
 use Prim.Native.Nat.{◌-◌}
 use mathlib.Core.List.{List}
 use lib.ListN.{length}
-use Rattle.machine.specs.State.{Channel}
-use Rattle.standing.specs.Standing.{Stood}
+use Rattle.pricing.specs.machine.State.{Channel}
+use Rattle.pricing.specs.standing.Standing.{Stood}
 use Rattle.picking.proofs.Turns.{Walked}
 use Rattle.picking.proofs.choose.Given as goal
 

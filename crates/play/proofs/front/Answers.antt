@@ -1,5 +1,5 @@
 -- `front` meets its contract, case by case of its two tests. Assumes nothing.
-use Rattle.machine.proofs.Tests.{eqb_false}
+use Rattle.answers.proofs.machine.Tests.{eqb_false}
 use Rattle.play.specs.Play.{front_of}
 use Rattle.play.proofs.front.Goals as goal
 

@@ -4,8 +4,8 @@ use mathlib.Core.List.{[]}
 use Prim.Native.Nat.{◌≤◌}
 use lib.ListN.{length}
 use native.Mathlib.Omega.{arith}
-use Rattle.store.specs.Store.{state_in}
-use Rattle.memory.proofs.Splice.{splice_none}
+use Rattle.answers.specs.store.Store.{state_in}
+use Rattle.table.proofs.memory.Splice.{splice_none}
 use Rattle.answers.proofs.Laws.{finished_of, finished-told, told_as}
 use Rattle.granting.proofs.Laws.{held_channels}
 use Rattle.play.proofs.Laws.{read_finishes}

@@ -3,7 +3,7 @@ use Prim.Native.Nat.{◌≤◌, ◌<◌}
 use mathlib.Core.Path.{ap, sym, ◌∙◌}
 use mathlib.Core.List.{[]}
 use Rattle.answers.specs.Answers.{call_of, answer_of}
-use Rattle.machine.specs.Commands.{done}
+use Rattle.answers.specs.machine.Commands.{done}
 use Rattle.channel.specs.Channel.{has_key}
 use Rattle.play.proofs.Laws.{single_none, single_at, single_is, single_bit, free_matches, matches_is, read_no, read_yes}
 use borrow.Author.Rules.{rules}

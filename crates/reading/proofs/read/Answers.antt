@@ -8,7 +8,7 @@ use lib.Seq.{length-take-le}
 use Rattle.memory.proofs.Splice.{length-splice}
 use Rattle.gathering.specs.Lumps.{front}
 use Rattle.hex_lines.specs.HexLines.{octets_of}
-use Rattle.sheet.specs.Sheet.{Sheet, sheet, taken, taken_all}
+use Rattle.saved_frames.specs.sheet.Sheet.{Sheet, sheet, taken, taken_all}
 use Rattle.reading.specs.Reading.{frames_in}
 use Rattle.reading.proofs.Turns.{octets_most, front_put, end_within, line_is_front, sheet_turn, after, still_eight, fresh-eight, from_fresh, at_end}
 use borrow.Author.Rules.{rules}

@@ -2,7 +2,7 @@
 use Prim.Native.Nat.{◌-◌, ◌≤◌}
 use mathlib.Core.Path.{◌≡◌}
 use lib.ListN.{length, drop}
-use Rattle.sheet.specs.Sheet.{sheet, taken_all}
+use Rattle.saved_frames.specs.sheet.Sheet.{sheet, taken_all}
 use Rattle.reading.specs.Reading.{frames_in, read_from}
 use Rattle.reading.proofs.read.Given as goal
 

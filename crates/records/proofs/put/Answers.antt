@@ -4,8 +4,8 @@ use mathlib.Core.Path.{ap₂, ◌∙◌}
 use mathlib.Core.List.{[], ◌∷◌}
 use native.Mathlib.Omega.{arith}
 use lib.ListN.{length-set}
-use Rattle.memory.specs.Splice.{splice}
-use Rattle.memory.proofs.Splice.{stores-splice}
+use Rattle.table.specs.memory.Splice.{splice}
+use Rattle.table.proofs.memory.Splice.{stores-splice}
 use Rattle.records.proofs.put.Goals as goal
 
 pub bounds-out-at-2 : goal.bounds-out-at-2

@@ -3,7 +3,7 @@ use Prim.Native.Nat.{ℕ, ◌-◌}
 use mathlib.Core.Path.{◌≡◌, ap, ◌∙◌}
 use native.Mathlib.Omega.{arith}
 use borrow.Author.Rules.{rules}
-use Rattle.memory.specs.Splice.{splice}
+use Rattle.table.specs.memory.Splice.{splice}
 use Rattle.records.specs.Records.{first_records}
 use Rattle.records.proofs.Records.{filling_start, filling_more, four_is}
 use Rattle.records.proofs.put_all.Goals as goal

@@ -3,9 +3,9 @@ use Prim.Native.Nat.{ℕ}
 use mathlib.Core.Path.{ap, ◌∙◌}
 use mathlib.Core.List.{List, ◌++◌, map}
 use lib.ListN.{take}
-use Rattle.machine.specs.InBytes.{two_bytes}
+use Rattle.widening.specs.machine.InBytes.{two_bytes}
 use Rattle.waiting.proofs.Finding.{readable}
-use Rattle.channel_numbers.specs.ChannelNumbers.{count_at, moved}
+use Rattle.correcting.specs.channel_numbers.ChannelNumbers.{count_at, moved}
 use Rattle.board.proofs.Laws.{held_wide}
 use Rattle.recounting.proofs.Recounting.{recounted}
 use Rattle.recounting.proofs.recount.Goals as goal

@@ -4,8 +4,8 @@ use mathlib.Core.Path.{◌≡◌, refl, ap, ◌∙◌}
 use mathlib.Core.List.{map}
 use native.Mathlib.Omega.{arith}
 use lib.ListN.{length, take}
-use Rattle.store.specs.Store.{request_in}
-use Rattle.lanes.specs.Lanes.{word_of, weights}
+use Rattle.board.specs.store.Store.{request_in}
+use Rattle.correcting.specs.lanes.Lanes.{word_of, weights}
 use Rattle.recounting.proofs.Recounting.{words_more, words_fit}
 use borrow.Author.Rules.{rules}
 use Rattle.recounting.proofs.words_of.Goals as goal

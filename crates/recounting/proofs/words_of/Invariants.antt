@@ -3,8 +3,8 @@ use Prim.Native.Nat.{◌-◌, ◌≤◌}
 use mathlib.Core.Path.{◌≡◌}
 use mathlib.Core.List.{map}
 use lib.ListN.{take}
-use Rattle.store.specs.Store.{request_in}
-use Rattle.lanes.specs.Lanes.{weights}
+use Rattle.board.specs.store.Store.{request_in}
+use Rattle.correcting.specs.lanes.Lanes.{weights}
 use Rattle.recounting.proofs.words_of.Given as goal
 
 abbrev pub invariant-loop-i : goal.invariant-loop-i

@@ -6,8 +6,8 @@ use borrow.Author.Tests.{lt-ltb, eq-eqb, ne_eqb}
 use Rattle.steps.specs.Steps.{number_of}
 use Rattle.steps.proofs.Laws.{met, past, none, map-met, map_past, id_past, unknown-met, unknown_past, reads-list, reads-map, reads-numbers, allocates_32}
 use Rattle.refusals.proofs.Laws.{own_desk, other_desk}
-use Rattle.machine.specs.Kinds.{kind, carries}
-use Rattle.machine.proofs.Known.{carries_two}
+use Rattle.open_keys.specs.machine.Kinds.{kind, carries}
+use Rattle.open_keys.proofs.machine.Known.{carries_two}
 use borrow.Author.Rules.{rules}
 use Rattle.refusals.proofs.verdict_command.Goals as goal
 

@@ -5,7 +5,7 @@ use mathlib.Core.Path.{◌≡◌, refl, ap, sym}
 use mathlib.Core.List.{map}
 use native.Mathlib.Omega.{arith}
 use lib.ListN.{length, take}
-use Rattle.saved.specs.Saved.{spelt}
+use Rattle.frame_lines.specs.saved.Saved.{spelt}
 use Rattle.frame_lines.specs.FrameLines.{channel_line}
 use Rattle.frame_lines.proofs.FrameLines.{spelt_more, channel_room, put_none, put_then, put_as}
 use Rattle.saved_channels.proofs.put_channels.Goals as goal

@@ -4,7 +4,7 @@ use mathlib.Core.Path.{◌≡◌}
 use mathlib.Core.List.{map}
 use lib.ListN.{length, take}
 use Rattle.hex_lines.specs.HexLines.{Put}
-use Rattle.saved.specs.Saved.{spelt}
+use Rattle.frame_lines.specs.saved.Saved.{spelt}
 use Rattle.frame_lines.specs.FrameLines.{channel_line, AllListed}
 use Rattle.saved_channels.proofs.put_channels.Given as goal
 

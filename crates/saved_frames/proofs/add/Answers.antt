@@ -1,6 +1,6 @@
 -- `add` meets its contract: the code does to the table of keys what `added_key` says. Assumes nothing.
 use mathlib.Core.Path.{refl}
-use Rattle.sheet.specs.Sheet.{added_key}
+use Rattle.channel_frames.specs.sheet.Sheet.{added_key}
 use Rattle.saved_frames.proofs.add.Goals as goal
 
 pub returns : goal.returns

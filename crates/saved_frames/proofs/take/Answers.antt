@@ -3,7 +3,7 @@
 use mathlib.Core.Path.{◌≡◌}
 use native.Mathlib.Omega.{arith}
 use lib.ListN.{length, get_or}
-use Rattle.sheet.proofs.Taking.{empty_passed, taken-channel, taken_part}
+use Rattle.channel_frames.proofs.sheet.Taking.{empty_passed, taken-channel, taken_part}
 use Rattle.saved_frames.proofs.take.Goals as goal
 
 pub returns-then-f-eq0 : goal.returns-then-f-eq0

@@ -2,7 +2,7 @@
 use mathlib.Core.Path.{◌≡◌}
 use native.Mathlib.Omega.{arith}
 use lib.ListN.{length}
-use Rattle.sheet.proofs.Taking.{last_passed, last_took}
+use Rattle.channel_frames.proofs.sheet.Taking.{last_passed, last_took}
 use Rattle.saved_frames.proofs.take_last.Goals as goal
 
 pub returns-then-f-ne3 : goal.returns-then-f-ne3

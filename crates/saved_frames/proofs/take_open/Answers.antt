@@ -3,8 +3,8 @@ use Prim.Native.Nat.{◌<◌}
 use mathlib.Core.Path.{◌≡◌, ap, ◌∙◌}
 use native.Mathlib.Omega.{arith}
 use lib.ListN.{length}
-use Rattle.sheet.specs.Sheet.{added_key}
-use Rattle.sheet.proofs.Taking.{has_open_lem, open_passed, open_took}
+use Rattle.channel_frames.specs.sheet.Sheet.{added_key}
+use Rattle.channel_frames.proofs.sheet.Taking.{has_open_lem, open_passed, open_took}
 use Rattle.saved_frames.proofs.take_open.Goals as goal
 
 pub returns-then-f-ne3 : goal.returns-then-f-ne3

@@ -1,7 +1,7 @@
 -- `take_part` meets its contract: by the first byte it is the step of that kind, and a frame of no kind is passed over. Assumes nothing.
 use mathlib.Core.Path.{◌≡◌}
 use native.Mathlib.Omega.{arith}
-use Rattle.sheet.proofs.Taking.{part_request, part_lock, part_waiter, part_write, part_open, part_last, part_none}
+use Rattle.channel_frames.proofs.sheet.Taking.{part_request, part_lock, part_waiter, part_write, part_open, part_last, part_none}
 use Rattle.saved_frames.proofs.take_part.Goals as goal
 
 pub returns-then-first-eq210 : goal.returns-then-first-eq210

@@ -4,8 +4,8 @@ use Prim.Native.Nat.{◌≤◌, ◌<◌}
 use mathlib.Core.Path.{◌∙◌}
 use native.Mathlib.Omega.{arith}
 use lib.ListN.{length, get_or}
-use Rattle.sheet.specs.Sheet.{request_entry}
-use Rattle.sheet.proofs.Taking.{rest_is_drop, has_request_lem, request-passed, request-took}
+use Rattle.channel_frames.specs.sheet.Sheet.{request_entry}
+use Rattle.channel_frames.proofs.sheet.Taking.{rest_is_drop, has_request_lem, request-passed, request-took}
 use Rattle.saved_frames.proofs.take_request.Goals as goal
 
 pub returns-then-n-lt7 : goal.returns-then-n-lt7

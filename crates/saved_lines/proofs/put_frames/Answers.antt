@@ -1,8 +1,8 @@
 -- `put_frames` meets its contract: the parts stand one behind the other, and there is room for all of them. Assumes nothing.
 use native.Mathlib.Omega.{arith}
 use Rattle.board.proofs.Laws.{sized-within, held_sized, held_wide, held_opens-count}
-use Rattle.frame_lines.proofs.FrameLines.{put_then, put_as}
-use Rattle.frame_lines.proofs.FramesIn.{all_listed, opens-length, pieces, pieces_length}
+use Rattle.saved_channels.proofs.frame_lines.FrameLines.{put_then, put_as}
+use Rattle.saved_channels.proofs.frame_lines.FramesIn.{all_listed, opens-length, pieces, pieces_length}
 use Rattle.saved_lines.proofs.put_frames.Goals as goal
 
 pub put_channels-p-requires : goal.put_channels-p-requires

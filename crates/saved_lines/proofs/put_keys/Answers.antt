@@ -1,7 +1,7 @@
 -- `put_keys` meets its contract: the last key stands behind the open ones. Assumes nothing.
 use native.Mathlib.Omega.{arith}
-use Rattle.frame_lines.proofs.FrameLines.{put_then}
-use Rattle.frame_lines.proofs.FramesIn.{keys_length}
+use Rattle.saved_channels.proofs.frame_lines.FrameLines.{put_then}
+use Rattle.saved_channels.proofs.frame_lines.FramesIn.{keys_length}
 use Rattle.saved_lines.proofs.put_keys.Goals as goal
 
 pub put_opens-p-requires : goal.put_opens-p-requires

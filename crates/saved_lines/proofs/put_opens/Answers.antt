@@ -5,9 +5,9 @@ use mathlib.Core.Path.{◌≡◌, refl, ap, sym}
 use mathlib.Core.List.{map}
 use native.Mathlib.Omega.{arith}
 use lib.ListN.{get_or, take}
-use Rattle.saved.specs.Saved.{OPEN, key_frame, spelt}
-use Rattle.hex_lines.proofs.HexLines.{length_line}
-use Rattle.frame_lines.proofs.FrameLines.{spelt_more, room_more, put_none, put_then, put_as}
+use Rattle.saved_channels.specs.saved.Saved.{OPEN, key_frame, spelt}
+use Rattle.saved_channels.proofs.hex_lines.HexLines.{length_line}
+use Rattle.saved_channels.proofs.frame_lines.FrameLines.{spelt_more, room_more, put_none, put_then, put_as}
 use Rattle.saved_lines.proofs.put_opens.Goals as goal
 
 pub loop-i-init : goal.loop-i-init

@@ -3,8 +3,8 @@ use Prim.Native.Nat.{◌+◌, ◌-◌, ◌≤◌}
 use mathlib.Core.Path.{◌≡◌}
 use mathlib.Core.List.{map}
 use lib.ListN.{length, take}
-use Rattle.hex_lines.specs.HexLines.{Put}
-use Rattle.saved.specs.Saved.{OPEN, key_frame, spelt}
+use Rattle.saved_channels.specs.hex_lines.HexLines.{Put}
+use Rattle.saved_channels.specs.saved.Saved.{OPEN, key_frame, spelt}
 use Rattle.saved_lines.proofs.put_opens.Given as goal
 
 abbrev pub invariant-loop-i : goal.invariant-loop-i

@@ -3,9 +3,9 @@ use Prim.Native.Nat.{◌-◌, ◌<◌}
 use mathlib.Core.Path.{◌≡◌, refl, ap, sym}
 use native.Mathlib.Omega.{arith}
 use lib.ListN.{length, take}
-use Rattle.machine.specs.State.{free}
+use Rattle.store.specs.machine.State.{free}
 use Rattle.channel.specs.Channel.{channel_of}
-use Rattle.saved.specs.Saved.{spelt}
+use Rattle.frame_lines.specs.saved.Saved.{spelt}
 use Rattle.frame_lines.specs.FrameLines.{writes_in}
 use Rattle.frame_lines.proofs.FrameLines.{writes_step, writes_room, writes_fit, put_none, put_then, put_as}
 use borrow.Author.Rules.{rules}

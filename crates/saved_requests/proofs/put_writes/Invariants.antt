@@ -3,7 +3,7 @@ use Prim.Native.Nat.{◌+◌, ◌-◌, ◌≤◌}
 use mathlib.Core.Path.{◌≡◌}
 use lib.ListN.{length, take}
 use Rattle.hex_lines.specs.HexLines.{Put}
-use Rattle.saved.specs.Saved.{spelt}
+use Rattle.frame_lines.specs.saved.Saved.{spelt}
 use Rattle.frame_lines.specs.FrameLines.{writes_in, AllListed}
 use Rattle.saved_requests.proofs.put_writes.Given as goal
 

@@ -2,8 +2,8 @@
 use mathlib.Core.Path.{refl, ap, sym, ◌∙◌}
 use native.Mathlib.Omega.{arith}
 use lib.Seq.{length-take-le}
-use Rattle.sound.proofs.Laws.{yes_T}
-use Rattle.board.specs.declared.Board.{Board}
+use Rattle.waiting_list.proofs.sound.Laws.{yes_T}
+use Rattle.image.specs.board.declared.Board.{Board}
 use Rattle.waiting_list.proofs.Laws.{no_struct, no_state, a_state}
 use Rattle.saving.proofs.Laws.{text_fits, page-within, copied, not_sound, has_eight, too_short, all_written}
 use Rattle.saving.proofs.save.Goals as goal

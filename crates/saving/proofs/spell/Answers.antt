@@ -1,6 +1,6 @@
 -- `spell` meets its contract: the first line stands in front, and the others behind it. Assumes nothing.
 use native.Mathlib.Omega.{arith}
-use Rattle.board.specs.Board.{state_in}
+use Rattle.image.specs.board.Board.{state_in}
 use Rattle.saving.proofs.Laws.{frames_fit, text-put}
 use Rattle.saving.proofs.spell.Goals as goal
 

@@ -1,9 +1,9 @@
 -- `save2` meets its contract: the tests say which case of the promise is asked, and the text is the board's own. Assumes nothing.
 use mathlib.Core.Path.{refl, sym, ◌∙◌}
-use Rattle.sound.proofs.Laws.{yes_T}
+use Rattle.accepting.proofs.sound.Laws.{yes_T}
 use Rattle.accepting.proofs.Accepting.{false_true}
-use Rattle.waiting_list.proofs.Laws.{no_struct, no_state, a_state}
-use Rattle.saving.proofs.Laws.{page-within}
+use Rattle.accepting.proofs.waiting_list.Laws.{no_struct, no_state, a_state}
+use Rattle.accepting.proofs.saving.Laws.{page-within}
 use Rattle.saving2.proofs.Laws2.{text2_fits, not_sound, disagrees, saved-text}
 use Rattle.saving2.proofs.save2.Goals as goal
 

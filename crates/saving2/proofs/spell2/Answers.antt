@@ -1,7 +1,7 @@
 -- `spell2` meets its contract: the two lines in front, those of the first form, and the counted numbers stand one behind the other. Assumes nothing.
 use native.Mathlib.Omega.{arith}
 use Rattle.machine.specs.Log.{line}
-use Rattle.frame_lines.proofs.FrameLines.{put_as}
+use Rattle.number_lines.proofs.frame_lines.FrameLines.{put_as}
 use Rattle.saving2.proofs.Laws2.{counted-long, within, frames_fit, text2_parts, text2-put}
 use Rattle.saving2.proofs.spell2.Goals as goal
 

@@ -3,8 +3,8 @@
 use Prim.Native.Nat.{◌-◌}
 use mathlib.Core.Path.{sym, ◌∙◌}
 use native.Mathlib.Omega.{arith}
-use Rattle.store.proofs.Store.{held_length}
-use Rattle.waiting.proofs.Finding.{readable}
+use Rattle.visiting.proofs.store.Store.{held_length}
+use Rattle.visiting.proofs.waiting.Finding.{readable}
 use Rattle.settling.proofs.Loops.{head_at_start, walk_at_start, walk_after, counts_fit, walk_visits, walk_again}
 use Rattle.settling.proofs.Loops.{walk_less, at_end, end_left, left_fits, at_again, at_next}
 use Rattle.settling.proofs.settle.Goals as goal

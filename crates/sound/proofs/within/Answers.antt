@@ -1,8 +1,8 @@
 -- `within` meets its contract: its steps are those of the test, and the test decides what is asked (Laws.antt). Assumes nothing.
 use mathlib.Core.Path.{ap, sym, ◌∙◌}
 use borrow.Author.Tests.{not-true, not-false}
-use Rattle.placing.specs.declared.Marks.{Marks}
-use Rattle.placing.proofs.Cases.{tidied, shape}
+use Rattle.table_rest.specs.placing.declared.Marks.{Marks}
+use Rattle.table_rest.proofs.placing.Cases.{tidied, shape}
 use Rattle.sound.proofs.Laws.{yes_T, deciding, waiting-low, not_long, not_shaped, not_placed, not_falling, rest-tells}
 use borrow.Author.Rules.{rules}
 use Rattle.sound.proofs.within.Goals as goal

@@ -3,7 +3,7 @@ use Prim.Native.Nat.{◌<◌}
 use mathlib.Core.Path.{◌≡◌}
 use lib.ListN.{length, length-map}
 use borrow.Author.Tests.{eq-eqb, ne_eqb, lt-ltb}
-use Rattle.machine.specs.Sound.{sound_lock}
+use Rattle.store.specs.machine.Sound.{sound_lock}
 use Rattle.entries.specs.Entries.{lock_test}
 use borrow.Author.Rules.{rules}
 use Rattle.span_entries.proofs.is_sound_lock.Goals as goal

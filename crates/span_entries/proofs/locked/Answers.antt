@@ -2,7 +2,7 @@
 use Rattle.span_entries.proofs.locked.Goals.{then-names+else-not-owned, else-names}
 use Prim.Native.Nat.{◌-◌}
 use mathlib.Core.Path.{sym, ◌∙◌}
-use Rattle.machine.specs.State.{free}
+use Rattle.store.specs.machine.State.{free}
 use Rattle.channel.specs.Channel.{channel_of}
 use Rattle.span_entries.proofs.Turns.{tested_start, tested_stop, tested_more, tested-skip, tested_end}
 use borrow.Author.Rules.{rules}

@@ -2,7 +2,7 @@
 use Prim.Native.Nat.{ℕ, ◌-◌}
 use mathlib.Core.Bool.{◌&&◌}
 use lib.Dec.{eqb}
-use Rattle.machine.specs.State.{Write}
+use Rattle.store.specs.machine.State.{Write}
 use Rattle.span_entries.proofs.Turns.{Tested}
 use Rattle.span_entries.proofs.locked.Given as goal
 

@@ -1,7 +1,7 @@
 -- `carries` meets its contract: WRITE and PERVOL alone carry numbers. Assumes nothing.
 use mathlib.Core.Path.{sym}
 use borrow.Author.Tests.{eq-eqb, ne_eqb}
-use Rattle.machine.proofs.Known.{carries_two}
+use Rattle.store.proofs.machine.Known.{carries_two}
 use Rattle.steps.proofs.carries.Goals as goal
 
 pub returns-then-command-eq3 : goal.returns-then-command-eq3

@@ -1,6 +1,6 @@
 -- `tune_fronts` meets its contract: each channel with a write in progress has a front whose entry is a write's, and no struct changes.
 -- Assumes nothing.
-use Rattle.store.proofs.Store.{held_length}
+use Rattle.answers.proofs.store.Store.{held_length}
 use Rattle.tuning.proofs.Laws.{tune_asks, tunes}
 use Rattle.tuning.proofs.tune_fronts.Goals as goal
 

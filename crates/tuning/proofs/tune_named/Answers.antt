@@ -3,7 +3,7 @@ use Prim.Native.Nat.{◌<◌}
 use mathlib.Core.Path.{sym, ◌∙◌}
 use native.Mathlib.Omega.{arith}
 use lib.ListN.{length}
-use Rattle.machine.specs.State.{free}
+use Rattle.answers.specs.machine.State.{free}
 use Rattle.channel.specs.Channel.{channel_of}
 use Rattle.tuning.proofs.Turns.{tuning_start, tuning_front, tuning-named, tuning-passed, tuning_end}
 use borrow.Author.Rules.{rules}

@@ -1,6 +1,6 @@
 -- `hold` meets its contract: the locks over the map end, and the walk goes on behind the request. Assumes nothing.
 use native.Mathlib.Omega.{arith}
-use Rattle.store.proofs.Store.{waiting-count}
+use Rattle.one_request.proofs.store.Store.{waiting-count}
 use Rattle.visiting.proofs.Promised.{map_below, held_ready, held_turned}
 use Rattle.visiting.proofs.hold.Goals as goal
 

@@ -4,11 +4,11 @@ use mathlib.Core.Path.{ap, sym, ◌∙◌}
 use native.Mathlib.Omega.{arith}
 use Rattle.machine.specs.State.{Request}
 use Rattle.memory.specs.Splice.{block}
-use Rattle.table.specs.Entry.{list_in}
+use Rattle.one_request.specs.table.Entry.{list_in}
 use Rattle.lanes.specs.Lanes.{word_of}
-use Rattle.store.proofs.Store.{held_length, waiting-count}
-use Rattle.waiting.proofs.Waiting.{waiter_is}
-use Rattle.waiting.proofs.Finding.{readable}
+use Rattle.one_request.proofs.store.Store.{held_length, waiting-count}
+use Rattle.one_request.proofs.waiting.Waiting.{waiter_is}
+use Rattle.one_request.proofs.waiting.Finding.{readable}
 use Rattle.visiting.proofs.word_at.Goals as goal
 
 pub at-id-requires : goal.at-id-requires

@@ -2,7 +2,7 @@
 use Prim.Native.Nat.{ℕ}
 use mathlib.Core.Bool.{Bool}
 use mathlib.Core.List.{List}
-use Rattle.memory.specs.Splice.{block}
+use Rattle.table.specs.memory.Splice.{block}
 use Rattle.std.specs.Prelude.{if◌then◌else◌}
 use Rattle.entries.specs.Entries.{same}
 use mathlib.Core.Path.{ap, sym, ◌∙◌}

@@ -1,7 +1,7 @@
 -- `next` meets its contract: nothing comes of the requests passed, and each is read from its entry. Assumes nothing.
 use mathlib.Core.Path.{ap₂, ◌∙◌}
 use native.Mathlib.Omega.{arith}
-use Rattle.machine.specs.Choosing.{look}
+use Rattle.store.specs.machine.Choosing.{look}
 use Rattle.choosing.specs.Choosing.{look_of}
 use Rattle.waiting.proofs.Finding.{passing_start, passing_more, finds_here, finds_end, comes_is}
 use borrow.Author.Rules.{rules}

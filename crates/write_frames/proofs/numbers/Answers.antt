@@ -4,7 +4,7 @@ use mathlib.Core.Path.{◌≡◌, ap, ◌∙◌}
 use mathlib.Core.List.{List}
 use native.Mathlib.Omega.{arith}
 use lib.ListN.{length, drop, replicate}
-use Rattle.memory.specs.Splice.{splice}
+use Rattle.table.specs.memory.Splice.{splice}
 use Rattle.sheet.proofs.Taking.{rest_is_drop, numbers_behind, numbers_front}
 use Rattle.write_frames.proofs.numbers.Goals as goal
 

@@ -2,7 +2,7 @@
 use mathlib.Core.Path.{ap, ◌∙◌}
 use native.Mathlib.Omega.{arith}
 use lib.ListN.{length}
-use Rattle.store.proofs.Store.{held_length, numbers-long}
+use Rattle.answers.proofs.store.Store.{held_length, numbers-long}
 use Rattle.memory.specs.Splice.{splice}
 use Rattle.writing.proofs.Steps.{entry_of, write_room, join_struct}
 use Rattle.writing.proofs.join.Goals as goal

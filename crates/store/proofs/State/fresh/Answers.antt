@@ -1,5 +1,5 @@
 -- `fresh` meets its contract: eight unused channels and empty queues. Assumes nothing.
-use Rattle.machine.specs.State.{frees}
+use Rattle.open_keys.specs.machine.State.{frees}
 use Rattle.store.proofs.State.fresh.Goals as goal
 
 pub returns : goal.returns

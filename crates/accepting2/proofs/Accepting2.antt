@@ -1,0 +1,148 @@
+-- A text of the second form reads back to its state, so the test of what was read tells whether there is one. Assumes nothing.
+use Prim.Native.Nat.{ℕ, ◌+◌, ◌*◌, ◌≤◌, ◌<◌}
+use mathlib.Core.Path.{◌≡◌, refl, ap, ap₂, sym, subst, ◌∙◌}
+use mathlib.Core.Bool.{Bool, true, false, ◌||◌}
+use mathlib.Core.List.{List, [], ◌∷◌}
+use native.Mathlib.Omega.{arith}
+use lib.Dec.{T, T_not, eqb}
+use lib.ListN.{length, take, drop, replicate}
+use Rattle.machine_laws.specs.machine.State.{State}
+use Rattle.machine_laws.specs.machine.Sound.{sound}
+use Rattle.machine_laws.specs.machine.Log.{line, hex_digit}
+use Rattle.read_back2.specs.saved.Saved.{spelt}
+use Rattle.machine_laws.proofs.Sound.{parts}
+use Rattle.machine_laws.proofs.machine.Tests.{by_test}
+use Rattle.board.specs.store.declared.State.{State as Struct}
+use Rattle.board.specs.store.Store.{table_of}
+use Rattle.board.specs.declared.Board.{Board}
+use Rattle.board.specs.Board.{sized, fresh_board, struct_of, state_in, Held}
+use Rattle.board.proofs.Laws.{held_of, held_width, held_sized, state_in_of}
+use Rattle.saving2.specs.sound.Sound.{Decides, board_test}
+use Rattle.saving2.proofs.sound.Own.{decides}
+use Rattle.read_back2.specs.sheet.Sheet.{Sheet, Took}
+use Rattle.read_back2.specs.reading.Reading.{read_from}
+use Rattle.read_back2.specs.hex_lines.HexLines.{Put}
+use Rattle.saving2.specs.accepting.declared.Found.{Found}
+use Rattle.saving2.proofs.accepting.Accepting.{false_true, same_or_not, held_once, found_same}
+use Rattle.read_back2.specs.saved2.Saved2.{text2, TextOf2}
+use Rattle.read_back2.proofs.saved2.Lengths2.{text2-length}
+use Rattle.saving2.proofs.Laws2.{taken_front}
+use Rattle.read_back2.proofs.ReadBack2.{zeros, text2_read, one_spelling2}
+use Rattle.accepting2.specs.Accepting2.{Yes2, Finds2, Accepts2}
+
+-- ---- what was read
+
+abbrev pub board_of : ℕ → Struct → Board
+board_of w s = record { width = w; state = s }
+
+module _ {w : ℕ} {t : List ℕ} {s : State} (h : TextOf2 w s t) {st : Struct} {tb : List ℕ} (r : Took (read_from (drop 10 t) zeros) st tb) where
+  read_table : tb ≡ table_of s
+  read_table = r.table ∙ (ap (λ l. (read_from (drop 10 l) zeros).table) h.saved ∙ (text2_read s h.sane).1)
+
+  read_board : board_of w st ≡ struct_of s
+  read_board =
+      let e : st ≡ (struct_of s).state = r.state ∙ (ap (λ l. (read_from (drop 10 l) zeros).state) h.saved ∙ (text2_read s h.sane).0) in
+      let k : w ≡ length s.channels = sym h.width in
+      λ i. record { width = k i; state = e i }
+
+  pub read_held : T (sized w) → Held (board_of w st) tb
+  read_held z =
+      let k : T (sized (length s.channels)) = subst (λ n. T (sized n)) (sym h.width) z in
+      subst (λ b. Held b tb) (sym read_board) (subst (λ x. Held (struct_of s) x) (sym read_table) (held_of s (parts s h.sane) k))
+
+  pub read_state : state_in (board_of w st) tb ≡ s
+  read_state = ap₂ state_in read_board read_table ∙ state_in_of s (parts s h.sane)
+
+-- every text has its two lines in front
+pub text2-long : {w : ℕ} {s : State} {t : List ℕ} → TextOf2 w s t → 10 ≤ length t
+text2-long {s = s} h = let e = ap length h.saved in let k = text2-length s in omega arith
+
+-- and opens with D002
+text2-opens : (s : State) → take 5 (text2 s) ≡ 68 ∷ 48 ∷ 48 ∷ 50 ∷ 10 ∷ []
+unfolding text2 spelt line hex_digit
+text2-opens s = refl
+
+pub took_from : (t : List ℕ) {x tb tb' : List ℕ} {st : Struct} → tb ≡ x → Took (read_from t tb) st tb' → Took (read_from t x) st tb'
+took_from t {tb' = tb'} {st = st} e r = subst (λ z. Took (read_from t z) st tb') e r
+
+-- ---- case by case
+
+module _ {w : ℕ} {t : List ℕ} where
+  pub too_short : (f : Found) (tb : List ℕ) → f.ok ≡ false → length t < 10 → Finds2 w t f tb
+  too_short f tb e n =
+      record { yes = λ o. absurd (false_true (sym e ∙ o)); no = λ _ s h. let k = text2-long h in omega arith }
+
+  pub unopened : (f : Found) (tb : List ℕ) → f.ok ≡ false → (take 5 t ≡ 68 ∷ 48 ∷ 48 ∷ 50 ∷ 10 ∷ [] → ⊥)
+      → Finds2 w t f tb
+  unopened f tb e n = record { yes = λ o. absurd (false_true (sym e ∙ o)); no = λ _ s h. n (ap (take 5) h.saved ∙ text2-opens s) }
+
+  pub unsound : (f : Found) {st : Struct} {tb : List ℕ} → T (sized w) → f.ok ≡ false → Took (read_from (drop 10 t) zeros) st tb
+      → (Held (board_of w st) tb → ⊥) → Finds2 w t f tb
+  unsound f z e r n = record { yes = λ o. absurd (false_true (sym e ∙ o)); no = λ _ s h. n (read_held h r z) }
+
+  pub compared : {st : Struct} {tb : List ℕ} {ok : Bool} {z page : List ℕ} {n : ℕ} → Took (read_from (drop 10 t) zeros) st tb → Held (board_of w st) tb
+      → Put z 0 (text2 (state_in (board_of w st) tb)) n page → Decides ok (t ≡ take n page)
+      → Finds2 w t (record { ok = ok; board = board_of w st }) tb
+  compared r h p d =
+      let e = taken_front p in
+      record {
+        yes = λ o. record { held = h; text = record { sane = h.sane; width = sym (held_width h); saved = d.only o ∙ e } };
+        no = λ o s q. false_true (sym o ∙ d.always (q.saved ∙ (ap text2 (sym (read_state q r)) ∙ sym e)));
+      }
+
+-- ---- what is handed back
+
+module _ {w : ℕ} {t : List ℕ} {f : Found} {tb : List ℕ} (x : Finds2 w t f tb) where
+  pub refused : {g : Found} {tb' : List ℕ} → f.ok ≡ false → g ≡ record { ok = false; board = fresh_board w }
+      → tb' ≡ replicate 1472 0 → Accepts2 w t g tb'
+  refused o e z =
+      record {
+        yes = λ y. absurd (false_true (sym (ap (λ (h : Found). h.ok) e) ∙ y));
+        no = λ _. x.no o;
+        blank = λ _. (ap (λ (h : Found). h.board) e, z);
+      }
+
+  pub kept : f.ok ≡ true → Accepts2 w t f tb
+  kept o = record { yes = x.yes; no = x.no; blank = λ n. absurd (false_true (sym n ∙ o)) }
+
+-- no second outcome fits
+pub one_accepting2 : {w : ℕ} {t : List ℕ} {f g : Found} {tb tb₂ : List ℕ} → Accepts2 w t f tb → Accepts2 w t g tb₂
+    → (f ≡ g) × (tb ≡ tb₂)
+one_accepting2 {w} {t} {f} {g} {tb} {tb₂} x y = go f.ok g.ok refl refl
+  where
+    go : (a b : Bool) → f.ok ≡ a → g.ok ≡ b → (f ≡ g) × (tb ≡ tb₂)
+    go true true e d =
+        let p = x.yes e in
+        let q = y.yes d in
+        let h = held_once p.held q.held (one_spelling2 p.text q.text) in
+        (found_same (e ∙ sym d) h.0, h.1)
+    go true false e d = absurd (y.no d _ (x.yes e).text)
+    go false true e d = absurd (x.no e _ (y.yes d).text)
+    go false false e d =
+        let p = x.blank e in
+        let q = y.blank d in
+        (found_same (e ∙ sym d) (p.0 ∙ sym q.0), p.1 ∙ sym q.1)
+
+-- ---- a text is one of a board's, or it is not
+
+pub saved2_or_not {ℓ} : {R : Type ℓ} (w : ℕ) (t : List ℕ) → T (sized w) → ((s : State) → TextOf2 w s t → R) → (((s : State) → TextOf2 w s t → ⊥) → R) → R
+saved2_or_not {R = R} w t z y n = go (board_test b tb) (decides b tb)
+  where
+    x : Sheet
+    x = read_from (drop 10 t) zeros
+
+    b : Board
+    b = board_of w x.state
+
+    tb : List ℕ
+    tb = x.table
+
+    took : Took x x.state tb
+    took = record { state = refl; table = refl }
+
+    go : (r : Bool) → Decides r (Held b tb) → R
+    go true d =
+        let h = d.only refl in
+        same_or_not t (text2 (state_in b tb)) (λ e. y (state_in b tb) (record { sane = h.sane; width = sym (held_width h); saved = e }))
+        (λ m. n (λ s q. m (q.saved ∙ ap text2 (sym (read_state q took)))))
+    go false d = n (λ s q. false_true (d.always (read_held q took z)))

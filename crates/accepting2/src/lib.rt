@@ -1,0 +1,63 @@
+// Whether a text is one that was saved in the second form of a board with so many channels, and of which state. The text's lines behind
+// the first two are read into a board and a table; it was saved of these where they hold a sound state whose text is the one handed in,
+// to the last byte, the first two lines and the numbers among them (specs/Accepting2.antt). Assumes nothing.
+#![tactic(auto)]
+
+ghost use Rattle.std.specs.Prelude.{◌≡◌, T, replicate};
+ghost use Rattle.board.specs.Board.{sized};
+ghost use Rattle.accepting2.specs.Accepting2.{Finds2, Accepts2};
+
+use board::Board;
+pub use read_back2;
+use read_back2::reading;
+pub use read_back2::{hex_lines, number_lines, read_back, saved, saved2};
+pub use saving2;
+use saving2::accepting::Found;
+use saving2::sound;
+pub use saving2::{accepting, recounting};
+
+// What the text's lines behind the first two were read to, and whether it is what is saved of that.
+fn compare2(width: u8, text: &[u8], table: &mut [u8]) -> Found
+    requires { T (sized width) × (table.old ≡ replicate 1472 0) }
+    ensures { Finds2 width text.now result table.new }
+{
+    let none = Board::fresh(width);
+    if text.len() < 10 {
+        return Found {
+            ok: false,
+            board: none,
+        };
+    }
+    if !accepting::opens(text, b"D002\n") {
+        return Found {
+            ok: false,
+            board: none,
+        };
+    }
+    let s = reading::read(text, 10, table);
+    let b = Board { width, state: s };
+    if !sound::sound(b, table) {
+        return Found {
+            ok: false,
+            board: none,
+        };
+    }
+    let mut page = [0u8; saving2::LONGEST];
+    let n = saving2::spell2(b, table, &mut page);
+    Found {
+        ok: accepting::same(text, &page[..n]),
+        board: b,
+    }
+}
+
+// The board that a text of `width` channels holds, and its table.
+pub fn accept2(width: u8, text: &[u8], table: &mut [u8]) -> Found
+    requires { T (sized width) × (table.old ≡ replicate 1472 0) }
+    ensures { Accepts2 width text.now result table.new }
+{
+    let f = compare2(width, text, table);
+    if !f.ok {
+        return accepting::blank(width, table);
+    }
+    f
+}

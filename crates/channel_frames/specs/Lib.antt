@@ -1,0 +1,1 @@
+pub use Rattle.sheet.specs as sheet

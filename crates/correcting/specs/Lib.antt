@@ -1,0 +1,2 @@
+pub use Rattle.channel_numbers.specs as channel_numbers
+pub use Rattle.channel_numbers.specs.lanes as lanes

@@ -1,0 +1,2 @@
+pub mod DeskCall
+pub use Rattle.arbiter.specs as arbiter

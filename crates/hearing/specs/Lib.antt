@@ -1,0 +1,2 @@
+pub mod Hearing
+pub use Rattle.feeding.specs.unheard as unheard

@@ -1,0 +1,2 @@
+pub mod Port
+pub mod Witness

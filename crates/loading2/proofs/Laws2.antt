@@ -1,0 +1,124 @@
+-- How a loaded text of the second form meets its promise, case by case; no second outcome fits; what neither loader takes.
+-- Assumes nothing.
+use Prim.Native.Nat.{ℕ, ◌+◌, ◌≤◌, ◌<◌}
+use mathlib.Core.Path.{◌≡◌, refl, ap, sym, subst, ◌∙◌}
+use mathlib.Core.Bool.{Bool, true, false, ◌||◌}
+use mathlib.Core.List.{List, [], ◌∷◌}
+use native.Mathlib.Omega.{arith}
+use lib.Dec.{T, T_not, eqb, eqb→eq}
+use lib.ListN.{length, get_or, take}
+use lib.Seq.{get_or-take}
+use Rattle.machine_laws.specs.machine.State.{State}
+use Rattle.machine_laws.specs.machine.Sound.{sound}
+use Rattle.machine_laws.specs.machine.Log.{line, hex_digit}
+use Rattle.machine_laws.proofs.machine.Tests.{by_test}
+use Rattle.image.specs.store.Store.{table_of}
+use Rattle.image.specs.board.declared.Board.{Board}
+use Rattle.image.specs.board.Board.{sized, struct_of, state_in, Held}
+use Rattle.image.specs.Image.{Saved}
+use Rattle.image.proofs.Round.{one_image}
+use Rattle.loading.specs.recounting.Recounting.{counted}
+use Rattle.loading.specs.saved.Saved.{FIRST, TextOf}
+use Rattle.loading.specs.accepting.declared.Found.{Found}
+use Rattle.loading.specs.Loading.{Fits, Unmoved, Loaded, Loads}
+use Rattle.accepting2.specs.read_back.ReadBack.{Bytes}
+use Rattle.accepting2.specs.number_lines.NumberLines.{number_lines}
+use Rattle.accepting2.specs.saved2.Saved2.{SECOND, number_frames, TextOf2}
+use Rattle.accepting2.specs.read_back2.ReadBack2.{text_with}
+use Rattle.accepting2.proofs.read_back2.ReadBack2.{one_spelling2, numbers-counted, opens_first, opens-second}
+use Rattle.accepting2.specs.Accepting2.{Yes2}
+use Rattle.accepting2.proofs.Accepting2.{saved2_or_not}
+use Rattle.loading2.specs.Loading2.{Loads2}
+
+pub no_T : {b : Bool} → b ≡ false → T b → ⊥
+no_T e t = subst (λ x. T x) e t
+
+-- ---- case by case
+
+module _ {w : ℕ} {t st tb dp : List ℕ} where
+  pub does_not_fit : (Fits st tb dp → ⊥) → Loads2 w t st tb dp 1 st tb dp
+  does_not_fit n =
+      record {
+        misfit = λ _. record { result = refl; state = refl; table = refl; display = refl };
+        another = λ f. absurd (n f);
+        refused = λ f. absurd (n f);
+        loaded = λ f. absurd (n f);
+      }
+
+  pub no_board : Fits st tb dp → (T (sized w) → ⊥) → Loads2 w t st tb dp 9 st tb dp
+  no_board f n =
+      record {
+        misfit = λ m. absurd (m f);
+        another = λ _ _. record { result = refl; state = refl; table = refl; display = refl };
+        refused = λ _ _. record { result = refl; state = refl; table = refl; display = refl };
+        loaded = λ _ e. absurd (n e);
+      }
+
+  pub not_saved : Fits st tb dp → T (sized w) → ((s : State) → TextOf2 w s t → ⊥) → Loads2 w t st tb dp 9 st tb dp
+  not_saved f z n =
+      record {
+        misfit = λ m. absurd (m f);
+        another = λ _ m. absurd (m z);
+        refused = λ _ _. record { result = refl; state = refl; table = refl; display = refl };
+        loaded = λ _ _ s h. absurd (n s h);
+      }
+
+  pub was_saved : {found : Found} {read st' tb' dp' : List ℕ} → Fits st tb dp → T (sized w) → Yes2 w t found read → Saved found.board st' → tb' ≡ read → dp' ≡ counted (state_in found.board read)
+      → Loads2 w t st tb dp 0 st' tb' dp'
+  was_saved {found} {read} {st'} {tb'} {dp'} f z y a b d =
+      let u = state_in found.board read in
+      let whole : Loaded u 0 st' tb' dp' = record { result = refl; state = subst (λ x. Saved x st') y.held.struct a; table = b ∙ y.held.table; display = d } in
+      record {
+        misfit = λ m. absurd (m f);
+        another = λ _ m. absurd (m z);
+        refused = λ _ n. absurd (n u y.text);
+        loaded = λ _ _ s h. subst (λ x. Loaded x 0 st' tb' dp') (one_spelling2 y.text h) whole;
+      }
+
+-- ---- no second outcome fits
+
+fits_or_not {ℓ} : {R : Type ℓ} (st tb dp : List ℕ) → (Fits st tb dp → R) → ((Fits st tb dp → ⊥) → R) → R
+fits_or_not st tb dp y n =
+    by_test (eqb (length st) 823)
+    (λ a. by_test (eqb (length tb) 1472)
+    (λ b. by_test (eqb (length dp) 18)
+    (λ c. y (record { state = eqb→eq (length st) 823 a; table = eqb→eq (length tb) 1472 b; display = eqb→eq (length dp) 18 c }))
+    (λ c. n (λ f. T_not (eqb (length dp) 18) c (rw f.display tt))))
+    (λ b. n (λ f. T_not (eqb (length tb) 1472) b (rw f.table tt))))
+    (λ a. n (λ f. T_not (eqb (length st) 823) a (rw f.state tt)))
+
+module _ {r r₂ : ℕ} {st₁ st₂ tb₁ tb₂ dp₁ dp₂ : List ℕ} where
+  unmoved_same : {c : ℕ} {st tb dp : List ℕ} → Unmoved c st tb dp r st₁ tb₁ dp₁ → Unmoved c st tb dp r₂ st₂ tb₂ dp₂ → (r ≡ r₂) × (st₁ ≡ st₂) × (tb₁ ≡ tb₂) × (dp₁ ≡ dp₂)
+  unmoved_same a b = (a.result ∙ sym b.result, a.state ∙ sym b.state, a.table ∙ sym b.table, a.display ∙ sym b.display)
+
+  loaded_same : {s : State} → Loaded s r st₁ tb₁ dp₁ → Loaded s r₂ st₂ tb₂ dp₂ → (r ≡ r₂) × (st₁ ≡ st₂) × (tb₁ ≡ tb₂) × (dp₁ ≡ dp₂)
+  loaded_same a b = (a.result ∙ sym b.result, one_image a.state b.state, a.table ∙ sym b.table, a.display ∙ sym b.display)
+
+  pub one_loading2 : {w : ℕ} {t st tb dp : List ℕ} → Loads2 w t st tb dp r st₁ tb₁ dp₁ → Loads2 w t st tb dp r₂ st₂ tb₂ dp₂ → (r ≡ r₂) × (st₁ ≡ st₂) × (tb₁ ≡ tb₂) × (dp₁ ≡ dp₂)
+  one_loading2 {w} {t} {st} {tb} {dp} a b =
+      fits_or_not st tb dp
+      (λ f. by_test (sized w)
+      (λ z. saved2_or_not w t z (λ s h. loaded_same (a.loaded f z s h) (b.loaded f z s h)) (λ n. unmoved_same (a.refused f n) (b.refused f n)))
+      (λ z. unmoved_same (a.another f (T_not (sized w) z)) (b.another f (T_not (sized w) z))))
+      (λ n. unmoved_same (a.misfit n) (b.misfit n))
+
+-- ---- what neither loader takes
+
+fourth : (t l : List ℕ) → take 5 t ≡ l → get_or t 3 0 ≡ get_or l 3 0
+fourth t l e = sym (get_or-take 5 t 3 0 (omega arith)) ∙ ap (λ x. get_or x 3 0) e
+
+module _ {w : ℕ} {t st tb dp : List ℕ} {r : ℕ} {st' tb' dp' : List ℕ} (f : Fits st tb dp) where
+  -- "The new loader refuses D001 with 9"
+  pub first_refused : take 5 t ≡ line FIRST → Loads2 w t st tb dp r st' tb' dp' → Unmoved 9 st tb dp r st' tb' dp'
+  unfolding line hex_digit
+  first_refused e a = a.refused f (λ s h. let k = fourth t (line FIRST) e in let m = opens-second h in omega arith)
+
+  -- "and the old loader D002 likewise"
+  pub second-refused : take 5 t ≡ line SECOND → Loads w t st tb dp r st' tb' dp' → Unmoved 9 st tb dp r st' tb' dp'
+  unfolding line hex_digit
+  second-refused e a = a.refused f (λ s h. let k = fourth t (line SECOND) e in let m = opens_first h in omega arith)
+
+  -- "a text that neither board's loader accepts, as when its numbers disagree with a count"
+  pub uncounted_refused : (s : State) → T (sound s) → (d : List ℕ) → Bytes d → (number_lines (length s.channels) d ≡ number_frames (length s.channels) s → ⊥)
+      → t ≡ text_with (number_lines (length s.channels) d) s → Loads2 w t st tb dp r st' tb' dp' → Unmoved 9 st tb dp r st' tb' dp'
+  uncounted_refused s sane d bs n e a = a.refused f (λ u h. n (numbers-counted s sane d bs (subst (λ x. TextOf2 w u x) e h)))

@@ -1,0 +1,2 @@
+pub mod Laws2
+pub mod RoundTrip2

@@ -1,0 +1,2 @@
+pub mod PortRuns
+pub mod Witness

@@ -1,0 +1,1 @@
+pub use Rattle.answers.specs as answers

@@ -1,0 +1,81 @@
+// The program behind ./arbiter-log --load and ./saved show, which ask it before anything else is read. Its one argument says which texts it
+// accepts: 1 is the first form, 4 and 8 are the second form of a board with so many channels. It guesses none: any other word is 1.
+// Standard input: a text. Standard output: one line, 'accepted', 'line N' for the first line that is no frame of its kind, or 'no sound
+// state'. The wrapper gives the message and the status. What is accepted is said by the crates `accepting` and `accepting2`, and the line
+// by the crate `faults`.
+#![tactic(auto)]
+
+ghost use Rattle.std.specs.Prelude.{T};
+ghost use Rattle.board.specs.Board.{sized};
+
+use accepting2::accepting;
+use board::Board;
+use std::env::Env;
+use std::io::{ErrorKind, Write};
+
+const STDIN: i32 = 0;
+
+const STDOUT: i32 = 1;
+
+// That whoever reads has gone is no failure to be told.
+fn say(rt: &HostRuntime, line: &[u8]) {
+    if let Err(e) = rt.stdout().write_all(line) {
+        if e.kind() != ErrorKind::BrokenPipe {
+            let _ = eprintln!(rt; "write: {e}");
+        }
+    }
+}
+
+// Why the text is refused.
+fn tell(rt: &HostRuntime, form: u8, text: &[u8]) {
+    let k = faults::fault(form, text);
+    if k == 0 {
+        say(rt, b"no sound state\n");
+        return;
+    }
+    say(rt, b"line ");
+    io::print_decimal(STDOUT, k as u64);
+    say(rt, b"\n");
+}
+
+// A text of the first form.
+fn judge(rt: &HostRuntime, text: &[u8]) {
+    let mut table = [0u8; 1472];
+    let f = accepting::accept(text, &mut table);
+    if f.ok {
+        say(rt, b"accepted\n");
+        return;
+    }
+    tell(rt, 1, text);
+}
+
+// One of the second form, of a board with so many channels.
+fn judge2(rt: &HostRuntime, width: u8, text: &[u8])
+    requires { T (sized width) }
+{
+    let mut table = [0u8; 1472];
+    let f = accepting2::accept2(width, text, &mut table);
+    if f.ok {
+        say(rt, b"accepted\n");
+        return;
+    }
+    tell(rt, 2, text);
+}
+
+fn main(rt: HostRuntime) {
+    let mut word = [0u8; 2];
+    let w = rt.arg(1, &mut word).unwrap_or(0);
+    let mut text = io::large_buffer();
+    let n = io::read_full(STDIN, &mut text);
+    if w == 1 {
+        if word[0] == b'4' {
+            judge2(&rt, Board::FOUR, &text[..n]);
+            return;
+        }
+        if word[0] == b'8' {
+            judge2(&rt, Board::EIGHT, &text[..n]);
+            return;
+        }
+    }
+    judge(&rt, &text[..n]);
+}

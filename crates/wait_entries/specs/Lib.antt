@@ -1,0 +1,1 @@
+pub use Rattle.open_shape.specs as open_shape

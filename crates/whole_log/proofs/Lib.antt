@@ -1,0 +1,3 @@
+pub mod Progress
+pub mod Whole
+pub mod Runs
