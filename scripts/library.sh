@@ -1,8 +1,7 @@
 # The library for C, for the scripts that link it. POSIX sh; it is read by '.' behind program.sh, with root set to the top.
 #
 #   library                  the archive
-#   library_ready [again]    proves and builds it where it is missing or older than what it is made from; again: in any case; over-ci: in
-#                            any case, over the crates that rt ci has just proved
+#   library_ready [again]    proves and builds it where it is missing or older than what it is made from; again: in any case
 #   install_packages WORDS   installs packages of Debian, where that may be done
 #   linker_ready             finds a C compiler for x86-64, which the library is for. On another machine that is Debian's
 #                            gcc-x86-64-linux-gnu, installed where it is missing and may be, and the kit's emulator runs programs
@@ -38,9 +37,10 @@ take_library() {
     mkdir -p "$root/target/staticlib" && cp "$root/crates/qamhudeer_c/out/libqamhudeer_c.a" "$library.new" && mv -f "$library.new" "$library"
 }
 
-# over_ci: the archive, as rt lib would have it built, over the libraries that rt ci has left in the crates' out/. rt lib would prove each of
-# them once more.
+# over_ci: the archive, as rt lib would have it built, over the libraries that rt ci has left in the crates' out/: where the gate's rt ci has
+# passed (target/proved has the time at which it began) and no source is newer. rt lib would prove each of them once more.
 over_ci() (
+    [ -f "$root/target/proved" ] && ! newer "$root/target/proved" || return
     kit=$(rt doc) && kit=${kit%/*} && cd "$root/crates/qamhudeer_c" && mkdir -p out || return
     set -- "$kit/bin/rattle" build --crate-name qamhudeer_c src/lib.rt --extern "std=$kit/rlibs/std.rlib" -L "dependency=$kit/rlibs"
     for crate in $(sed -n 's/^qamhudeer_c staticlib://p' "$root/crates.txt"); do
@@ -56,14 +56,11 @@ over_ci() (
 # The archive's time becomes that of the build's start, so that what is edited while rt runs counts as newer. Whoever has waited may
 # find it built.
 build_library() {
-    [ -n "$1" ] || old_library || return 0
+    [ "$1" = again ] || old_library || return 0
     complain "the library is proved and built, which may take minutes:"
     began=$(mktemp "$root/target/began.XXXXXX") || return
-    if [ "$1" = over-ci ]; then
-        over_ci >"$root/target/said-qamhudeer.log" 2>&1 && take_library
-    else
-        watched "$root/target/said-qamhudeer.log" lib qamhudeer_c && take_library
-    fi
+    said=$root/target/said-qamhudeer.log
+    { over_ci >"$said" 2>&1 || watched "$said" lib qamhudeer_c; } && take_library
     built=$?
     if [ $built -eq 0 ]; then
         touch -r "$began" "$library"
@@ -75,7 +72,7 @@ build_library() {
 }
 
 library_ready() {
-    [ -n "${1:-}" ] || old_library || return 0
+    [ "${1:-}" = again ] || old_library || return 0
     has_kit || return
     alone "the library" build_library "${1:-}"
 }

@@ -2,7 +2,8 @@
 #
 # A place is "member|section|offset", the offset in decimal; a function is the place where it begins. An indirect jump is one through a
 # table of the same function: 'movslq (A,I,4),J; add A,J; jmp *J' in one piece of straight code, on every way to it 'lea TABLE(%rip),A',
-# and each address in the table stands in the function. Any other address of code in data, or taken by code, is refused.
+# and each address in the table stands in the function. With %rbp or %r13 for A a displacement of 0 is written. Any other address of code in
+# data, or taken by code, is refused.
 
 function refuse(what) {
     if (!refused)
@@ -440,7 +441,7 @@ function through_table(i, depth,    j, base, k, stage, p, n) {
                 refuse("an indirect jump, through no table: " where(i))
             stage = 1
         } else if (stage == 1 && (mentions(operands[k], j) || mentions(last_operand(operands[k]), base))) {
-            if (op[k] != "movslq" || index(operands[k], "(" base ",%r") != 1 || operands[k] !~ /,4\),%r[0-9a-z]+$/ ||
+            if (op[k] != "movslq" || !entry_of(operands[k], base) || operands[k] !~ /,4\),%r[0-9a-z]+$/ ||
                 last_operand(operands[k]) != j)
                 refuse("an indirect jump, through no table: " where(i))
             stage = 2
@@ -451,6 +452,13 @@ function through_table(i, depth,    j, base, k, stage, p, n) {
         refuse("an indirect jump, through an empty table: " where(i))
     for (n = 1; n <= table_length[p]; n++)
         reach(table_entry[p, n], depth)
+}
+
+# entry_of(OPERANDS, BASE): what is read stands in the table that begins at the register's place. No code says so of %rbp and %r13 but with a
+# displacement of 0.
+function entry_of(text, base) {
+    sub(/^0x0\(/, "(", text)
+    return index(text, "(" base ",%r") == 1
 }
 
 # table_in(BASE, K, I): the table whose place the register has at K, on every way that leads there. I is the jump, for the message. A way

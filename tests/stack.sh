@@ -34,6 +34,13 @@ early() {
         table: .long first - table, second - table"
 }
 
+# behind BYTES: the same of one case, whose entry is read so many bytes behind the table's place.
+behind() {
+    piece "lea table(%rip), %r13; movslq $1(%r13,%rdi,4), %rax; add %r13, %rax; jmp *%rax
+        first: ret" ret ".section .rodata
+        table: .long first - table, first - table"
+}
+
 # pages LINE STEP LINE: a frame of five pages, made in a loop by steps; a line before it, and one before the comparison.
 pages() {
     piece "$1; lea -20480(%rsp), %r11; 1: sub \$$2, %rsp; movq \$0, (%rsp); $3; cmp %r11, %rsp; jne 1b; add \$20480, %rsp; ret" ret
@@ -85,6 +92,7 @@ pieces_counted() {
     counted "a switch" 64 switch second nop nop
     counted "a switch in a loop" 16 early %r9 nop 'imul $3, %rsi, %rdx'
     counted "a switch in a loop, with a call that keeps the register" 24 early %rbx nop 'call g'
+    counted "a switch through a register that wants a displacement" 16 early %r13 nop nop
 }
 
 pieces_refused() {
@@ -111,6 +119,7 @@ pieces_refused() {
     refused "a pointer to a function" 'address of a function is taken' frames g 'lea g(%rip), %rax'
     refused "a pointer to a function, in data" 'address of code in data' piece ret ret '.data; .quad g'
     refused "a switch that leads into another function" 'leads out of it' switch g nop nop
+    refused "a switch that reads behind its table's place" 'through no table' behind 4
     refused "a switch whose entry is changed" 'through no table' switch second 'mov %edi, %eax' nop
     refused "a switch whose table is changed" 'through no table' switch second 'xor %ecx, %ecx' nop
     refused "a switch whose sum is changed" 'through no table' switch second nop 'mov %edi, %eax'
