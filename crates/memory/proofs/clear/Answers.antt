@@ -1,33 +1,17 @@
--- `clear` meets its contract: after k turns the k bytes from `at` on are 0, and every other byte is as before.
--- Assumes nothing.
-use Prim.Native.Nat.{◌-◌}
-use mathlib.Core.Path.{◌≡◌, sym}
+-- `clear` meets its contract: the part at its place is filled with zeros. Assumes nothing.
+use Prim.Native.Nat.{ℕ, ◌-◌, ◌+◌}
+use mathlib.Core.Path.{◌≡◌, ap, sym, ◌∙◌}
 use native.Mathlib.Omega.{arith}
-use Rattle.memory.proofs.Splice.{splice_none, clear_turn, length-zeros}
+use lib.ListN.{length, replicate, length-replicate}
+use borrow.Rule.Slice.PartMut.{mid_len}
+use Rattle.memory.proofs.Splice.{put_mid-splice}
 use Rattle.memory.proofs.clear.Goals as goal
-
-pub loop-k-init : goal.loop-k-init
-loop-k-init c = (omega arith, sym (splice_none _ _))
-
-pub bounds-list-at : goal.bounds-list-at
-bounds-list-at c =
-    let l = c.loop-k in
-    let e = length-zeros c.args.list.now c.args.at l.k (omega arith) in
-    rw (l.invariant.1, e) (omega arith)
-
-pub loop-k-preserved : goal.loop-k-preserved
-loop-k-preserved c =
-    let l = c.loop-k in
-    (omega arith, rw l.invariant.1 (clear_turn c.args.list.now c.args.at l.k (omega arith)))
-
-pub shape_of-list : goal.shape_of-list
-shape_of-list c =
-    let l = c.loop-k in
-    let a = c.args in
-    rw l.invariant.1 (length-zeros a.list.now a.at l.k (omega arith))
 
 pub returns : goal.returns
 returns c =
-    let l = c.loop-k in
-    let e : l.k ≡ c.args.n = omega arith in
-    rw e at l.invariant.1
+    let a = c.args in
+    let n : a.at + a.n - a.at ≡ a.n = omega arith in
+    let part = mid_len a.at (a.at + a.n) a.list.now c.requires in
+    put_mid-splice a.list.now a.at _ _ _
+    (c.fill.ensures.after (λ y e. e) ∙ ap (λ (k : ℕ). replicate {A = ℕ} k 0) (part ∙ n))
+    (n ∙ sym (length-replicate {A = ℕ} a.n 0))

@@ -1,13 +1,11 @@
--- `put_key` meets its contract: two stores, one behind the other. Assumes nothing.
-use Prim.Native.Nat.{◌/◌, ◌%◌}
-use mathlib.Core.List.{[], ◌∷◌}
+-- `put_key` meets its contract: the two bytes of the key are written at its place. Assumes nothing.
+use mathlib.Core.Path.{◌∙◌}
 use native.Mathlib.Omega.{arith}
-use lib.ListN.{length-set}
-use Rattle.memory.proofs.Splice.{stores-splice}
+use Rattle.memory.proofs.Splice.{put_mid-splice, key-bytes}
 use Rattle.memory.proofs.put_key.Goals as goal
 
-pub bounds-list-at-2 : goal.bounds-list-at-2
-bounds-list-at-2 c = simp length-set (omega arith)
-
 pub returns : goal.returns
-returns c = let a = c.args in stores-splice a.list.now a.at (a.key / 256) (a.key % 256 ∷ []) (omega arith)
+returns c =
+    let a = c.args in
+    put_mid-splice a.list.now a.at _ _ _ (c.copy_from_slice.ensures.after ∙ (c.to_be_bytes.ensures ∙ key-bytes a.key (omega arith)))
+    (omega arith)
