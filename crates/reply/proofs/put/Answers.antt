@@ -1,26 +1,19 @@
--- `put` meets its contract: six stores, one behind the other, are one run of bytes. Assumes nothing.
-use Prim.Native.Nat.{◌*◌, ◌/◌, ◌%◌}
-use mathlib.Core.Path.{refl}
-use mathlib.Core.List.{[], ◌∷◌}
+-- `put` meets its contract: the six bytes are written at their place. Assumes nothing.
+use Prim.Native.Nat.{ℕ, ◌*◌}
+use mathlib.Core.Path.{refl, ap, ◌∙◌}
+use mathlib.Core.List.{List, [], ◌∷◌}
 use native.Mathlib.Omega.{arith}
-use lib.ListN.{length-set}
-use Rattle.memory.proofs.Splice.{stores-splice}
+use lib.ListN.{get_or}
+use Rattle.memory.proofs.Splice.{put_mid-splice, key-bytes}
 use Rattle.reply.proofs.put.Goals as goal
 
-pub bounds-list-at-2 : goal.bounds-list-at-2
-bounds-list-at-2 c = simp length-set (omega arith)
-
-pub bounds-list-at-3 : goal.bounds-list-at-3
-bounds-list-at-3 c = simp length-set (omega arith)
-
-pub bounds-list-at-4 : goal.bounds-list-at-4
-bounds-list-at-4 c = simp length-set (omega arith)
-
-pub bounds-list-at-5 : goal.bounds-list-at-5
-bounds-list-at-5 c = simp length-set (omega arith)
-
-pub bounds-list-at-6 : goal.bounds-list-at-6
-bounds-list-at-6 c = simp length-set (omega arith)
-
 pub returns : goal.returns
-returns c = let a = c.args in (refl, stores-splice a.list.now (a.n * 6) a.r.id (a.r.command ∷ a.r.error ∷ a.r.map ∷ (a.r.key / 256) ∷ (a.r.key % 256) ∷ []) (omega arith))
+returns c =
+    let a = c.args in
+    let r = a.r in (
+      refl,
+      put_mid-splice a.list.now (a.n * 6) _ _ _
+          (c.copy_from_slice.ensures.after
+          ∙ ap (λ (b : List ℕ). r.id ∷ r.command ∷ r.error ∷ r.map ∷ get_or b 0 0 ∷ get_or b 1 0 ∷ []) (c.to_be_bytes.ensures ∙ key-bytes r.key (omega arith)))
+          (omega arith),
+    )

@@ -1,28 +1,17 @@
--- `put_head` meets its contract: seven stores, one behind the other, are one run of bytes. Assumes nothing.
-use Prim.Native.Nat.{◌/◌, ◌%◌}
-use mathlib.Core.List.{[], ◌∷◌}
+-- `put_head` meets its contract: the seven bytes are written at their place. Assumes nothing.
+use Prim.Native.Nat.{ℕ}
+use mathlib.Core.Path.{ap, ◌∙◌}
+use mathlib.Core.List.{List, ◌∷◌, []}
 use native.Mathlib.Omega.{arith}
-use lib.ListN.{length-set}
-use Rattle.memory.proofs.Splice.{stores-splice}
+use lib.ListN.{get_or}
+use Rattle.memory.proofs.Splice.{put_mid-splice, key-bytes}
 use Rattle.table.proofs.put_head.Goals as goal
 
-pub bounds-table-at-2 : goal.bounds-table-at-2
-bounds-table-at-2 c = simp length-set (omega arith)
-
-pub bounds-table-at-3 : goal.bounds-table-at-3
-bounds-table-at-3 c = simp length-set (omega arith)
-
-pub bounds-table-at-4 : goal.bounds-table-at-4
-bounds-table-at-4 c = simp length-set (omega arith)
-
-pub bounds-table-at-5 : goal.bounds-table-at-5
-bounds-table-at-5 c = simp length-set (omega arith)
-
-pub bounds-table-at-6 : goal.bounds-table-at-6
-bounds-table-at-6 c = simp length-set (omega arith)
-
-pub bounds-table-at-7 : goal.bounds-table-at-7
-bounds-table-at-7 c = simp length-set (omega arith)
-
 pub returns : goal.returns
-returns c = let a = c.args in stores-splice a.table.now a.at a.h.command ((a.h.key / 256) ∷ (a.h.key % 256) ∷ a.h.map ∷ a.h.prec ∷ a.h.impatient ∷ a.h.n ∷ []) (omega arith)
+returns c =
+    let a = c.args in
+    let h = a.h in
+    put_mid-splice a.table.now a.at _ _ _
+    (c.copy_from_slice.ensures.after
+    ∙ ap (λ (b : List ℕ). h.command ∷ get_or b 0 0 ∷ get_or b 1 0 ∷ h.map ∷ h.prec ∷ h.impatient ∷ h.n ∷ []) (c.to_be_bytes.ensures ∙ key-bytes h.key (omega arith)))
+    (omega arith)
