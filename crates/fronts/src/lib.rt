@@ -50,11 +50,7 @@ fn hit(c: Channel, front: Front, map: u8, i: usize) -> bool
     requires { i < 8 }
     ensures { result ≡ named front (map / 2 ^ i) c }
 {
-    if channel::names(map, i) {
-        passes(c, front)
-    } else {
-        false
-    }
+    channel::names(map, i) && passes(c, front)
 }
 
 // Of the channels that the map names, those that pass.
@@ -62,13 +58,10 @@ pub fn which(cs: [Channel; 8], front: Front, map: u8) -> u8
     ensures { result ≡ map_where (named front) map cs }
 {
     let mut ok: u8 = 0;
-    let mut i: usize = 0;
-    while i < 8 {
-        let c = cs[i];
-        if hit(c, front, map, i) {
-            ok = ok | 1 << i;
+    for (i, c) in cs.iter().enumerate() {
+        if hit(*c, front, map, i) {
+            ok |= 1 << i;
         }
-        i += 1;
     }
     ok
 }

@@ -1,4 +1,4 @@
--- The walk from the left and the machine's choice from the right agree, and reading an enum and making it are inverse.
+-- The walk from the left and the machine's choice from the right agree, and reading an option and making it are inverse.
 -- Assumes nothing.
 use Prim.Native.Nat.{ℕ, ◌≤◌, ◌<◌}
 use mathlib.Core.Path.{◌≡◌, refl, ap, sym, subst, ◌∙◌}
@@ -8,7 +8,7 @@ use mathlib.Core.List.{List, [], ◌∷◌}
 use native.Mathlib.Omega.{arith}
 use lib.Dec.{T, not_T}
 use lib.ListN.{length}
-use Rattle.std.specs.Prelude.{if◌then◌else◌}
+use Rattle.std.specs.Prelude.{if◌then◌else◌, Option, None, Some, MatchOption}
 use Rattle.pricing.specs.machine.State.{Channel, is_free}
 use Rattle.pricing.specs.machine.Maps.{named}
 use Rattle.pricing.specs.machine.Choosing.{Choice as ChoiceM, none, chosen, takeable, eligible, all_free, costs_less, first_free, cheaper, cheapest, or_else, choose}
@@ -19,8 +19,6 @@ use Rattle.pricing.proofs.machine_laws.Choosing.{less_iff, less_trans, less_betw
 use Rattle.pricing.specs.Pricing.{Priced}
 use Rattle.pricing.proofs.Laws.{price_less}
 use Rattle.picking.specs.declared.Best.{Best}
-use Rattle.picking.specs.declared.Choice.{Choice}
-use Rattle.picking.specs.declared.Choice.TheVariants.{None, Chosen}
 use Rattle.picking.specs.Picking.{choice_of, choice_in, beat, Kept}
 
 choice_in_of : (o : ChoiceM) → choice_in (choice_of o) ≡ o
@@ -28,7 +26,7 @@ choice_in_of none = refl
 choice_in_of (chosen m) = refl
 
 -- what a result of the code says of the choice that it is
-pub read : (o : ChoiceM) {r s : Choice} → r ≡ choice_of o → r ≡ s → o ≡ choice_in s
+pub read : (o : ChoiceM) {r s : Option ℕ} → r ≡ choice_of o → r ≡ s → o ≡ choice_in s
 read o e f = sym (choice_in_of o) ∙ ap choice_in (sym e ∙ f)
 
 -- ---- a combination of free channels is eligible at any precedence
@@ -90,45 +88,54 @@ module _ (cs : List Channel) where
 
   -- ---- one more combination, by the tests of the code
 
-  module _ (p m : ℕ) (best : Best) (o : ChoiceM) (k : Kept cs best o) where
+  wins : {m b c d : ℕ} → Priced m cs c → Priced b cs d → c < d → costs_less m b cs ≡ true
+  wins {m} {b} q r h =
+      let i = q.is in
+      let j = r.is in
+      test_true (costs_less m b cs) ((less_iff m b cs).1 ((price_less m b cs q.few r.few).1 (omega arith)))
+
+  loses : {m b c d : ℕ} → Priced m cs c → Priced b cs d → d ≤ c → costs_less m b cs ≡ false
+  loses {m} {b} q r h =
+      let i = q.is in
+      let j = r.is in
+      test_false (costs_less m b cs) (not_T (costs_less m b cs)
+      (λ t. let z = (price_less m b cs q.few r.few).0 ((less_iff m b cs).0 t) in omega arith))
+
+  module _ (p m : ℕ) (best : Option Best) (o : ChoiceM) (k : Kept cs best o) where
     pub better_refused : eligible p m cs ≡ false → Kept cs best (beat o (cheapest p (m ∷ []) cs) cs)
     unfolding cheapest
     better_refused e = rw (e, beat_none o) k
 
-    pub better_cheaper : {c : ℕ} → eligible p m cs ≡ true → Priced m cs c → c < 65535 → c < best.cost
-        → Kept cs (record { map = m; cost = c }) (beat o (cheapest p (m ∷ []) cs) cs)
+    pub better_cheaper : {c : ℕ} → eligible p m cs ≡ true → Priced m cs c → MatchOption best (Unit {0}) (λ b. c < b.cost)
+        → Kept cs (Some (record { map = m; cost = c })) (beat o (cheapest p (m ∷ []) cs) cs)
     unfolding cheapest cheaper
-    better_cheaper {c} e q f l = rw e (go o k)
+    better_cheaper {c} e q l = rw e (go best o k l)
       where
-        go : (x : ChoiceM) → Kept cs best x → Kept cs (record { map = m; cost = c }) (beat x (chosen m) cs)
-        go none y = unfold beat in (refl, f, q)
-        go (chosen b) y =
-            let i = q.is in
-            let j = y.2.is in
-            unfold beat cheaper in
-            rw (test_true (costs_less m b cs) ((less_iff m b cs).1 ((price_less m b cs q.few y.2.few).1 (omega arith)))) (refl, f, q)
+        go : (t : Option Best) (x : ChoiceM) → Kept cs t x → MatchOption t (Unit {0}) (λ b. c < b.cost)
+            → Kept cs (Some (record { map = m; cost = c })) (beat x (chosen m) cs)
+        go None none y l = unfold beat in (refl, q)
+        go None (chosen b) y l = absurd y
+        go (Some t) none y l = absurd y
+        go (Some t) (chosen b) y l = unfold beat cheaper in rw (wins q y.1 l) (refl, q)
 
-    pub better_stays : {c : ℕ} → eligible p m cs ≡ true → Priced m cs c → c < 65535 → best.cost ≤ c
+    pub better_stays : {c : ℕ} → eligible p m cs ≡ true → Priced m cs c → MatchOption best ⊥ (λ b. b.cost ≤ c)
         → Kept cs best (beat o (cheapest p (m ∷ []) cs) cs)
     unfolding cheapest cheaper
-    better_stays {c} e q f l = rw e (go o k)
+    better_stays {c} e q l = rw e (go best o k l)
       where
-        go : (x : ChoiceM) → Kept cs best x → Kept cs best (beat x (chosen m) cs)
-        go none y = absurd (omega arith)
-        go (chosen b) y =
-            let i = q.is in
-            let j = y.2.is in
-            unfold beat cheaper in
-            rw (test_false (costs_less m b cs) (not_T (costs_less m b cs)
-            (λ t. let z = (price_less m b cs q.few y.2.few).0 ((less_iff m b cs).0 t) in omega arith))) y
+        go : (t : Option Best) (x : ChoiceM) → Kept cs t x → MatchOption t ⊥ (λ b. b.cost ≤ c) → Kept cs t (beat x (chosen m) cs)
+        go None x y l = absurd l
+        go (Some t) none y l = absurd y
+        go (Some t) (chosen d) y l = unfold beat cheaper in rw (loses q y.1 l) y
 
+module _ (cs : List Channel) where
   -- ---- the choice, by the tests of the code
 
   module _ (p : ℕ) (l : List ℕ) where
-    pub choose_empty : length l ≡ 0 → Chosen 0 ≡ choice_of (choose p l cs)
+    pub choose_empty : length l ≡ 0 → Some 0 ≡ choice_of (choose p l cs)
     choose_empty h = go l h
       where
-        go : (k : List ℕ) → length k ≡ 0 → Chosen 0 ≡ choice_of (choose p k cs)
+        go : (k : List ℕ) → length k ≡ 0 → Some 0 ≡ choice_of (choose p k cs)
         go [] h = unfold choose in refl
         go (m ∷ ms) h = absurd (omega arith)
 
@@ -139,11 +146,11 @@ module _ (cs : List Channel) where
         go [] h = absurd (h refl)
         go (m ∷ ms) h = unfold choose in refl
 
-    module _ {f : Choice} (h : length l ≡ 0 → ⊥) (e : (q : ℕ) → f ≡ choice_of (first_free q l cs)) where
-      pub choose_first : {m : ℕ} → f ≡ Chosen m → f ≡ choice_of (choose p l cs)
+    module _ {f : Option ℕ} (h : length l ≡ 0 → ⊥) (e : (q : ℕ) → f ≡ choice_of (first_free q l cs)) where
+      pub choose_first : {m : ℕ} → f ≡ Some m → f ≡ choice_of (choose p l cs)
       unfolding or_else
       choose_first t = rw (some h, read (first_free p l cs) (e p) t) t
 
-      pub choose-second : {r : Choice} → f ≡ None → r ≡ choice_of (cheapest p l cs) → r ≡ choice_of (choose p l cs)
+      pub choose-second : {r : Option ℕ} → f ≡ None → r ≡ choice_of (cheapest p l cs) → r ≡ choice_of (choose p l cs)
       unfolding or_else
       choose-second t g = rw (some h, read (first_free p l cs) (e p) t) g

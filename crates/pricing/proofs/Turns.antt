@@ -49,7 +49,7 @@ module _ {m : ℕ} {ps : List ℕ} {top many i : ℕ} (t : Summed m ps top many 
     h : i < length ps
     h = omega (arith, t.eight)
 
-    pub summed_more : odd (m / 2 ^ i) ≡ true → Summed m ps (max (get_or ps i 0) top) (many + 1) (i + 1)
+    pub summed_more : odd (m / 2 ^ i) ≡ true → Summed m ps (max top (get_or ps i 0)) (many + 1) (i + 1)
     unfolding highest_of count_of
     summed_more e =
         record {

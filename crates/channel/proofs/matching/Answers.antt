@@ -1,5 +1,4 @@
 -- `matching` meets its contract: the bits found and what the channels from i on add make the map. Assumes nothing.
-use Prim.Native.Nat.{◌-◌}
 use mathlib.Core.Path.{sym, ◌∙◌}
 use native.Mathlib.Omega.{arith}
 use Rattle.channel.proofs.Turns.{matched_start, matched_hit, matched_miss, matched_end}
@@ -8,18 +7,16 @@ use Rattle.channel.proofs.matching.Goals as goal
 use Rattle.channel.proofs.matching.Goals.{then-hit, else-hit}
 
 pub loop-i-init : goal.loop-i-init
-loop-i-init c = (omega arith, matched_start _ _ _)
+loop-i-init c = matched_start _ _ _
 
 pub loop-i-preserved : goal.loop-i-preserved
 loop-i-preserved c =
     let l = c.loop-i in
     let e = c.hit.ensures in
     elim c.if-hit.branch [
-      | then-hit w ↦ rw w.ok-is (omega arith, matched_hit _ l.invariant.1 (search rules) (omega arith) (sym e ∙ w.if-hit.true))
-      | else-hit w ↦ rw w.ok-is (omega arith, matched_miss _ l.invariant.1 (search rules) (sym e ∙ w.if-hit.false))
+      | then-hit w ↦ rw w.ok-is (matched_hit _ l.invariant (search rules) (omega arith) (sym e ∙ w.if-hit.true))
+      | else-hit w ↦ rw w.ok-is (matched_miss _ l.invariant (search rules) (sym e ∙ w.if-hit.false))
     ]
 
 pub returns : goal.returns
-returns c =
-    let l = c.loop-i in
-    matched_end l.invariant.1 (search rules)
+returns c = matched_end c.loop-i.invariant (search rules)

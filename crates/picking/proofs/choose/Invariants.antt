@@ -1,15 +1,10 @@
 -- `choose` meets its contract: as long as no combination of free channels is found, the best so far against what the
 -- combinations left would choose gives what all choose. Assumes nothing.
-use Prim.Native.Nat.{◌-◌}
 use mathlib.Core.List.{List}
-use lib.ListN.{length}
 use Rattle.pricing.specs.machine.State.{Channel}
 use Rattle.pricing.specs.standing.Standing.{Stood}
 use Rattle.picking.proofs.Turns.{Walked}
 use Rattle.picking.proofs.choose.Given as goal
 
-abbrev pub invariant-loop-k : goal.invariant-loop-k
-invariant-loop-k l = (cs : List Channel) → Stood cs l.t → Walked l.prec cs l.combos l.best l.k
-
-abbrev pub decreases-loop-k : goal.decreases-loop-k
-decreases-loop-k l = length l.combos - l.k
+abbrev pub invariant-loop-map : goal.invariant-loop-map
+invariant-loop-map l = (cs : List Channel) → Stood cs l.t → Walked l.prec cs l.combos l.best l.map-index
