@@ -1,22 +1,19 @@
 -- Lines of channels: how long they are, how they grow by a channel, and that those of a board fit the memory that is lent.
 -- Assumes nothing.
-use Prim.Native.Nat.{ℕ, suc, ◌+◌, ◌*◌, ◌≤◌, ◌<◌}
+use Prim.Native.Nat.{ℕ, suc, ◌+◌, ◌*◌, ◌≤◌, ◌<◌, min}
 use mathlib.Core.Path.{◌≡◌, refl, ap, sym, ◌∙◌}
 use mathlib.Core.Bool.{true, false}
 use mathlib.Core.List.{List, [], ◌∷◌, ◌++◌, append_assoc, append-nil}
 use native.Mathlib.Omega.{arith}
 use native.Mathlib.Nat.{add-zero, zero-add}
 use native.Mathlib.Numerals.{add-one}
-use borrow.Author.Tests.{ltb-true, ltb-false}
-use lib.Dec.{ltb}
+use native.Mathlib.Decide.{dec_lt}
 use lib.ListN.{length, take, get_or, length-append, length-take}
 use lib.Seq.{take-suc, take_all, length-take-le}
 use Rattle.spelling.specs.memory.Splice.{splice}
 use Rattle.spelling.proofs.memory.Splice.{splice_then}
 use Rattle.spelling.specs.machine.Log.{line, hex_digit}
 use Rattle.board.specs.channel.declared.Channel.{Channel}
-use Rattle.std.specs.Prelude.{if◌then◌else◌}
-use Rattle.spelling.proofs.machine.Tests.{by_test, test_true, test_false}
 use Rattle.board.specs.declared.Board.{Board}
 use Rattle.channel_lines.specs.ChannelLines.{channel_line, channel_lines, board_lines, Shows}
 
@@ -56,18 +53,15 @@ channel_turn out cs i d h g =
     rw (add-one i, m) (splice_then out 0 (channel_lines 0 (take i cs)) (channel_line i (get_or cs i d)) (i * 15) (omega arith) (omega arith))
 
 -- a board's own channels: eight at most
-own_take : (w : ℕ) (cs : List Channel) → length cs ≡ 8 → take (if ltb w 8 then w else 8) cs ≡ take w cs
-own_take w cs h =
-    by_test (ltb w 8) (λ t. rw (test_true (ltb w 8) t))
-    (λ t. let g = ltb-false w 8 (test_false (ltb w 8) t) in rw (test_false (ltb w 8) t) (take_all 8 cs (omega arith) ∙ sym (take_all w cs (omega arith))))
+own_take : (w : ℕ) (cs : List Channel) → length cs ≡ 8 → take (min w 8) cs ≡ take w cs
+own_take w cs h = elim (dec_lt w 8) [
+  | yes k ↦ let e : min w 8 ≡ w = omega arith in rw e
+  | no k ↦ take_all (min w 8) cs (omega arith) ∙ sym (take_all w cs (omega arith))
+]
 
-own_most : (w : ℕ) → (if ltb w 8 then w else 8) ≤ 8
-own_most w = by_test (ltb w 8) (λ t. let g = ltb-true w 8 (test_true (ltb w 8) t) in rw (test_true (ltb w 8) t) (omega arith)) (λ t. rw (test_false (ltb w 8) t) (omega arith))
-
-pub board-shown : (b : Board) {n : ℕ} {out out' : List ℕ} → length b.state.channels ≡ 8 → n ≡ (if ltb b.width 8 then b.width else 8)
+pub board-shown : (b : Board) {n : ℕ} {out out' : List ℕ} → length b.state.channels ≡ 8 → n ≡ min b.width 8
     → out' ≡ splice out 0 (channel_lines 0 (take n b.state.channels)) → Shows b out (n * 15) out'
 board-shown b {n} {out} h e p =
-    let m = own_most b.width in
     let t : take n b.state.channels ≡ take b.width b.state.channels = ap (λ (k : ℕ). take k b.state.channels) e ∙ own_take b.width b.state.channels h in
     let l = length-channel_lines 0 (take n b.state.channels) in
     let k = length-take-le n b.state.channels (omega arith) in

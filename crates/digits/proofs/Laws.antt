@@ -4,41 +4,20 @@ use mathlib.Core.Path.{◌≡◌, refl, ap, sym, ◌∙◌}
 use mathlib.Core.Bool.{Bool, true, false, ◌&&◌}
 use mathlib.Core.List.{List, [], ◌∷◌}
 use mathlib.Core.Option.{Option, none, some}
-use native.Mathlib.Numerals.{add-one}
 use native.Mathlib.Omega.{arith}
 use native.Mathlib.Decide.{dec_lt}
-use borrow.Author.Tests.{eqb-true, le-leb, lt-leb, eq-eqb, ne_eqb}
+use borrow.Author.Tests.{eqb-true, le-leb, eq-eqb, ne_eqb}
 use lib.Dec.{eqb, leb, leb→le}
-use lib.ListN.{length, get_or, take, drop, drop_of_length-le}
-use lib.Seq.{drop-cons, take_all, length-take-le}
+use lib.ListN.{length, get_or, take}
+use lib.Seq.{take_all, length-take-le}
 use Rattle.std.specs.Prelude.{if◌then◌else◌}
+use Rattle.std.proofs.lemmas.List.Recursion.{and_is}
 use Rattle.machine.specs.Lists.{all}
 use Rattle.machine.specs.Log.{digit, joined, unhex, call_of, frame}
 use Rattle.machine.proofs.Tests.{by_test, test_true, test_false, if_elim, and_right}
 use Rattle.digits.specs.Digits.{has_one, value_of, is_digit, spells, pairs}
 
 -- ---- digit
-
-module _ (b : ℕ) where
-  pub digit_low : b < 48 → 16 ≡ value_of (digit b)
-  unfolding digit
-  digit_low h = rw (lt-leb 48 b h, lt-leb 65 b (omega arith))
-
-  pub digit_decimal : 48 ≤ b → b ≤ 57 → b - 48 ≡ value_of (digit b)
-  unfolding digit
-  digit_decimal h g = rw (le-leb 48 b h, le-leb b 57 g)
-
-  pub digit_between : 57 < b → b < 65 → 16 ≡ value_of (digit b)
-  unfolding digit
-  digit_between h g = rw (le-leb 48 b (omega arith), lt-leb b 57 h, lt-leb 65 b g)
-
-  pub digit_letter : 65 ≤ b → b ≤ 70 → b - 55 ≡ value_of (digit b)
-  unfolding digit
-  digit_letter h g = rw (le-leb 48 b (omega arith), lt-leb b 57 (omega arith), le-leb 65 b h, le-leb b 70 g)
-
-  pub digit-high : 70 < b → 16 ≡ value_of (digit b)
-  unfolding digit
-  digit-high h = rw (le-leb 48 b (omega arith), lt-leb b 57 (omega arith), le-leb 65 b (omega arith), lt-leb b 70 h)
 
 abbrev pub Small : Option ℕ → Type 0
 Small none = Unit {0}
@@ -60,21 +39,15 @@ digit-below_16 b h = go (digit b) (small-digit b) h
     go none t e = absurd (let z : ◌≡◌ {A = ℕ} 0 1 = cc in omega arith)
     go (some v) t e = t
 
-pub no_digit : (b : ℕ) → 15 < value_of (digit b) → is_digit b ≡ false
-no_digit b h = go (digit b) (small-digit b) h
-  where
-    go : (o : Option ℕ) → Small o → 15 < value_of o → has_one o ≡ false
-    go none t e = refl
-    go (some v) t e = absurd (omega arith)
-
-pub a_digit : (b : ℕ) → value_of (digit b) ≤ 15 → is_digit b ≡ true
-a_digit b h = go (digit b) h
-  where
-    go : (o : Option ℕ) → value_of o ≤ 15 → has_one o ≡ true
-    go none e = absurd (omega arith)
-    go (some v) e = refl
-
 -- ---- spells
+
+and_true : (b : Bool) → (b && true) ≡ b
+and_true true = refl
+and_true false = refl
+
+and_false : (b : Bool) → (b && false) ≡ false
+and_false true = refl
+and_false false = refl
 
 both : (a b : Bool) → (a && b) ≡ true → (a ≡ true) × (b ≡ true)
 both true b h = (refl, h)
@@ -95,29 +68,25 @@ all_at [] i h g = absurd (omega arith)
 all_at (b ∷ l) zero h g = (both (is_digit b) (all is_digit l) h).0
 all_at (b ∷ l) (suc i) h g = all_at l i (both (is_digit b) (all is_digit l) h).1 (omega arith)
 
+pub is_digit_at : (l : List ℕ) (i : ℕ) → spells l ≡ true → i < length l → is_digit (get_or l i 0) ≡ true
+is_digit_at l i h g = all_at l i (spells-digits l h) g
+
 pub spelt-digit : (l : List ℕ) (i : ℕ) → spells l ≡ true → i < length l → value_of (digit (get_or l i 0)) < 16
-spelt-digit l i h g = digit-below_16 (get_or l i 0) (all_at l i (spells-digits l h) g)
+spelt-digit l i h g = digit-below_16 (get_or l i 0) (is_digit_at l i h g)
 
--- the test of the digits left is the test of all
-pub record Passed (l : List ℕ) (i : ℕ) : Type 0 where
-  pub rest : all is_digit (drop i l) ≡ all is_digit l
+-- a test of each byte that has answered r
+pub tested : (l : List ℕ) (r : Bool) → (r ≡ true → (i : ℕ) → i < length l → is_digit (get_or l i 0) ≡ true)
+    → (r ≡ false → (i : ℕ) × (i < length l) × (is_digit (get_or l i 0) ≡ false)) → r ≡ all is_digit l
+unfolding all
+tested l r = and_is (all is_digit) is_digit refl (λ _ _. refl) l 0 r
 
-pub passed_start : (l : List ℕ) → Passed l 0
-passed_start l = record { rest = refl }
+pub even_spells : (l : List ℕ) (r : Bool) → length l % 2 ≡ 0 → r ≡ all is_digit l → r ≡ spells l
+unfolding spells
+even_spells l r h e = rw (eq-eqb _ _ h, and_true (all is_digit l)) e
 
-module _ {l : List ℕ} {i : ℕ} (t : Passed l i) where
-  pub passed_end : length l ≤ i → eqb (length l % 2) 0 ≡ spells l
-  unfolding all spells
-  passed_end h = rw (← (rw (drop_of_length-le l h) at t.rest))
-
-  module _ (h : i < length l) where
-    pub passed_stop : 15 < value_of (digit (get_or l i 0)) → false ≡ spells l
-    unfolding all spells
-    passed_stop e = let q : false ≡ all is_digit l = rw (drop-cons l i 0 h, no_digit _ e) at t.rest in rw (← q)
-
-    pub passed_more : value_of (digit (get_or l i 0)) ≤ 15 → Passed l (i + 1)
-    unfolding all
-    passed_more e = record { rest = rw (add-one i) (rw (drop-cons l i 0 h, a_digit _ e) at t.rest) }
+pub odd_spells : (l : List ℕ) → (length l % 2 ≡ 0 → ⊥) → eqb (length l % 2) 0 ≡ spells l
+unfolding spells
+odd_spells l h = rw (ne_eqb _ _ h, and_false (all is_digit l))
 
 -- ---- pairs
 
@@ -145,10 +114,6 @@ spelt_byte l i h g =
     rw (get_d_pairs l i g) (omega arith)
 
 -- ---- unhex
-
-and_false : (b : Bool) → (b && false) ≡ false
-and_false true = refl
-and_false false = refl
 
 -- two digits more
 joined-pairs : (h l : Option ℕ) (p q : Bool) (bs : List ℕ)

@@ -1,43 +1,38 @@
 // The bytes that a line's upper-case hexadecimal digits spell. Assumes nothing.
 #![tactic(auto)]
 
-ghost use Rattle.std.specs.Prelude.{◌≡◌, true, ◌+◌, ◌*◌, ◌<◌, length, get_or};
+ghost use Rattle.std.specs.Prelude.{◌≡◌, true, ◌+◌, ◌*◌, ◌<◌, length, get_or, is_some, IfSome};
 ghost use Rattle.machine.specs.Log.{digit as digit_m};
-ghost use Rattle.digits.specs.Digits.{value_of, spells, pairs};
+ghost use Rattle.digits.specs.Digits.{value_of, is_digit, spells, pairs};
 
 pub use machine;
 
-// The value of an upper-case hexadecimal digit, and 16 for any other byte.
-fn digit(b: u8) -> u8
-    ensures { result ≡ value_of (digit_m b) }
+// The value of an upper-case hexadecimal digit, and of no other byte.
+#[tactic(auto, unfolding(machine::specs::Log::digit))]
+fn digit(b: u8) -> Option<u8>
+    ensures found { is_some result ≡ is_digit b }
+    ensures value { IfSome result (λ v. v ≡ value_of (digit_m b)) }
 {
-    if b < 48 {
-        return 16;
+    match b {
+        b'0'..=b'9' => Some(b - b'0'),
+        b'A'..=b'F' => Some(b - b'A' + 10),
+        _ => None,
     }
-    if b <= 57 {
-        return b - 48;
-    }
-    if b < 65 {
-        return 16;
-    }
-    if b <= 70 {
-        return b - 55;
-    }
-    16
 }
 
 // Whether a line spells bytes: digits alone, and two to a byte.
 pub fn spelt(line: &[u8]) -> bool
     ensures { result ≡ spells line.now }
 {
-    let mut i: usize = 0;
-    while i < line.len() {
-        if digit(line[i]) > 15 {
-            return false;
-        }
-        i += 1;
-    }
-    line.len() % 2 == 0
+    line.len() % 2 == 0 && line.iter().all(|b| digit(*b).is_some())
+}
+
+// The value of digit i of a line that spells bytes.
+fn value_at(line: &[u8], i: usize) -> u8
+    requires { (spells line.now ≡ true) × (i < length line.now) }
+    ensures { (result ≡ value_of (digit_m (get_or line.now i 0))) × (result < 16) }
+{
+    digit(line[i]).unwrap()
 }
 
 // Byte i of those that a line spells.
@@ -45,7 +40,5 @@ pub fn byte_at(line: &[u8], i: usize) -> u8
     requires { (spells line.now ≡ true) × (i * 2 + 1 < length line.now) }
     ensures { result ≡ get_or (pairs line.now) i 0 }
 {
-    let high = digit(line[i * 2]);
-    let low = digit(line[i * 2 + 1]);
-    high * 16 + low
+    value_at(line, i * 2) * 16 + value_at(line, i * 2 + 1)
 }

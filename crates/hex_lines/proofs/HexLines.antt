@@ -1,20 +1,23 @@
 -- Lines of hexadecimal: how long they are, how they are put in parts, and that a line that is read spells what was written.
 -- Assumes nothing.
-use Prim.Native.Nat.{ℕ, zero, suc, ◌+◌, ◌-◌, ◌*◌, ◌/◌, ◌%◌, ◌≤◌, ◌<◌}
+use Prim.Native.Nat.{ℕ, suc, ◌+◌, ◌-◌, ◌*◌, ◌/◌, ◌%◌, ◌≤◌, ◌<◌}
 use mathlib.Core.Path.{◌≡◌, refl, ap, sym, ◌∙◌}
 use mathlib.Core.Bool.{Bool, true, false, ◌&&◌}
-use mathlib.Core.List.{List, [], ◌∷◌, ◌++◌, append_assoc, append-nil}
+use mathlib.Core.List.{List, [], ◌∷◌, ◌++◌}
 use native.Mathlib.Omega.{arith}
+use native.Mathlib.Nat.{zero-add}
 use native.Mathlib.Numerals.{add-one}
 use borrow.Author.Tests.{le-leb, lt-leb}
 use lib.Dec.{leb}
-use lib.ListN.{length, take, drop, get_or, set, length-append, length-drop}
-use lib.Seq.{take-suc, drop-drop, length-take-le}
+use lib.ListN.{length, take, drop, get_or, set, length-append}
+use lib.Seq.{take-suc, length-take-le}
 use Rattle.spelling.specs.memory.Splice.{splice}
 use Rattle.spelling.proofs.memory.Splice.{splice_then, splice_snoc}
 use Rattle.std.specs.Prelude.{if◌then◌else◌}
 use Rattle.spelling.specs.machine.Log.{hex_digit, line}
+use Rattle.std.proofs.lemmas.List.{ext_get_or}
 use Rattle.digits.specs.Digits.{spells, pairs}
+use Rattle.digits.proofs.Laws.{length_pairs}
 use Rattle.hex_lines.specs.HexLines.{octets_of}
 use Rattle.spelling.specs.Spelling.{digits}
 
@@ -79,3 +82,14 @@ octets_unspelt l h = rw h (go (leb (length l) 46))
 pub octets_are : (l : List ℕ) → length l ≤ 46 → spells l ≡ true → octets_of l ≡ pairs l
 unfolding octets_of
 octets_are l h g = rw (le-leb (length l) 46 h, g)
+
+-- bytes os that are, one by one, those that a line spells, in front of f
+pub octets_written : (l f os : List ℕ) (i : ℕ) → length l ≤ 46 → spells l ≡ true → length f ≡ 23 → length os ≡ length (take (length l / 2) f)
+    → length os ≤ i → ((k : ℕ) → k < i → get_or os k 0 ≡ get_or (pairs l) k 0)
+    → (length l / 2 ≡ length (octets_of l)) × (os ++ drop (length l / 2) f ≡ splice f 0 (octets_of l))
+unfolding splice
+octets_written l f os i h g m e u same =
+    let n = length_pairs l in
+    let t = length-take-le (length l / 2) f (omega arith) in
+    let x : os ≡ pairs l = ext_get_or 0 os (pairs l) (omega arith) (λ k b. same k (omega arith)) in
+    rw (octets_are l h g, n, x, zero-add) (refl, refl)

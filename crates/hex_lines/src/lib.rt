@@ -12,10 +12,8 @@ pub fn put_bytes(out: &mut [u8], at: usize, bs: &[u8])
     requires { at + 2 * length bs.now ≤ length out.old }
     ensures { out.new ≡ splice out.old at (digits bs.now) }
 {
-    let mut i: usize = 0;
-    while i < bs.len() {
-        spelling::put_byte(out, at + 2 * i, bs[i]);
-        i += 1;
+    for (i, b) in bs.iter().enumerate() {
+        spelling::put_byte(out, at + 2 * i, *b);
     }
 }
 
@@ -44,10 +42,8 @@ pub fn octets(line: &[u8], f: &mut [u8]) -> usize
         return 0;
     }
     let n = line.len() / 2;
-    let mut i: usize = 0;
-    while i < n {
-        f[i] = digits::byte_at(line, i);
-        i += 1;
+    for (i, octet) in f[..n].iter_mut().enumerate() {
+        *octet = digits::byte_at(line, i);
     }
     n
 }

@@ -16,17 +16,7 @@ fn put_record(out: &mut [u8], replies: &[u8], i: usize)
     ensures { out.new ≡ splice out.old (i * 15) (record_line (block 6 replies.now i)) }
 {
     let k = i * 6;
-    spelling::put_seven(
-        out,
-        i * 15,
-        0xC0,
-        replies[k],
-        replies[k + 1],
-        replies[k + 2],
-        replies[k + 3],
-        replies[k + 4],
-        replies[k + 5],
-    );
+    hex_lines::put_line(out, i * 15, &[0xC0], &replies[k..k + 6]);
 }
 
 // A1 outstanding, A0 done.
@@ -40,22 +30,17 @@ fn put_answer(out: &mut [u8], at: usize, a: Answer)
     requires { at + 13 ≤ length out.old }
     ensures { out.new ≡ splice out.old at (answer_line (answer_in a)) }
 {
-    let first = kind(a.outstanding);
-    let high = (a.key / 256) as u8;
-    let low = (a.key % 256) as u8;
-    spelling::put_three(out, at, first, a.error, a.map);
-    spelling::put_three(out, at + 6, high, low, a.extra);
-    out[at + 12] = 10;
+    let [high, low] = a.key.to_be_bytes();
+    let bytes = [kind(a.outstanding), a.error, a.map, high, low, a.extra];
+    hex_lines::put_line(out, at, &bytes, &[]);
 }
 
 fn put_all(out: &mut [u8], replies: &[u8], n: usize, a: Answer) -> usize
     requires { (n * 15 + 13 ≤ length out.old) × (n * 6 ≤ length replies.now) × (n ≤ 64) }
     ensures { Tells replies.now n a out.old result out.new }
 {
-    let mut i: usize = 0;
-    while i < n {
+    for i in 0..n {
         put_record(out, replies, i);
-        i += 1;
     }
     put_answer(out, n * 15, a);
     n * 15 + 13

@@ -1,5 +1,4 @@
 -- `put_channels` meets its contract: after i turns the lines of the first i channels stand in front. Assumes nothing.
-use Prim.Native.Nat.{◌≤◌, ◌-◌}
 use mathlib.Core.Path.{◌≡◌}
 use lib.ListN.{length, take}
 use Rattle.spelling.specs.memory.Splice.{splice}
@@ -7,7 +6,4 @@ use Rattle.channel_lines.specs.ChannelLines.{channel_lines}
 use Rattle.channel_lines.proofs.put_channels.Given as goal
 
 abbrev pub invariant-loop-i : goal.invariant-loop-i
-invariant-loop-i l = (l.i ≤ l.n) × (l.n ≤ 8) × (length l.initial.out ≡ 120) × (length l.out ≡ length l.initial.out) × (l.out ≡ splice l.initial.out 0 (channel_lines 0 (take l.i l.cs)))
-
-abbrev pub decreases-loop-i : goal.decreases-loop-i
-decreases-loop-i l = l.n - l.i
+invariant-loop-i l = (length l.out ≡ length l.initial.out) × (l.out ≡ splice l.initial.out 0 (channel_lines 0 (take l.i l.cs)))

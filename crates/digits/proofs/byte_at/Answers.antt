@@ -1,24 +1,7 @@
--- `byte_at` meets its contract: each digit is below 16, so the two make a byte. Assumes nothing.
-use Prim.Native.Nat.{◌+◌, ◌*◌}
+-- `byte_at` meets its contract: two digits make a byte. Assumes nothing.
 use native.Mathlib.Omega.{arith}
-use Rattle.digits.proofs.Laws.{spelt-digit, get_d_pairs}
+use Rattle.digits.proofs.Laws.{get_d_pairs}
 use Rattle.digits.proofs.byte_at.Goals as goal
 
-pub overflow_mul-result : goal.overflow_mul-result
-overflow_mul-result c =
-    let a = c.args in
-    let h = spelt-digit a.line.now (a.i * 2) c.requires.0 (omega arith) in
-    omega arith
-
-pub overflow_add-result : goal.overflow_add-result
-overflow_add-result c =
-    let a = c.args in
-    let h = spelt-digit a.line.now (a.i * 2) c.requires.0 (omega arith) in
-    let g = spelt-digit a.line.now (a.i * 2 + 1) c.requires.0 (omega arith) in
-    omega arith
-
 pub returns : goal.returns
-returns c =
-    let a = c.args in
-    let e = get_d_pairs a.line.now a.i c.requires.1 in
-    omega arith
+returns c = let e = get_d_pairs c.args.line.now c.args.i c.requires.1 in omega arith

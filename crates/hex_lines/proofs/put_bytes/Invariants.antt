@@ -8,6 +8,3 @@ use Rattle.hex_lines.proofs.put_bytes.Given as goal
 
 abbrev pub invariant-loop-i : goal.invariant-loop-i
 invariant-loop-i l = (l.i ≤ length l.bs) × (l.at + 2 * length l.bs ≤ length l.initial.out) × (length l.out ≡ length l.initial.out) × (l.out ≡ splice l.initial.out l.at (digits (take l.i l.bs)))
-
-abbrev pub decreases-loop-i : goal.decreases-loop-i
-decreases-loop-i l = length l.bs - l.i
