@@ -1,20 +1,17 @@
--- What an accepted command gives the function that performs it. Assumes nothing.
+-- The room that an accepted command has for its replies. Assumes nothing.
 use Prim.Native.Nat.{ℕ, ◌+◌, ◌≤◌, ◌<◌}
-use mathlib.Core.Path.{◌≡◌, ap, sym, ◌∙◌}
-use mathlib.Core.Bool.{true, false, not}
-use mathlib.Core.Logic.{◌⊎◌, inl, inr}
-use mathlib.Core.List.{List, [], ◌∷◌, map}
+use mathlib.Core.Path.{◌≡◌}
+use mathlib.Core.Bool.{not}
+use mathlib.Core.List.{List, ◌∷◌, map}
 use native.Mathlib.Omega.{arith}
 use lib.Dec.{T, ltb, lt→ltb}
 use lib.ListN.{length, length-append, length-map}
 use Rattle.answers.specs.machine.Lists.{all, among, distinct}
-use Rattle.answers.specs.machine.State.{Lock, State as StateM, Call}
+use Rattle.answers.specs.machine.State.{Lock, State as StateM}
 use Rattle.answers.specs.machine.Maps.{minus}
 use Rattle.answers.specs.machine.Granting.{dropped}
-use Rattle.answers.specs.machine.Commands.{reset, same, set_stop, flushed, set_prec, cleared, is_empty, freeing_replies, each_change, do_free, do_read, do_write, do_waitcycle, do_lock}
+use Rattle.answers.specs.machine.Commands.{cleared, is_empty, freeing_replies}
 use Rattle.answers.specs.machine.Sound.{writes_of, ids}
-use Rattle.answers.specs.machine.Kinds.{kind}
-use Rattle.answers.specs.machine.Call.{perform}
 use Rattle.answers.proofs.machine.Tests.{and_both}
 use Rattle.channel.proofs.machine_laws.Lists.{pigeon, keep_length}
 use Rattle.channel.specs.machine_laws.Sound.{Parts}
@@ -24,7 +21,7 @@ use Rattle.answers.specs.store.Work.{Ready}
 use Rattle.answers.proofs.store.Store.{held_parts}
 use Rattle.sweep.proofs.granting.Few.{dropped_few}
 use Rattle.answers.specs.declared.Request.{Request}
-use Rattle.changing.specs.Changing.{Accepted, Among}
+use Rattle.changing.specs.Changing.{Accepted}
 
 -- ---- room: with its own id idle, at most 63 others can be replied
 
@@ -62,73 +59,3 @@ module _ {r : Request} {s : State} {tb l : List ℕ} (a : Accepted r s tb l) whe
       let f = freed_few m (state_in s tb) in
       let o = own_few (state_in s tb) r.id (held_parts a.held) a.valid a.idle in
       record { held = a.held; room = a.room; fits = omega arith }
-
--- ---- the command of a number
-
-module _ (c : Call) (s : StateM) (n : ℕ) where
-  pub is_reset : n ≡ 1 → perform (kind n) c s ≡ each_change n reset true c s
-  unfolding perform kind
-  is_reset e = ap (λ (k : ℕ). perform (kind k) c s) e ∙ sym (ap (λ (k : ℕ). each_change k reset true c s) e)
-
-  pub is_flush : n ≡ 8 → perform (kind n) c s ≡ each_change n flushed true c s
-  unfolding perform kind
-  is_flush e = ap (λ (k : ℕ). perform (kind k) c s) e ∙ sym (ap (λ (k : ℕ). each_change k flushed true c s) e)
-
-  pub is_free_lem : n ≡ 9 → perform (kind n) c s ≡ do_free c s
-  unfolding perform kind
-  is_free_lem e = ap (λ (k : ℕ). perform (kind k) c s) e
-
-  pub is_stop : n ≡ 6 → perform (kind n) c s ≡ each_change n (set_stop true) false c s
-  unfolding perform kind
-  is_stop e = ap (λ (k : ℕ). perform (kind k) c s) e ∙ sym (ap (λ (k : ℕ). each_change k (set_stop true) false c s) e)
-
-  pub is_start : n ≡ 7 → perform (kind n) c s ≡ each_change n (set_stop false) false c s
-  unfolding perform kind
-  is_start e = ap (λ (k : ℕ). perform (kind k) c s) e ∙ sym (ap (λ (k : ℕ). each_change k (set_stop false) false c s) e)
-
-  pub is_setprec : n ≡ 10 → perform (kind n) c s ≡ each_change n (set_prec c.prec) false c s
-  unfolding perform kind
-  is_setprec e = ap (λ (k : ℕ). perform (kind k) c s) e ∙ sym (ap (λ (k : ℕ). each_change k (set_prec c.prec) false c s) e)
-
-  pub is_same : (n ≡ 4) ⊎ (n ≡ 5) → perform (kind n) c s ≡ each_change n same false c s
-  unfolding perform kind
-  is_same (inl e) = ap (λ (k : ℕ). perform (kind k) c s) e ∙ sym (ap (λ (k : ℕ). each_change k same false c s) e)
-  is_same (inr e) = ap (λ (k : ℕ). perform (kind k) c s) e ∙ sym (ap (λ (k : ℕ). each_change k same false c s) e)
-
-  pub is_read_lem : n ≡ 2 → perform (kind n) c s ≡ do_read c s
-  unfolding perform kind
-  is_read_lem e = ap (λ (k : ℕ). perform (kind k) c s) e
-
-  pub is_write : n ≡ 3 → perform (kind n) c s ≡ do_write c s
-  unfolding perform kind
-  is_write e = ap (λ (k : ℕ). perform (kind k) c s) e
-
-  pub is_wait : n ≡ 14 → perform (kind n) c s ≡ do_waitcycle c s
-  unfolding perform kind
-  is_wait e = ap (λ (k : ℕ). perform (kind k) c s) e
-
-  pub is_lock : n ≡ 13 → perform (kind n) c s ≡ do_lock c s
-  unfolding perform kind
-  is_lock e = ap (λ (k : ℕ). perform (kind k) c s) e
-
--- ---- the number that is left
-
-pub left_flush : (n : ℕ) → Among n (1 ∷ 8 ∷ 9 ∷ []) → (n ≡ 9 → ⊥) → (n ≡ 1 → ⊥) → n ≡ 8
-left_flush n (inl e) a b = absurd (b e)
-left_flush n (inr (inl e)) a b = e
-left_flush n (inr (inr (inl e))) a b = absurd (a e)
-left_flush n (inr (inr (inr e))) a b = absurd e
-
-pub left_same : (n : ℕ) → Among n (4 ∷ 5 ∷ 6 ∷ 7 ∷ 10 ∷ []) → (n ≡ 6 → ⊥) → (n ≡ 7 → ⊥) → (n ≡ 10 → ⊥) → (n ≡ 4) ⊎ (n ≡ 5)
-left_same n (inl e) a b d = inl e
-left_same n (inr (inl e)) a b d = inr e
-left_same n (inr (inr (inl e))) a b d = absurd (a e)
-left_same n (inr (inr (inr (inl e)))) a b d = absurd (b e)
-left_same n (inr (inr (inr (inr (inl e))))) a b d = absurd (d e)
-left_same n (inr (inr (inr (inr (inr e))))) a b d = absurd e
-
-pub left_lock : (n : ℕ) → Among n (2 ∷ 13 ∷ 14 ∷ []) → (n ≡ 2 → ⊥) → (n ≡ 14 → ⊥) → n ≡ 13
-left_lock n (inl e) a b = absurd (a e)
-left_lock n (inr (inl e)) a b = e
-left_lock n (inr (inr (inl e))) a b = absurd (b e)
-left_lock n (inr (inr (inr e))) a b = absurd e

@@ -1,9 +1,8 @@
--- Which function performs WRITE, FINISH and PERVOL: by the number, and by the flag SYNCCYCLE. Assumes nothing.
+-- Which function performs FINISH and PERVOL: by the flag SYNCCYCLE. Assumes nothing.
 use Prim.Native.Nat.{ℕ, ◌+◌, ◌/◌, ◌%◌}
 use mathlib.Core.Path.{◌≡◌, refl, ap, sym, subst, ◌∙◌}
 use mathlib.Core.Bool.{true, false}
-use mathlib.Core.Logic.{inl, inr}
-use mathlib.Core.List.{List, [], ◌∷◌}
+use mathlib.Core.List.{List, []}
 use native.Mathlib.Omega.{arith}
 use lib.ListN.{length}
 use Rattle.answers.specs.machine.Numbers.{synced}
@@ -21,7 +20,7 @@ use Rattle.answers.specs.Answers.{call_of}
 use Rattle.tuning.specs.retuning.declared.Tune.TheVariants.{Set, Later, Finish}
 use Rattle.tuning.specs.Tuning.{tuned_of}
 use Rattle.cutting.specs.Cutting.{finish_replies}
-use Rattle.changing.specs.Changing.{Accepted, Among}
+use Rattle.changing.specs.Changing.{Accepted}
 use Rattle.cutting.proofs.granting.Few.{front_replies_few}
 use Rattle.changing.proofs.Laws.{own_few}
 
@@ -91,11 +90,3 @@ ready-finish {r} {s} {tb} a =
     let f = front_replies_few m u in
     let o = own_few u r.id (held_parts a.held) a.valid a.idle in
     record { held = a.held; room = a.room; fits = omega arith }
-
--- ---- the last of the three
-
-pub left_pervol : (n : ℕ) → Among n (3 ∷ 11 ∷ 12 ∷ []) → (n ≡ 3 → ⊥) → (n ≡ 11 → ⊥) → n ≡ 12
-left_pervol n (inl e) a b = absurd (a e)
-left_pervol n (inr (inl e)) a b = absurd (b e)
-left_pervol n (inr (inr (inl e))) a b = e
-left_pervol n (inr (inr (inr e))) a b = absurd e

@@ -1,10 +1,9 @@
-// The commands that say what a cycle is played with: WRITE, and FINISH and PERVOL, at once or remembered. Assumes nothing.
+// FINISH and PERVOL, which are done at once or remembered for a cycle's end. Assumes nothing.
 #![tactic(auto)]
 
-ghost use Rattle.std.specs.Prelude.{◌≡◌, ◌⊎◌, [], ◌∷◌, length};
-ghost use Rattle.answers.specs.machine.Steps.{Carries};
-ghost use Rattle.answers.specs.Answers.{call_of, Does};
-ghost use Rattle.changing.specs.Changing.{command_of, Accepted, Among};
+ghost use Rattle.std.specs.Prelude.{◌≡◌, ◌⊎◌, [], length};
+ghost use Rattle.answers.specs.Answers.{Does};
+ghost use Rattle.changing.specs.Changing.{command_of, Accepted};
 
 use answers::store::State;
 use answers::{Outcome, Request};
@@ -13,7 +12,7 @@ pub use changing::freeing;
 use tuning::retuning::Tune;
 
 // FINISH: at once, or remembered.
-fn finish(r: Request, s: State, table: &mut [u8], replies: &mut [u8]) -> Outcome
+pub fn finish(r: Request, s: State, table: &mut [u8], replies: &mut [u8]) -> Outcome
     requires { Accepted r s table.old replies.old × (r.command ≡ 11) }
     ensures { Does (command_of r []) s table.old replies.old result table.new replies.new }
 {
@@ -24,7 +23,7 @@ fn finish(r: Request, s: State, table: &mut [u8], replies: &mut [u8]) -> Outcome
 }
 
 // PERVOL: at once, or remembered.
-fn pervol(r: Request, s: State, combos: &[u8], table: &mut [u8], replies: &mut [u8]) -> Outcome
+pub fn pervol(r: Request, s: State, combos: &[u8], table: &mut [u8], replies: &mut [u8]) -> Outcome
     requires { Accepted r s table.old replies.old × (r.command ≡ 12) × ((length combos.now ≡ 0) ⊎ (length combos.now ≡ 6)) }
     ensures { Does (command_of r combos.now) s table.old replies.old result table.new replies.new }
 {
@@ -32,25 +31,4 @@ fn pervol(r: Request, s: State, combos: &[u8], table: &mut [u8], replies: &mut [
         return tuning::tune_each(r, s, combos, Tune::Later, table, replies);
     }
     tuning::tune_each(r, s, combos, Tune::Set, table, replies)
-}
-
-// WRITE, FINISH and PERVOL: what a cycle is played with.
-pub fn sounding(
-    r: Request,
-    s: State,
-    combos: &[u8],
-    table: &mut [u8],
-    replies: &mut [u8],
-) -> Outcome
-    requires { Accepted r s table.old replies.old × Among r.command (3 ∷ 11 ∷ 12 ∷ []) × Carries r.command (call_of r combos.now) }
-    ensures { Does (command_of r combos.now) s table.old replies.old result table.new replies.new }
-{
-    let c = r.command;
-    if c == 3 {
-        return writing::write(r, s, combos, table, replies);
-    }
-    if c == 11 {
-        return finish(r, s, table, replies);
-    }
-    pervol(r, s, combos, table, replies)
 }

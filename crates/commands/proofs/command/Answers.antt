@@ -1,70 +1,71 @@
--- `command` meets its contract: the number says the family, and what it reads beside the map. Assumes nothing.
-use Prim.Native.Nat.{◌≤◌}
-use mathlib.Core.Logic.{inl, inr, ⊎_elim}
+-- `command` meets its contract: the function of each command does what the machine does by its number. Assumes nothing.
+use mathlib.Core.Path.{refl}
+use native.Mathlib.Omega.{arith}
 use Rattle.answers.proofs.Laws.{told_as}
-use Rattle.commands.proofs.Laws.{drops_listless, marks_listless, singles_listless, is_allocate, on_map, ready_any, high_single, low_sounding, left_marks}
+use Rattle.sounding.proofs.changing.Laws.{ready_abort, ready_free}
+use Rattle.sounding.proofs.Laws.{finish_listless}
+use Rattle.commands.proofs.Laws.{numbered, known_ok, on_map, is_reset, is_read, is_write, is_update, is_clear, is_stop, is_start, is_flush, is_free, is_setprec, is_lock, is_wait, is_allocate}
 use Rattle.commands.proofs.command.Goals as goal
 
-pub allocate-requires : goal.allocate-requires
-allocate-requires c =
-    let p = c.requires in
-    let t = c.if-c-eq32.true in
-    (ready_any p, t, p.list t, p.valid, p.idle)
+pub unwrap-requires : goal.unwrap-requires
+unwrap-requires c = known_ok _ _ c.requires.known c.try_from.ensures
 
-pub returns-then-c-eq32 : goal.returns-then-c-eq32
-returns-then-c-eq32 c = told_as (is_allocate _ _ c.args.r.command c.if-c-eq32.true) c.allocate.ensures
+pub drop_each-requires : goal.drop_each-requires
+drop_each-requires c =
+    let e = numbered _ _ _ c.try_from.ensures c.in-Reset.ensures in
+    let a = on_map c.requires (λ w. absurd (omega arith)) in
+    (ready_abort a _, a.map, λ x. refl)
 
-pub single-requires : goal.single-requires
-single-requires c =
-    let n = c.if-c-eq32.false in
-    (on_map c.requires n, high_single _ c.requires.known n c.if-c-gt12.true)
+pub drop_each-requires-in-Flush : goal.drop_each-requires-in-Flush
+drop_each-requires-in-Flush c =
+    let e = numbered _ _ _ c.try_from.ensures c.in-Flush.ensures in
+    let a = on_map c.requires (λ w. absurd (omega arith)) in
+    (ready_abort a _, a.map, λ x. refl)
 
-pub returns-then-c-gt12 : goal.returns-then-c-gt12
-returns-then-c-gt12 c = told_as (singles_listless c.args.r _ _ _ (high_single _ c.requires.known c.if-c-eq32.false c.if-c-gt12.true)) c.single.ensures
+pub free-requires : goal.free-requires
+free-requires c =
+    let e = numbered _ _ _ c.try_from.ensures c.in-Free.ensures in
+    let a = on_map c.requires (λ w. absurd (omega arith)) in
+    (ready_free a _, a.map, e)
 
-pub dropping-requires : goal.dropping-requires
-dropping-requires c = (on_map c.requires c.if-c-eq32.false, inl c.if-c-eq1.true)
+pub returns-in-Reset : goal.returns-in-Reset
+returns-in-Reset c = told_as (is_reset c.args.r _ _ _ (numbered _ _ _ c.try_from.ensures c.in-Reset.ensures)) c.drop_each.ensures
 
-pub returns-then-c-eq1 : goal.returns-then-c-eq1
-returns-then-c-eq1 c = told_as (drops_listless c.args.r _ _ _ (inl c.if-c-eq1.true)) c.dropping.ensures
+pub returns-in-Read : goal.returns-in-Read
+returns-in-Read c = told_as (is_read c.args.r _ _ _ (numbered _ _ _ c.try_from.ensures c.in-Read.ensures)) c.read.ensures
 
-pub single-requires-then-c-eq2 : goal.single-requires-then-c-eq2
-single-requires-then-c-eq2 c = (on_map c.requires c.if-c-eq32.false, inl c.if-c-eq2.true)
+pub returns-in-Write : goal.returns-in-Write
+returns-in-Write c = told_as (is_write c.args.r _ _ _ (numbered _ _ _ c.try_from.ensures c.in-Write.ensures)) c.write.ensures
 
-pub returns-then-c-eq2 : goal.returns-then-c-eq2
-returns-then-c-eq2 c = told_as (singles_listless c.args.r _ _ _ (inl c.if-c-eq2.true)) c.single-then-c-eq2.ensures
+pub returns-in-Update : goal.returns-in-Update
+returns-in-Update c = told_as (is_update c.args.r _ _ _ (numbered _ _ _ c.try_from.ensures c.in-Update.ensures)) c.mark_each.ensures
 
-pub sounding-requires : goal.sounding-requires
-sounding-requires c =
-    let n = c.if-c-eq32.false in
-    let few : c.args.r.command ≤ 12 = c.if-c-gt12.false in
-    (on_map c.requires n, ⊎_elim inl (λ w. low_sounding _ c.requires.known n few w.1) c.then-c-eq3.either, c.requires.carries)
+pub returns-in-Clear : goal.returns-in-Clear
+returns-in-Clear c = told_as (is_clear c.args.r _ _ _ (numbered _ _ _ c.try_from.ensures c.in-Clear.ensures)) c.mark_each-in-Clear.ensures
 
-pub returns-then-c-eq3 : goal.returns-then-c-eq3
-returns-then-c-eq3 c = c.sounding.ensures
+pub returns-in-Stop : goal.returns-in-Stop
+returns-in-Stop c = told_as (is_stop c.args.r _ _ _ (numbered _ _ _ c.try_from.ensures c.in-Stop.ensures)) c.mark_each-in-Stop.ensures
 
-pub dropping-requires-then-c-eq8 : goal.dropping-requires-then-c-eq8
-dropping-requires-then-c-eq8 c = (on_map c.requires c.if-c-eq32.false, inr (inl c.if-c-eq8.true))
+pub returns-in-Start : goal.returns-in-Start
+returns-in-Start c = told_as (is_start c.args.r _ _ _ (numbered _ _ _ c.try_from.ensures c.in-Start.ensures)) c.mark_each-in-Start.ensures
 
-pub returns-then-c-eq8 : goal.returns-then-c-eq8
-returns-then-c-eq8 c = told_as (drops_listless c.args.r _ _ _ (inr (inl c.if-c-eq8.true))) c.dropping-then-c-eq8.ensures
+pub returns-in-Flush : goal.returns-in-Flush
+returns-in-Flush c = told_as (is_flush c.args.r _ _ _ (numbered _ _ _ c.try_from.ensures c.in-Flush.ensures)) c.drop_each-in-Flush.ensures
 
-pub dropping-requires-then-c-eq9 : goal.dropping-requires-then-c-eq9
-dropping-requires-then-c-eq9 c = (on_map c.requires c.if-c-eq32.false, inr (inr (inl c.if-c-eq9.true)))
+pub returns-in-Free : goal.returns-in-Free
+returns-in-Free c = told_as (is_free c.args.r _ _ _ (numbered _ _ _ c.try_from.ensures c.in-Free.ensures)) c.free.ensures
 
-pub returns-then-c-eq9 : goal.returns-then-c-eq9
-returns-then-c-eq9 c = told_as (drops_listless c.args.r _ _ _ (inr (inr (inl c.if-c-eq9.true)))) c.dropping-then-c-eq9.ensures
+pub returns-in-SetPrec : goal.returns-in-SetPrec
+returns-in-SetPrec c = told_as (is_setprec c.args.r _ _ _ (numbered _ _ _ c.try_from.ensures c.in-SetPrec.ensures)) c.mark_each-in-SetPrec.ensures
 
-pub marking-requires : goal.marking-requires
-marking-requires c =
-    let n = c.if-c-eq32.false in
-    let few : c.args.r.command ≤ 12 = c.if-c-gt12.false in
-    let low = c.if-c-gt10.false in
-    (on_map c.requires n, left_marks _ c.requires.known n few c.if-c-eq1.false c.if-c-eq2.false c.if-c-eq3.false low c.if-c-eq8.false c.if-c-eq9.false)
+pub returns-in-Finish : goal.returns-in-Finish
+returns-in-Finish c = told_as (finish_listless c.args.r _ _ _ (numbered _ _ _ c.try_from.ensures c.in-Finish.ensures)) c.finish.ensures
 
-pub returns : goal.returns
-returns c =
-    let few : c.args.r.command ≤ 12 = c.if-c-gt12.false in
-    let low = c.if-c-gt10.false in
-    let family = left_marks _ c.requires.known c.if-c-eq32.false few c.if-c-eq1.false c.if-c-eq2.false c.if-c-eq3.false low c.if-c-eq8.false c.if-c-eq9.false in
-    told_as (marks_listless c.args.r _ _ _ family) c.marking.ensures
+pub returns-in-Lock : goal.returns-in-Lock
+returns-in-Lock c = told_as (is_lock c.args.r _ _ _ (numbered _ _ _ c.try_from.ensures c.in-Lock.ensures)) c.lock.ensures
+
+pub returns-in-WaitCycle : goal.returns-in-WaitCycle
+returns-in-WaitCycle c = told_as (is_wait c.args.r _ _ _ (numbered _ _ _ c.try_from.ensures c.in-WaitCycle.ensures)) c.wait_cycle.ensures
+
+pub returns-in-Allocate : goal.returns-in-Allocate
+returns-in-Allocate c = told_as (is_allocate c.args.r _ _ _ (numbered _ _ _ c.try_from.ensures c.in-Allocate.ensures)) c.allocate.ensures
