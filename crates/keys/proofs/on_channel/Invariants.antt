@@ -5,4 +5,4 @@ use Rattle.keys.specs.Keys.{on_channel}
 use Rattle.keys.proofs.on_channel.Given as goal
 
 abbrev pub invariant-loop-c : goal.invariant-loop-c
-invariant-loop-c l = on_channel l.k (drop l.c-index l.c-items) ≡ on_channel l.k l.c-items
+invariant-loop-c l = on_channel l.k (drop l.c-index l.c-items) ≡ on_channel l.k l.fn.cs
