@@ -37,28 +37,12 @@ use Rattle.shifting.specs.Shifting.{shifted}
 
 -- ---- the lengths of the queues
 
-module _ (l : List ℕ) (cs : List Channel) (i : ℕ) (h : i < length cs) where
-  pub lengths_turn : i < length l → (d : Channel) → set (splice l 0 (map (λ x. x.writes.n) (take i cs))) i (get_or cs i d).writes.n ≡ splice l 0 (map (λ x. x.writes.n) (take (i + 1) cs))
-  lengths_turn g d =
-      let vs = map (λ (x : Channel). x.writes.n) (take i cs) in
-      let a : length vs ≡ i = length-map (take i cs) (λ (x : Channel). x.writes.n) ∙ length-take-le i cs (omega arith) in
-      let k : i + 1 ≡ suc i = omega arith in
-      let w : map (λ (x : Channel). x.writes.n) (take (i + 1) cs) ≡ vs ++ (get_or cs i d).writes.n ∷ [] =
-      ap (λ (n : ℕ). map (λ (x : Channel). x.writes.n) (take n cs)) k ∙ (ap (map (λ (x : Channel). x.writes.n)) (take-suc cs i d h) ∙ map_snoc (take i cs)) in
-      ap (λ (n : ℕ). set (splice l 0 vs) n (get_or cs i d).writes.n) (sym (zero-add (length vs) ∙ a)) ∙ (splice_snoc l 0 vs (get_or cs i d).writes.n (omega (arith, a, g)) ∙ ap (splice l 0) (sym w))
-    where
-      map_snoc : (xs : List Channel) → map (λ (x : Channel). x.writes.n) (xs ++ get_or cs i d ∷ []) ≡ map (λ (x : Channel). x.writes.n) xs ++ (get_or cs i d).writes.n ∷ []
-      map_snoc [] = refl
-      map_snoc (x ∷ xs) = ap (λ (y : List ℕ). x.writes.n ∷ y) (map_snoc xs)
-
-pub lengths_end : (l : List ℕ) (cs : List Channel) → length l ≡ 8 → length cs ≡ 8 → splice l 0 (map (λ x. x.writes.n) (take 8 cs)) ≡ map (λ x. x.writes.n) cs
-unfolding splice
-lengths_end l cs a b =
-    let vs = map (λ (x : Channel). x.writes.n) cs in
-    let e : take 8 cs ≡ cs = take_all 8 cs (omega (arith, b)) in
-    let n : length vs ≡ 8 = length-map cs (λ (x : Channel). x.writes.n) ∙ b in
-    ap (λ (x : List Channel). splice l 0 (map (λ y. y.writes.n) x)) e
-    ∙ (ap (λ (x : List ℕ). vs ++ x) (let g : length l ≤ 0 + length vs = omega (arith, a, n) in lib.ListN.drop_of_length-le l g) ∙ append-nil vs)
+pub lengths_each : (cs : List Channel) (ns : List ℕ) → length ns ≡ length cs
+    → ((i : ℕ) → i < length cs → get_or ns i 0 ≡ (get_or cs i (channel_of free)).writes.n) → ns ≡ map (λ x. x.writes.n) cs
+lengths_each [] [] e f = refl
+lengths_each [] (n ∷ ns) e f = absurd (omega arith)
+lengths_each (c ∷ cs) [] e f = absurd (omega arith)
+lengths_each (c ∷ cs) (n ∷ ns) e f = ap₂ ◌∷◌ (f 0 (omega arith)) (lengths_each cs ns (omega arith) (λ i h. f (suc i) (omega arith)))
 
 -- ---- a byte of the display
 

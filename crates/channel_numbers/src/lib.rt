@@ -16,15 +16,7 @@ use store::State;
 fn lengths(cs: [Channel; 8]) -> [u8; 8]
     ensures { result ≡ map (λ c. c.writes.n) cs }
 {
-    let mut ns = [0u8; 8];
-    let mut i: usize = 0;
-    while i < 8 {
-        let c = cs[i];
-        let w = c.writes;
-        ns[i] = w.n;
-        i += 1;
-    }
-    ns
+    cs.map(|c| c.writes.n)
 }
 
 // The numbers of all eight channels: `before` and `after` are the state before the call and after it; `left` and `joined` have in lane c
@@ -35,20 +27,16 @@ pub fn correct(display: &mut [u8], before: State, after: State, left: u64, joine
         (moved (count_at (map (λ c. c.writes.n) after.channels) joined) (count_at (map (λ c. c.writes.n) before.channels) left) 0
         (take 16 display.old)) }
 {
-    let had = before.channels;
-    let have = after.channels;
-    let old = lengths(had);
-    let new = lengths(have);
+    let old = lengths(before.channels);
+    let new = lengths(after.channels);
     let mut less = left;
     let mut more = joined;
-    let mut c: usize = 0;
-    while c < 8 {
+    for c in 0..8 {
         shifting::put(display, 2 * c, new[c], old[c]);
         let came = (more % 256) as u8;
         let went = (less % 256) as u8;
         shifting::put(display, 2 * c + 1, came, went);
         more = more / 256;
         less = less / 256;
-        c += 1;
     }
 }

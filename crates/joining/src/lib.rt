@@ -21,17 +21,13 @@ fn place(q: Queue, table: &[u8], prec: u8) -> usize
     requires { (q.n ≤ 64) × Small (list_of q) × (length table.now ≡ 1472) }
     ensures { result ≡ place_in prec table.now (list_of q) }
 {
-    let ids = q.ids;
     let n = q.n as usize;
-    let mut i: usize = 0;
-    while i < n {
-        let id = ids[i];
-        if table::prec(table, id) < prec {
+    for (i, id) in q.ids[..n].iter().enumerate() {
+        if table::prec(table, *id) < prec {
             return i;
         }
-        i += 1;
     }
-    i
+    n
 }
 
 // The request joins the waiting ones and is outstanding. No reply is due, so whatever list there is stays as it is.

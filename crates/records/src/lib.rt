@@ -54,15 +54,12 @@ fn put_all(t: Standing, q: Queue, table: &[u8], out: &mut [u8])
     requires { Readable q table.now × (256 ≤ length out.old) }
     ensures { (cs : List ChannelM) → Stood cs t → out.new ≡ splice out.old 0 (first_records cs q table.now q.n) }
 {
-    let ids = q.ids;
     let n = q.n as usize;
-    let mut i: usize = 0;
-    while i < n {
-        let id = ids[i];
+    for i in 0..n {
+        let id = q.ids[i];
         let prec = table::prec(table, id);
         let l = choosing::look_by(t, prec, table::combos(table, id));
         put(out, i, id, prec, mark(l));
-        i += 1;
     }
 }
 
@@ -71,10 +68,8 @@ pub fn fill_front(b: Board, table: &[u8], out: &mut [u8]) -> usize
     requires { Held b table.now × (256 ≤ length out.old) }
     ensures { Lists b table.now out.old result out.new }
 {
-    let s = b.state;
-    let q = s.waiting;
-    let cs = s.channels;
-    let t = standing::of(cs);
+    let q = b.state.waiting;
+    let t = standing::of(b.state.channels);
     put_all(t, q, table, out);
     q.n as usize
 }

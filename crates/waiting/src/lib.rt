@@ -12,6 +12,7 @@ use choosing::standing::Standing;
 use queue::Queue;
 
 // Where a walk stops: a place, and what the request there comes to.
+// No Option: who asks counts the requests passed, so that the end has its place too.
 #[derive(Clone, Copy)]
 pub struct Found {
     pub at: usize,
@@ -35,20 +36,17 @@ pub fn next(t: Standing, q: Queue, table: &[u8], from: usize) -> Found
     requires { Readable q table.now }
     ensures { (cs : List ChannelM) → Stood cs t → Finds cs q table.now from result }
 {
-    let ids = q.ids;
     let n = q.n as usize;
-    let mut i = from;
-    while i < n {
-        let id = ids[i];
+    for at in from..n {
+        let id = q.ids[at];
         let prec = table::prec(table, id);
         let l = choosing::look_by(t, prec, table::combos(table, id));
         if stops(l, table::impatient(table, id)) {
-            return Found { at: i, look: l };
+            return Found { at, look: l };
         }
-        i += 1;
     }
     Found {
-        at: i,
+        at: from.max(n),
         look: Look::Fails,
     }
 }

@@ -10,8 +10,8 @@ use Rattle.store.proofs.Store.{held_length, waiting-small, waiting-count, opens-
 use Rattle.keys.proofs.Turns.{used_keys, used_is, new_key_is, first_found, first_turn}
 use Rattle.keys.proofs.new_key.Goals as goal
 
-pub loop-i-init : goal.loop-i-init
-loop-i-init c = (omega arith, rw sub-zero refl)
+pub loop-init : goal.loop-init
+loop-init c = rw sub-zero refl
 
 pub in_use-requires : goal.in_use-requires
 in_use-requires c =
@@ -20,24 +20,24 @@ in_use-requires c =
 
 pub returns-then-not-in_use : goal.returns-then-not-in_use
 returns-then-not-in_use c =
-    let l = c.loop-i in
+    let l = c.loop in
     let a = c.args in
     let u = used_is l.k a.s.channels a.table.now (list_of a.s.waiting) (keys_in a.s.opens) ∙ (sym c.in_use.ensures ∙ c.if-not-in_use.true) in
-    let f = first_found (8 + a.s.waiting.n + a.s.opens.n - l.i) l.k (used_keys a.s.channels a.table.now (list_of a.s.waiting) (keys_in a.s.opens)) u in
-    sym f ∙ (l.invariant.1 ∙ new_key_is _ c.requires c.after-k.ensures)
+    let f = first_found (8 + a.s.waiting.n + a.s.opens.n - l.counter) l.k (used_keys a.s.channels a.table.now (list_of a.s.waiting) (keys_in a.s.opens)) u in
+    sym f ∙ (l.invariant ∙ new_key_is _ c.requires c.after-k.ensures)
 
-pub loop-i-preserved : goal.loop-i-preserved
-loop-i-preserved c =
-    let l = c.loop-i in
+pub loop-preserved : goal.loop-preserved
+loop-preserved c =
+    let l = c.loop in
     let a = c.args in
     let u = used_is l.k a.s.channels a.table.now (list_of a.s.waiting) (keys_in a.s.opens) ∙ (sym c.in_use.ensures ∙ c.if-not-in_use.false) in
-    let f = first_turn (8 + a.s.waiting.n + a.s.opens.n) l.k l.i (used_keys a.s.channels a.table.now (list_of a.s.waiting) (keys_in a.s.opens)) (omega arith) u in
-    (omega arith, rw c.after-k-in-loop-i.ensures (sym f ∙ l.invariant.1))
+    let f = first_turn (8 + a.s.waiting.n + a.s.opens.n) l.k l.counter (used_keys a.s.channels a.table.now (list_of a.s.waiting) (keys_in a.s.opens)) (omega arith) u in
+    rw c.after-k-in-loop.ensures (sym f ∙ l.invariant)
 
 pub returns : goal.returns
 unfolding first_unused
 returns c =
-    let l = c.loop-i in
+    let l = c.loop in
     let a = c.args in
-    let e : 8 + a.s.waiting.n + a.s.opens.n - l.i ≡ 0 = omega arith in
-    (rw (e, first_unused) at l.invariant.1) ∙ new_key_is _ c.requires c.after-k.ensures
+    let e : 8 + a.s.waiting.n + a.s.opens.n - l.counter ≡ 0 = omega arith in
+    (rw (e, first_unused) at l.invariant) ∙ new_key_is _ c.requires c.after-k.ensures

@@ -11,8 +11,8 @@ use Rattle.records.proofs.put_all.Goals as goal
 pub loop-i-init : goal.loop-i-init
 loop-i-init c = filling_start _ _ _ _ (search rules)
 
-pub bounds-ids-i : goal.bounds-ids-i
-bounds-ids-i c = let p = c.requires.0 in omega (arith, p.few)
+pub bounds-q-i : goal.bounds-q-i
+bounds-q-i c = let p = c.requires.0 in omega (arith, p.few)
 
 pub prec-prec-requires : goal.prec-prec-requires
 prec-prec-requires c = let p = c.requires.0 in (p.small _ (search rules), p.long)

@@ -1,5 +1,6 @@
 -- `next` meets its contract: nothing comes of the requests passed, and each is read from its entry. Assumes nothing.
-use mathlib.Core.Path.{ap₂, ◌∙◌}
+use Prim.Native.Nat.{max}
+use mathlib.Core.Path.{◌≡◌, ap₂, ◌∙◌}
 use native.Mathlib.Omega.{arith}
 use Rattle.store.specs.machine.Choosing.{look}
 use Rattle.choosing.specs.Choosing.{look_of}
@@ -7,11 +8,11 @@ use Rattle.waiting.proofs.Finding.{passing_start, passing_more, finds_here, find
 use borrow.Author.Rules.{rules}
 use Rattle.waiting.proofs.next.Goals as goal
 
-pub loop-i-init : goal.loop-i-init
-loop-i-init c = passing_start _ _ _ _
+pub loop-at-init : goal.loop-at-init
+loop-at-init c = passing_start _ _ _ _
 
-pub bounds-ids-i : goal.bounds-ids-i
-bounds-ids-i c = let p = c.requires in omega (arith, p.few)
+pub bounds-q-at : goal.bounds-q-at
+bounds-q-at c = let p = c.requires in omega (arith, p.few)
 
 pub prec-prec-requires : goal.prec-prec-requires
 prec-prec-requires c = let p = c.requires in (p.small _ (search rules), p.long)
@@ -25,12 +26,15 @@ impatient-requires c = let p = c.requires in (p.small _ (search rules), p.long)
 pub returns-then-stops : goal.returns-then-stops
 returns-then-stops c cs s =
     let e = c.look_by-l.ensures cs s ∙ ap₂ (λ p ms. look_of (look p ms cs)) c.prec-prec.ensures c.combos.ensures in
-    finds_here c.loop-i.invariant cs s (search rules) e (comes_is _ _ e c.impatient.ensures c.stops.ensures c.if-stops.true)
+    finds_here c.loop-at.invariant cs s (search rules) e (comes_is _ _ e c.impatient.ensures c.stops.ensures c.if-stops.true)
 
-pub loop-i-preserved : goal.loop-i-preserved
-loop-i-preserved c =
-    passing_more c.loop-i.invariant (search rules)
+pub loop-at-preserved : goal.loop-at-preserved
+loop-at-preserved c =
+    passing_more c.loop-at.invariant (search rules)
     (λ cs s. comes_is _ _ (c.look_by-l.ensures cs s ∙ ap₂ (λ p ms. look_of (look p ms cs)) c.prec-prec.ensures c.combos.ensures) c.impatient.ensures c.stops.ensures c.if-stops.false)
 
 pub returns : goal.returns
-returns c cs s = finds_end c.loop-i.invariant cs s (search rules)
+returns c cs s =
+    let l = c.loop-at in
+    let e : l.at ≡ max c.args.from c.args.q.n = let p = l.invariant in omega (arith, p.after, p.within) in
+    rw (c.max.ensures, ← e) (finds_end l.invariant cs s (search rules))
