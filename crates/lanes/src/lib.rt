@@ -13,10 +13,8 @@ fn named_by(combos: &[u8]) -> u8
     ensures { (c : ℕ) → odd (result / 2 ^ c) ≡ any (λ m. odd (m / 2 ^ c)) combos.now }
 {
     let mut all: u8 = 0;
-    let mut i: usize = 0;
-    while i < combos.len() {
-        all = all | combos[i];
-        i += 1;
+    for m in combos {
+        all = all | *m;
     }
     all
 }

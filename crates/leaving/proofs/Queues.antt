@@ -66,7 +66,7 @@ not_found i (x ∷ l) h = go (eqb x i) (eqb_sym i x) h (not_found i l)
     go false e k ih = rw e (ih (omega arith))
 
 module _ {q : Queue} (t : Tidy q) (i : ℕ) where
-  same_count : q.n ≡ length (list_of q)
+  pub same_count : q.n ≡ length (list_of q)
   same_count = ap (λ (x : Queue). x.n) t.lies
 
   pub strike_found : {k : ℕ} → k ≡ index_of i (list_of q) → k < q.n → removed q k ≡ struck i q

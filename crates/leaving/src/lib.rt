@@ -15,12 +15,10 @@ fn strike(q: Queue, id: u8) -> Queue
     requires { Tidy q }
     ensures { result ≡ struck id q }
 {
-    let k = q.find(id);
-    let n = q.n as usize;
-    if k < n {
-        return q.remove(k);
+    match q.find(id) {
+        Some(k) => q.remove(k),
+        None => q,
     }
-    q
 }
 
 fn clean(c: Channel, id: u8) -> Channel
@@ -37,12 +35,10 @@ fn clean_all(cs: [Channel; 8], id: u8) -> [Channel; 8]
     ensures { result ≡ each (cleaned id) cs }
 {
     let mut ds = cs;
-    let mut i: usize = 0;
-    while i < 8 {
+    for i in 0..8 {
         let c = ds[i];
         let d = clean(c, id);
         ds[i] = d;
-        i += 1;
     }
     ds
 }

@@ -93,7 +93,7 @@ impl Channel {
 fn mark(on: bool) -> u8
     ensures { result ≡ mark_of on }
 {
-    if on { 1 } else { 0 }
+    u8::from(on)
 }
 
 pub fn key(state: &[u8], i: usize) -> u16

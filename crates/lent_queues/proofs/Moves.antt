@@ -5,10 +5,12 @@ use mathlib.Core.Bool.{Bool, cond}
 use mathlib.Core.List.{List, [], ◌∷◌, ◌++◌, append_assoc}
 use native.Mathlib.Omega.{arith}
 use native.Mathlib.Numerals.{add-one}
-use lib.ListN.{length, get_or, take, drop, set, replicate, length-append, length-take, length-drop, length-set, take-append-drop, replicate-append-replicate}
-use lib.Seq.{take-set-lt, drop-set-lt, get_or-take, take-append-add, drop-append-add, take-append-le, drop-append-le, take-append_seam, drop-append_seam, take_at, set_at, drop-drop, drop-cons, length-take-le, set_split, set-append_left, take-set-le, drop-set-add}
+use lib.ListN.{drop_of_length-le, length, get_or, take, drop, set, replicate, length-append, length-take, length-drop, length-set, take-append-drop, replicate-append-replicate}
+use lib.Seq.{take-take, get_or-set_same, set-append_seam, take-set-lt, drop-set-lt, get_or-take, take-append-add, drop-append-add, take-append-le, drop-append-le, take-append_seam, drop-append_seam, take_at, set_at, drop-drop, drop-cons, length-take-le, set_split, set-append_left, take-set-le, drop-set-add}
 use borrow.Author.Tests.{lt-ltb, le-ltb}
+use borrow.Rule.Slice.PartMut.{put_mid}
 use Rattle.memory.specs.Splice.{splice}
+use Rattle.memory.proofs.Splice.{drop-take}
 use Rattle.queue.specs.declared.Queue.{Queue}
 use Rattle.queue.specs.Queue.{pad, queue_of, list_of, insert_at, remove_at, pushed, inserted, removed, index_of}
 use Rattle.queue.proofs.Laws.{shift_turn, shift_end, opened, open_turn, open_end, removed_of, inserted_of}
@@ -48,6 +50,54 @@ spread_turn l lo id i j e h g = spread-opened (set l i (get_or l j 0)) lo id j �
 
 pub spread_end : (l : List ℕ) (lo id : ℕ) → lo < length l → set l lo id ≡ spread l lo id lo
 spread_end l lo id h = open_end l lo id h ∙ sym (spread-opened l lo id lo)
+
+-- ---- by a turn of the bytes between two places
+
+pub spread-turned : (l : List ℕ) (lo id hi : ℕ) (ys : List ℕ) → lo ≤ hi → hi < length l
+    → ys ≡ drop (length (take (hi + 1 - lo) (drop lo l)) - 1) (take (hi + 1 - lo) (drop lo l)) ++ take (length (take (hi + 1 - lo) (drop lo l)) - 1) (take (hi + 1 - lo) (drop lo l))
+    → set (put_mid lo (hi + 1 - lo) l ys) lo id ≡ spread l lo id hi
+unfolding spread
+spread-turned l lo id hi ys h g e =
+    let d = drop lo l in
+    let n = hi + 1 - lo in
+    let m = hi - lo in
+    let part = take n d in
+    let long : length d ≡ length l - lo = length-drop lo l in
+    let size : length part ≡ n = length-take-le n d (omega (arith, long)) in
+    let less : length part - 1 ≡ m = omega (arith, size) in
+    let x = get_or part m 0 in
+    let last : drop m part ≡ x ∷ [] = drop-cons part m 0 (omega (arith, size)) ∙ ap (λ (z : List ℕ). x ∷ z) (drop_of_length-le part {i = suc m} (omega (arith, size))) in
+    let front : take m part ≡ take m d = take-take m n d (omega arith) in
+    let turned : ys ≡ x ∷ take m d = e ∙ ap (λ (k : ℕ). drop k part ++ take k part) less ∙ ap₂ (λ (u v : List ℕ). u ++ v) last front in
+    let place : lo + n ≡ suc hi = omega arith in
+    let rest : drop n d ≡ drop (suc hi) l = drop-drop n lo l ∙ ap (λ (k : ℕ). drop k l) place in
+    let first : lo ≡ length (take lo l) = sym (length-take-le lo l (omega arith)) in
+    ap₂ (λ (u v : List ℕ). set (take lo l ++ (u ++ v)) lo id) turned rest
+    ∙ ap (λ (i : ℕ). set (take lo l ++ x ∷ (take m d ++ drop (suc hi) l)) i id) first
+    ∙ set-append_seam (take lo l) x (take m d ++ drop (suc hi) l) id
+
+pub shut-turned : (l : List ℕ) (lo hi : ℕ) (ys : List ℕ) → lo < hi → hi ≤ length l
+    → ys ≡ drop 1 (take (hi - lo) (drop lo (set l lo 0))) ++ take 1 (take (hi - lo) (drop lo (set l lo 0)))
+    → put_mid lo (hi - lo) (set l lo 0) ys ≡ shut l lo hi
+unfolding shut
+shut-turned l lo hi ys h g e =
+    let a = set l lo 0 in
+    let n = hi - lo in
+    let m = hi - suc lo in
+    let s = drop (suc lo) l in
+    let size : length a ≡ length l = length-set l lo 0 in
+    let d : drop lo a ≡ 0 ∷ s = drop-cons a lo 0 (omega (arith, size)) ∙ ap₂ ◌∷◌ (get_or-set_same l lo 0 0 (omega arith)) (drop-set-lt (suc lo) l lo 0 (omega arith)) in
+    let one : n ≡ suc m = omega arith in
+    let part : take n (drop lo a) ≡ 0 ∷ take m s = ap₂ (λ (k : ℕ) (z : List ℕ). take k z) one d in
+    let turned : ys ≡ take m s ++ 0 ∷ [] = e ∙ ap (λ (z : List ℕ). drop 1 z ++ take 1 z) part in
+    let place : lo + n ≡ hi = omega arith in
+    let rest : drop n (drop lo a) ≡ drop hi l = drop-drop n lo a ∙ ap (λ (k : ℕ). drop k a) place ∙ drop-set-lt hi l lo 0 h in
+    let before : take lo a ≡ take lo (take hi l) = take-set-le lo l lo 0 (omega arith) ∙ sym (take-take lo hi l (omega arith)) in
+    let sum : suc lo + m ≡ hi = omega arith in
+    let middle : take m s ≡ drop (suc lo) (take hi l) = sym (ap (λ (k : ℕ). drop (suc lo) (take k l)) (sym sum) ∙ drop-take l (suc lo) m (omega arith)) in
+    ap₂ (λ (u v : List ℕ). take lo a ++ (u ++ v)) turned rest
+    ∙ ap₂ (λ (u v : List ℕ). u ++ ((v ++ 0 ∷ []) ++ drop hi l)) before middle
+    ∙ sym (append_assoc (take lo (take hi l)) (drop (suc lo) (take hi l) ++ 0 ∷ []) (drop hi l))
 
 -- ---- in a part of a list
 

@@ -66,11 +66,7 @@ fn make_room(list: &mut [u8], lo: usize, hi: usize, id: u8)
     requires { (lo ≤ hi) × (hi < length list.old) }
     ensures { list.new ≡ spread list.old lo id hi }
 {
-    let mut i = hi;
-    while lo < i {
-        list[i] = list[i - 1];
-        i -= 1;
-    }
+    list[lo..hi + 1].rotate_right(1);
     list[lo] = id;
 }
 
@@ -79,13 +75,8 @@ pub fn close_up(list: &mut [u8], lo: usize, hi: usize)
     requires { (lo < hi) × (hi ≤ length list.old) }
     ensures { list.new ≡ shut list.old lo hi }
 {
-    let end = hi - 1;
-    let mut i = lo;
-    while i < end {
-        list[i] = list[i + 1];
-        i += 1;
-    }
-    list[end] = 0;
+    list[lo] = 0;
+    list[lo..hi].rotate_left(1);
 }
 
 // One more id, at place k; what stands there and behind it moves back.

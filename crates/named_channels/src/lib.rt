@@ -44,22 +44,17 @@ pub fn change_named(state: &mut [u8], map: u8, how: Change)
     requires { Whole state.old × TidyAll (state_of state.old) × T (by_head how) }
     ensures { Changed how map state.old state.new }
 {
-    let mut i: usize = 0;
-    while i < 8 {
+    for i in 0..8 {
         once(state, map, i, how);
-        i += 1;
     }
 }
 
+#[tactic(auto, unfolding(channel::specs::Channel::hits, channel::specs::Channel::has_key))]
 fn hit(state: &[u8], key: u16, map: u8, i: usize) -> bool
     requires { (length state.now ≡ 823) × (i < 8) }
     ensures { result ≡ hits key (map / 2 ^ i) (channel_on i (state_of state.now)) }
 {
-    if channel::names(map, i) {
-        key != 0 && lent_channels::key(state, i) == key
-    } else {
-        false
-    }
+    channel::names(map, i) && key != 0 && lent_channels::key(state, i) == key
 }
 
 // Of the channels that the map names, those whose key matches.
@@ -68,12 +63,10 @@ pub fn matching(state: &[u8], key: u16, map: u8) -> u8
     ensures { result ≡ matching_each key map (state_of state.now).state.channels }
 {
     let mut ok: u8 = 0;
-    let mut i: usize = 0;
-    while i < 8 {
+    for i in 0..8 {
         if hit(state, key, map, i) {
             ok = ok | 1 << i;
         }
-        i += 1;
     }
     ok
 }

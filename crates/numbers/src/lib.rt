@@ -9,31 +9,19 @@ ghost use Rattle.numbers.specs.Numbers.{carried, pervol_kept, sound_numbers};
 pub use table;
 use table::Head;
 
-// The cast stands by itself, so that a caller has no fact of its own to show for it.
-fn wide(x: u8) -> u32
-    ensures { (result ≡ x) × (result < 256) }
-{
-    x as u32
-}
-
 fn period(high: u8, middle: u8, low: u8) -> u32
     ensures { result ≡ 65536 * high + (256 * middle + low) }
 {
-    65536 * wide(high) + (256 * wide(middle) + wide(low))
+    u32::from_be_bytes([0, high, middle, low])
 }
 
 // Whether a period, by its three bytes, is one of 124 to 65,536, and a volume at most 64.
+#[tactic(auto, unfolding(machine::specs::Sound::sound_tone))]
 pub fn in_range(high: u8, middle: u8, low: u8, volume: u8) -> bool
     ensures { result ≡ sound_tone (65536 * high + (256 * middle + low)) volume }
 {
     let p = period(high, middle, low);
-    if p < 124 {
-        return false;
-    }
-    if p > 65536 {
-        return false;
-    }
-    volume <= 64
+    124 <= p && p <= 65536 && volume <= 64
 }
 
 // What its type says of a byte.
@@ -72,45 +60,24 @@ pub fn of(combos: &[u8]) -> [u8; Head::NUMBERS]
 }
 
 // PERVOL's numbers are remembered with a mark; without it they are 0.
+#[tactic(auto, unfolding(crate::specs::Numbers::pervol_kept))]
 fn pervol_kept(b: [u8; Head::NUMBERS]) -> bool
     ensures { result ≡ pervol_kept b }
 {
     if b[7] == 1 {
-        return in_range(b[8], b[9], b[10], b[11]);
+        in_range(b[8], b[9], b[10], b[11])
+    } else {
+        b[7] == 0 && b[8] == 0 && b[9] == 0 && b[10] == 0 && b[11] == 0
     }
-    if b[7] != 0 {
-        return false;
-    }
-    if b[8] != 0 {
-        return false;
-    }
-    if b[9] != 0 {
-        return false;
-    }
-    if b[10] != 0 {
-        return false;
-    }
-    b[11] == 0
 }
 
 // Whether they are the numbers of a sound write; only a front one remembers anything.
+#[tactic(auto, unfolding(crate::specs::Numbers::sound_numbers))]
 pub fn sound(b: [u8; Head::NUMBERS], front: bool) -> bool
     ensures { result ≡ sound_numbers front b }
 {
-    if !in_range(b[2], b[3], b[4], b[5]) {
-        return false;
-    }
-    if b[6] > 1 {
-        return false;
-    }
-    if !pervol_kept(b) {
-        return false;
-    }
-    if front {
-        return true;
-    }
-    if b[6] != 0 {
-        return false;
-    }
-    b[7] == 0
+    in_range(b[2], b[3], b[4], b[5])
+        && b[6] <= 1
+        && pervol_kept(b)
+        && (front || (b[6] == 0 && b[7] == 0))
 }

@@ -9,6 +9,9 @@ use lib.Dec.{eqb, ltb, ltb→lt, nltb→le}
 use lib.ListN.{length, take, drop, get_or, set, replicate, length-append, length-take, length-drop, length-replicate, length-set, replicate-append-replicate}
 use lib.Seq.{drop-cons, set-append_seam, take-append-le, drop-append-le, take-append_seam, length-take-le}
 use borrow.Author.Tests.{eq-eqb, ne_eqb}
+use Rattle.std.specs.declared.option.Option.{Option}
+use Rattle.std.specs.declared.option.Option.TheVariants.{Some, None}
+use Rattle.std.proofs.lemmas.List.Recursion.{is_position_or_len}
 use Rattle.machine.specs.Numbers.{ENTRIES}
 use Rattle.std.specs.Prelude.{if◌then◌else◌}
 use Rattle.machine.specs.Lists.{among, any}
@@ -16,7 +19,7 @@ use Rattle.machine.specs.Commands.{closed}
 use Rattle.queue.specs.Queue.{remove_at}
 use Rattle.machine.proofs.Tests.{by_test, test_true, test_false}
 use Rattle.open_keys.specs.declared.Keys.{Keys}
-use Rattle.open_keys.specs.OpenKeys.{pad, keys_of, keys_in, Tidy, index_of}
+use Rattle.open_keys.specs.OpenKeys.{pad, keys_of, keys_in, Tidy, index_of, place_of}
 
 -- ---- keys_of
 
@@ -108,6 +111,12 @@ index_here key l i h e = rw (drop-cons l i 0, eq-eqb _ _ (sym e))
 
 pub index_turn : (key : ℕ) (l : List ℕ) (i : ℕ) → i < length l → (get_or l i 0 ≡ key → ⊥) → index_of key (drop i l) ≡ suc (index_of key (drop (suc i) l))
 index_turn key l i h e = rw (drop-cons l i 0, ne_eqb _ _ (λ q. e (sym q)))
+
+pub place_is : (key : ℕ) (l : List ℕ) → place_of key l ≡ cond (ltb (index_of key l) (length l)) (Some (index_of key l)) None
+place_is key l =
+    let step : (x : ℕ) (xs : List ℕ) → index_of key (x ∷ xs) ≡ cond (eqb key x) 0 (1 + index_of key xs) =
+    λ x xs. let e : suc (index_of key xs) ≡ 1 + index_of key xs = omega arith in ap (λ (n : ℕ). cond (eqb key x) 0 n) e in
+    ap (λ (n : ℕ). cond (ltb n (length l)) (Some n) None) (sym (is_position_or_len (index_of key) (λ x. eqb key x) refl step l))
 
 -- ---- the methods, of a table that is tidy
 

@@ -5,7 +5,9 @@
 --   keys_in q           the keys of a table
 --   Tidy q             zeros stand behind the keys
 --   index_of key l      where a key first stands in a list; the length where it stands nowhere
-use Rattle.std.specs.Prelude.{ℕ, suc, ◌-◌, ◌≡◌, cond, List, [], ◌∷◌, ◌++◌, eqb, length, take, replicate}
+--   place_of key l      where a key first stands in a list, if it is in it
+use Rattle.std.specs.Prelude.{ℕ, suc, ◌-◌, ◌≡◌, cond, List, [], ◌∷◌, ◌++◌, eqb, position, length, take, replicate}
+use Rattle.std.specs.declared.option.Option.{Option}
 use Rattle.machine.specs.Numbers.{ENTRIES}
 use Rattle.open_keys.specs.declared.Keys.{Keys}
 
@@ -24,3 +26,6 @@ Tidy q = q ≡ keys_of (keys_in q)
 abbrev pub index_of : ℕ → List ℕ → ℕ
 index_of key [] = 0
 index_of key (x ∷ l) = cond (eqb key x) 0 (suc (index_of key l))
+
+abbrev pub place_of : ℕ → List ℕ → Option ℕ
+place_of key l = position (λ x. eqb key x) l

@@ -2,15 +2,15 @@
 // of keys has one table (specs/OpenKeys.antt). Assumes nothing.
 #![tactic(auto)]
 
-ghost use Rattle.std.specs.Prelude.{◌≡◌, [], ◌∷◌, ◌++◌, ◌≤◌, ◌<◌, take};
+ghost use Rattle.std.specs.Prelude.{◌≡◌, [], ◌∷◌, ◌++◌, ◌≤◌, ◌<◌};
 ghost use Rattle.machine.specs.Lists.{among};
 ghost use Rattle.machine.specs.Commands.{closed};
-ghost use Rattle.queue.specs.Queue.{remove_at};
-ghost use Rattle.open_keys.specs.OpenKeys.{keys_of, keys_in, Tidy, index_of};
+ghost use Rattle.open_keys.specs.OpenKeys.{keys_of, keys_in, Tidy, place_of};
 
 pub use machine;
 pub use queue;
 
+// The number stands beside the array: the state in C has this layout, in fixed memory.
 #[derive(Clone, Copy)]
 pub struct Keys {
     pub n: u8,
@@ -28,14 +28,22 @@ impl Keys {
         Keys { n: 0, keys }
     }
 
+    // Where the oldest entry of a key stands, if it has one.
+    fn find(self, key: u16) -> Option<usize>
+        requires { self.n ≤ 32 }
+        ensures { result ≡ place_of key (keys_in self) }
+    {
+        self.keys[..usize::from(self.n)]
+            .iter()
+            .position(|k| key == *k)
+    }
+
     // Whether the key has an entry.
     pub fn has(self, key: u16) -> bool
         requires { self.n ≤ 32 }
         ensures { result ≡ among key (keys_in self) }
     {
-        let keys = self.keys;
-        let n = self.n as usize;
-        index_of(keys, n, key) < n
+        self.find(key).is_some()
     }
 
     // One more entry, behind the others.
@@ -43,56 +51,25 @@ impl Keys {
         requires { Tidy self × (self.n < 32) }
         ensures { result ≡ keys_of (keys_in self ++ key ∷ []) }
     {
-        let at = self.n as usize;
-        self.keys[at] = key;
+        self.keys[usize::from(self.n)] = key;
         self.n = self.n + 1;
         self
     }
 
     // Without the oldest entry of the key; as it was where the key has none.
-    pub fn close(self, key: u16) -> Self
+    pub fn close(mut self, key: u16) -> Self
         requires { Tidy self × (self.n ≤ 32) }
         ensures { result ≡ keys_of (closed key (keys_in self)) }
     {
-        let keys = self.keys;
-        let n = self.n as usize;
-        let k = index_of(keys, n, key);
-        if k >= n {
-            return self;
-        }
-        let moved = shift_out(keys, k);
-        Keys {
-            n: self.n - 1,
-            keys: moved,
+        match self.find(key) {
+            Some(at) => {
+                queue::close_up(&mut self.keys, at, 0);
+                Keys {
+                    n: self.n - 1,
+                    ..self
+                }
+            }
+            None => self,
         }
     }
-}
-
-fn shift_out(keys: [u16; Keys::ROOM], k: usize) -> [u16; Keys::ROOM]
-    requires { k < 32 }
-    ensures { result ≡ remove_at keys k }
-{
-    let mut a = keys;
-    let mut i = k;
-    while i < 31 {
-        a[i] = a[i + 1];
-        i += 1;
-    }
-    a[31] = 0;
-    a
-}
-
-// Where a key first stands; n where it stands nowhere.
-fn index_of(keys: [u16; Keys::ROOM], n: usize, key: u16) -> usize
-    requires { n ≤ 32 }
-    ensures { result ≡ index_of key (take n keys) }
-{
-    let mut i = 0;
-    while i < n {
-        if keys[i] == key {
-            return i;
-        }
-        i += 1;
-    }
-    i
 }

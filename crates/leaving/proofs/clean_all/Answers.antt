@@ -11,22 +11,21 @@ use borrow.Author.Rules.{rules}
 use Rattle.leaving.proofs.clean_all.Goals as goal
 
 pub loop-i-init : goal.loop-i-init
-loop-i-init c = (omega arith, search rules, c.requires, refl)
+loop-i-init c = (search rules, c.requires, refl)
 
 pub clean-d-requires : goal.clean-d-requires
 clean-d-requires c =
     let l = c.loop-i in
-    each_at (λ (x : Channel). Tidy x.writes) l.ds l.i _ l.invariant.2 (omega arith)
+    each_at (λ (x : Channel). Tidy x.writes) l.ds l.i _ l.invariant.1 (omega arith)
 
 pub loop-i-preserved : goal.loop-i-preserved
 loop-i-preserved c =
     let l = c.loop-i in
     let h : l.i < length l.ds = omega arith in (
-      omega arith,
-      length-set l.ds _ _ ∙ l.invariant.1,
-      rw (add-one l.i) (each_more (λ (x : Channel). Tidy x.writes) l.ds l.i _ l.invariant.2),
-      rw (add-one l.i) (done_more _ l.ds l.i _ _ h c.clean-d.ensures ∙ l.invariant.3),
+      length-set l.ds _ _ ∙ l.invariant.0,
+      rw (add-one l.i) (each_more (λ (x : Channel). Tidy x.writes) l.ds l.i _ l.invariant.1),
+      rw (add-one l.i) (done_more _ l.ds l.i _ _ h c.clean-d.ensures ∙ l.invariant.2),
     )
 
 pub returns : goal.returns
-returns c = let l = c.loop-i in done_end _ l.ds l.i (omega arith) ∙ l.invariant.3
+returns c = let l = c.loop-i in done_end _ l.ds l.i (omega arith) ∙ l.invariant.2

@@ -1,5 +1,4 @@
 -- `clean_all` meets its contract: the channels done and the cleaning of the rest make the cleaning of all. Assumes nothing.
-use Prim.Native.Nat.{◌≤◌, ◌-◌}
 use mathlib.Core.Path.{◌≡◌}
 use mathlib.Core.List.{map}
 use lib.ListN.{length, drop}
@@ -10,7 +9,4 @@ use Rattle.leaving.proofs.Queues.{done_to}
 use Rattle.leaving.proofs.clean_all.Given as goal
 
 abbrev pub invariant-loop-i : goal.invariant-loop-i
-invariant-loop-i l = (l.i ≤ 8) × (length l.ds ≡ 8) × Each (λ (c : Channel). Tidy c.writes) (drop l.i l.ds) × (done_to (cleaned l.id) l.i l.ds ≡ map (cleaned l.id) l.initial.ds)
-
-abbrev pub decreases-loop-i : goal.decreases-loop-i
-decreases-loop-i l = 8 - l.i
+invariant-loop-i l = (length l.ds ≡ 8) × Each (λ (c : Channel). Tidy c.writes) (drop l.i l.ds) × (done_to (cleaned l.id) l.i l.ds ≡ map (cleaned l.id) l.initial.ds)

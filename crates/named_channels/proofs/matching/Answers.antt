@@ -9,7 +9,7 @@ use Rattle.named_channels.proofs.matching.Goals.{else-hit, then-hit}
 use Rattle.named_channels.proofs.matching.Goals as goal
 
 pub loop-i-init : goal.loop-i-init
-loop-i-init c = (omega arith, matched_start _ _ _)
+loop-i-init c = matched_start _ _ _
 
 pub loop-i-preserved : goal.loop-i-preserved
 loop-i-preserved c =
@@ -17,12 +17,12 @@ loop-i-preserved c =
     let e = c.hit.ensures in
     let n = eight c.args.state.now in
     elim c.if-hit.branch [
-      | then-hit w ↦ rw w.ok-is (omega arith, matched_hit (channel_of free) l.invariant.1 (omega arith) (omega arith) (sym e ∙ w.if-hit.true))
-      | else-hit w ↦ rw w.ok-is (omega arith, matched_miss (channel_of free) l.invariant.1 (omega arith) (sym e ∙ w.if-hit.false))
+      | then-hit w ↦ rw w.ok-is (matched_hit (channel_of free) l.invariant (omega arith) (omega arith) (sym e ∙ w.if-hit.true))
+      | else-hit w ↦ rw w.ok-is (matched_miss (channel_of free) l.invariant (omega arith) (sym e ∙ w.if-hit.false))
     ]
 
 pub returns : goal.returns
 returns c =
     let l = c.loop-i in
     let n = eight c.args.state.now in
-    matched_end l.invariant.1 (omega arith)
+    matched_end l.invariant (omega arith)

@@ -4,4 +4,4 @@ use Rattle.open_keys.proofs.Laws.{add_tidy}
 use Rattle.open_keys.proofs.Keys.add.Goals as goal
 
 pub returns : goal.returns
-returns c = add_tidy _ (search rules) _ (search rules)
+returns c = rw c.from.ensures (add_tidy c.args.self (search rules) c.args.key (search rules))
