@@ -52,7 +52,7 @@ pub unknown_past : {b k : Bool} → b ≡ not k → not b ≡ false → k ≡ fa
 unknown_past {b} {k} e h = not-true k (sym e ∙ not-false b h)
 
 -- tests in front of others: one of them is met, or all are passed
-number-some : (e : Refusal) → number e ≡ 0 → ⊥
+pub number-some : (e : Refusal) → number e ≡ 0 → ⊥
 number-some NoRoom q = omega arith
 number-some BadId q = omega arith
 number-some OtherDesk q = omega arith
