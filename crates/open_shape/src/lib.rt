@@ -36,15 +36,7 @@ fn named(keys: [u16; Keys::ROOM], n: usize) -> bool
     requires { n ≤ 32 }
     ensures { result ≡ all is_key (take n keys) }
 {
-    let mut i: usize = 0;
-    while i < n {
-        let k = keys[i];
-        if !is_key(k) {
-            return false;
-        }
-        i += 1;
-    }
-    true
+    keys[..n].iter().all(|k| is_key(*k))
 }
 
 pub fn sound(q: Keys) -> bool

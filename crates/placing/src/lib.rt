@@ -14,13 +14,6 @@ use span_entries::store::State;
 pub use span_entries::{entries, shapes, store};
 pub use wait_entries::open_shape;
 
-// Whether a walk found all in order, and the ids seen so far: 1 at each.
-#[derive(Clone, Copy)]
-pub struct Marks {
-    pub ok: bool,
-    pub seen: [u8; Queue::ROOM],
-}
-
 // The place where an id is outstanding: among a channel's writes, with the channel's key and its front write, among the locks, among
 // the WAITCYCLEs, or waiting, on a board with that highest map.
 #[derive(Clone, Copy)]
@@ -52,8 +45,14 @@ fn fits(cs: [Channel; 8], table: &[u8], kind: Kind, mark: u8, id: u8) -> bool
     mark == 0 && kept(cs, table, id, kind)
 }
 
-// The ids of a queue, each with its entry.
-fn place(cs: [Channel; 8], table: &[u8], kind: Kind, seen: [u8; Queue::ROOM], q: Queue) -> Marks
+// The ids of a queue, each with its entry: the marks of those seen so far, 1 at each, or none where an id is not in order.
+fn place(
+    cs: [Channel; 8],
+    table: &[u8],
+    kind: Kind,
+    seen: [u8; Queue::ROOM],
+    q: Queue,
+) -> Option<[u8; Queue::ROOM]>
     requires { (q.n ≤ 64) × (length table.now ≡ 1472) }
     ensures { result ≡ placed (kind_test kind cs table.now) seen (list_of q) }
 {
@@ -64,30 +63,21 @@ fn place(cs: [Channel; 8], table: &[u8], kind: Kind, seen: [u8; Queue::ROOM], q:
     while k < n {
         let id = ids[k];
         if id >= State::REQUESTS {
-            return Marks {
-                ok: false,
-                seen: marks,
-            };
+            return None;
         }
         let at = id as usize;
         let mark = marks[at];
         if !fits(cs, table, kind, mark, id) {
-            return Marks {
-                ok: false,
-                seen: marks,
-            };
+            return None;
         }
         marks[at] = 1;
         k += 1;
     }
-    Marks {
-        ok: true,
-        seen: marks,
-    }
+    Some(marks)
 }
 
 // The writes of every channel. Where there are none, nothing is copied for a walk.
-fn place_writes(cs: [Channel; 8], table: &[u8]) -> Marks
+fn place_writes(cs: [Channel; 8], table: &[u8]) -> Option<[u8; Queue::ROOM]>
     requires { T (all goodM cs) × (length table.now ≡ 1472) }
     ensures { result ≡ placed_writes table.now (replicate 64 0) cs }
 {
@@ -97,43 +87,24 @@ fn place_writes(cs: [Channel; 8], table: &[u8]) -> Marks
         let c = cs[i];
         let q = c.writes;
         if q.n > 0 {
-            let m = place(cs, table, Kind::Write(c.key, q.at(0)), marks, q);
-            if !m.ok {
-                return m;
-            }
-            marks = m.seen;
+            marks = place(cs, table, Kind::Write(c.key, q.at(0)), marks, q)?;
         }
         i += 1;
     }
-    Marks {
-        ok: true,
-        seen: marks,
-    }
+    Some(marks)
 }
 
-// The ids of all places, one after another.
-pub fn place_all(s: State, table: &[u8], top: u8) -> Marks
+// The ids of all places, one after another: their marks, or none where an id is not in order.
+pub fn place_all(s: State, table: &[u8], top: u8) -> Option<[u8; Queue::ROOM]>
     requires { T (shaped_m s) × (length table.now ≡ 1472) }
     ensures { result ≡ placed_all (top + 1) s table.now }
 {
     let cs = s.channels;
-    let a = place_writes(cs, table);
-    if !a.ok {
-        return a;
-    }
-    let seen = a.seen;
+    let writes = place_writes(cs, table)?;
     let l = s.locks;
-    let b = place(cs, table, Kind::Lock, seen, l);
-    if !b.ok {
-        return b;
-    }
-    let marks = b.seen;
+    let locks = place(cs, table, Kind::Lock, writes, l)?;
     let v = s.waiters;
-    let d = place(cs, table, Kind::Cycle, marks, v);
-    if !d.ok {
-        return d;
-    }
-    let all = d.seen;
+    let cycles = place(cs, table, Kind::Cycle, locks, v)?;
     let w = s.waiting;
-    place(cs, table, Kind::Wait(top), all, w)
+    place(cs, table, Kind::Wait(top), cycles, w)
 }

@@ -2,14 +2,14 @@
 use Prim.Native.Nat.{ℕ, ◌+◌, ◌/◌, ◌^◌, ◌≤◌, ◌<◌}
 use mathlib.Core.Path.{◌≡◌, ap, sym, ◌∙◌}
 use mathlib.Core.Bool.{Bool, true, false, not, ◌&&◌}
-use mathlib.Core.List.{List, [], ◌∷◌, map}
+use mathlib.Core.List.{List, [], ◌∷◌, ◌++◌, map}
 use native.Mathlib.Omega.{arith}
 use borrow.Author.Tests.{eq-eqb, ne_eqb, ltb-false, lt-ltb, le-ltb}
 use lib.Dec.{T, eqb, ltb}
 use lib.ListN.{length}
 use Rattle.open_keys.specs.machine.Numbers.{NOROOM}
 use Rattle.std.specs.Prelude.{if◌then◌else◌}
-use Rattle.open_keys.specs.machine.Lists.{any, among}
+use Rattle.open_keys.specs.machine.Lists.{any, all, among}
 use Rattle.open_keys.specs.machine.State.{State as StateM, Call, Op as OpM, Event, OPEN, CLOSE, ABORT, EVENT, CYCLE_ENDED, GAVE_UP, COMMAND}
 use Rattle.open_keys.specs.machine.Desks.{desk_of, foreign}
 use Rattle.open_keys.specs.machine.Sound.{sound, sound_tone, ids}
@@ -25,7 +25,7 @@ use Rattle.refusals.specs.declared.Op.{Op}
 use Rattle.refusals.specs.declared.Op.TheVariants.{Open, Close, Abort, CycleEnded, GaveUp, Command}
 use Rattle.refusals.specs.Refusals.{op_in, asked_of, open_tests, close_tests, abort_tests, command_tests, Refuses}
 use Rattle.steps.specs.Steps.{number_of, high, used, wrong_numbers, event_tests}
-use Rattle.steps.proofs.Laws.{used-among}
+use Rattle.steps.proofs.Laws.{all_past, used-among}
 
 -- ---- the machine's tests of a sound state, on a board whose maps are those below a bound
 
@@ -90,6 +90,16 @@ own_desk e f = ap not (eq-eqb _ _ (sym e ∙ f))
 
 pub other_desk : {x y d : ℕ} → x ≡ y → (x ≡ d → ⊥) → not (eqb y d) ≡ true
 other_desk e n = ap not (ne_eqb _ _ (λ f. n (e ∙ f)))
+
+-- the first two tests of a command are those of an ABORT
+pub id_small : (id desk : ℕ) → 0 ≡ number_of (first (abort_tests id desk)) → id < 64
+unfolding first
+id_small id desk q = by_test (ltb 63 id) (λ t. absurd (let z : 0 ≡ 4 = rw (test_true (ltb 63 id) t) at q in omega arith)) (λ t. let g = ltb-false 63 id (test_false (ltb 63 id) t) in omega arith)
+
+pub own_id : (id desk : ℕ) (us : List (Bool × ℕ)) → 0 ≡ number_of (first (abort_tests id desk)) → {n : ℕ} → n ≡ number_of (first us)
+    → n ≡ number_of (first (abort_tests id desk ++ us))
+unfolding all
+own_id id desk us q e = all_past (abort_tests id desk) us tt q e
 
 -- ---- the promise
 

@@ -4,12 +4,10 @@ use Prim.Native.Nat.{ℕ, zero, suc, ◌+◌, ◌*◌, ◌≤◌, ◌<◌}
 use mathlib.Core.Path.{◌≡◌, refl, ap, sym, ◌∙◌}
 use mathlib.Core.Bool.{Bool, true, false, not, ◌&&◌, ◌||◌}
 use mathlib.Core.List.{List, [], ◌∷◌, ◌++◌, map}
-use native.Mathlib.Numerals.{add-one}
 use native.Mathlib.Omega.{arith}
 use borrow.Author.Tests.{eqb-true, eqb-false, lt-ltb, le-ltb, le-leb, lt-leb, eq-eqb, ne_eqb, not-true, not-false}
 use lib.Dec.{T, eqb, leb, ltb}
-use lib.ListN.{length, get_or, drop, drop_of_length-le}
-use lib.Seq.{drop-cons}
+use lib.ListN.{length, get_or}
 use Rattle.memory.specs.Splice.{block}
 use Rattle.numbers.specs.table.Entry.{write_entry, span_entry, wait_entry}
 use Rattle.std.specs.Prelude.{if◌then◌else◌}
@@ -18,12 +16,14 @@ use Rattle.store.specs.machine.State.{Channel as ChannelM, State as StateM}
 use Rattle.store.specs.machine.Commands.{period_in, volume_in}
 use Rattle.store.specs.machine.Sound.{sound_tone, ids}
 use Rattle.store.specs.machine.Kinds.{kind, unknown, allocates}
-use Rattle.store.specs.machine.Refusals.{first}
+use Rattle.store.specs.machine.Refusals.{first, refused}
 use Rattle.store.proofs.machine.Tests.{by_test, test_true, test_false, and_left, and_right}
 use Rattle.machine_laws.specs.Sound.{Parts}
 use Rattle.store.specs.Store.{Item, write_item, lock_item, waiter_item, wait_item, write_items, items, lookup, keys, Each, table_of}
 use Rattle.store.proofs.Store.{keys-items, parts_long, block_table_of}
-use Rattle.steps.specs.Steps.{number_of, high, used, wrong_numbers, number_tests}
+use Rattle.steps.specs.declared.Refusal.{Refusal}
+use Rattle.steps.specs.declared.Refusal.TheVariants.{NoRoom, BadId, OtherDesk, InUse, NotOpen, NoCmd, BadLength, BadAddress, OpenFail}
+use Rattle.steps.specs.Steps.{number_of, number, high, used, wrong_numbers, list_tests, number_tests}
 
 -- ---- a list of tests: its first is met, or is passed
 
@@ -45,32 +45,54 @@ high_true {b} {m} h = rw (le-ltb m b h)
 pub high_false : {b m : ℕ} → m < b → high b m ≡ false
 high_false {b} {m} h = rw (lt-ltb m b h)
 
-pub id_past : {i : ℕ} → i < 64 → ltb 63 i ≡ false
-id_past {i} h = le-ltb 63 i (omega arith)
-
 pub unknown-met : {b k : Bool} → b ≡ not k → not b ≡ true → k ≡ true
 unknown-met {b} {k} e h = not-false k (sym e ∙ not-true b h)
 
 pub unknown_past : {b k : Bool} → b ≡ not k → not b ≡ false → k ≡ false
 unknown_past {b} {k} e h = not-true k (sym e ∙ not-false b h)
 
--- the tests of a list of combinations, in front of others
-module _ (a b : Bool) (ts : List (Bool × ℕ)) where
-  pub two_stop : {n : ℕ} → n ≡ number_of (first ((a, 252) ∷ (b, 251) ∷ [])) → (n ≡ 0 → ⊥) → n ≡ number_of (first ((a, 252) ∷ (b, 251) ∷ ts))
-  two_stop {n} e h = go a b e
-    where
-      go : (x y : Bool) → n ≡ number_of (first ((x, 252) ∷ (y, 251) ∷ [])) → n ≡ number_of (first ((x, 252) ∷ (y, 251) ∷ ts))
-      go true y q = unfold first in q
-      go false true q = unfold first in q
-      go false false q = absurd (h (unfold first in q))
+-- tests in front of others: one of them is met, or all are passed
+pub number-some : (e : Refusal) → number e ≡ 0 → ⊥
+number-some NoRoom q = omega arith
+number-some BadId q = omega arith
+number-some OtherDesk q = omega arith
+number-some InUse q = omega arith
+number-some NotOpen q = omega arith
+number-some NoCmd q = omega arith
+number-some BadLength q = omega arith
+number-some BadAddress q = omega arith
+number-some OpenFail q = omega arith
 
-  pub two_past : {n m : ℕ} → n ≡ number_of (first ((a, 252) ∷ (b, 251) ∷ [])) → n ≡ 0 → m ≡ number_of (first ts) → m ≡ number_of (first ((a, 252) ∷ (b, 251) ∷ ts))
-  two_past {n} {m} e h k = go a b e
-    where
-      go : (x y : Bool) → n ≡ number_of (first ((x, 252) ∷ (y, 251) ∷ [])) → m ≡ number_of (first ((x, 252) ∷ (y, 251) ∷ ts))
-      go true y q = absurd (let z : n ≡ 252 = unfold first in q in omega arith)
-      go false true q = absurd (let z : n ≡ 251 = unfold first in q in omega arith)
-      go false false q = unfold first in k
+pub met_before : (e : Refusal) (ts us : List (Bool × ℕ)) → number e ≡ number_of (first ts) → number e ≡ number_of (first (ts ++ us))
+unfolding first
+met_before e [] us q = absurd (number-some e q)
+met_before e (t ∷ ts) us q = go t.0 q (met_before e ts us)
+  where
+    go : (b : Bool) → number e ≡ number_of (if b then refused t.1 else first ts) → (number e ≡ number_of (first ts) → number e ≡ number_of (first (ts ++ us)))
+        → number e ≡ number_of (if b then refused t.1 else first (ts ++ us))
+    go true z f = z
+    go false z f = f z
+
+-- no test has the number 0
+abbrev pub Numbered : List (Bool × ℕ) → Type 0
+Numbered ts = T (all (λ t. not (eqb t.1 0)) ts)
+
+pub all_past : (ts us : List (Bool × ℕ)) → Numbered ts → 0 ≡ number_of (first ts) → {n : ℕ} → n ≡ number_of (first us) → n ≡ number_of (first (ts ++ us))
+unfolding first all
+all_past [] us m q z = z
+all_past (t ∷ ts) us m q {n} z = go t.0 t.1 m q (λ k y. all_past ts us k y z)
+  where
+    go : (b : Bool) (e : ℕ) → T (not (eqb e 0) && all (λ t. not (eqb t.1 0)) ts) → 0 ≡ number_of (if b then refused e else first ts)
+        → (Numbered ts → 0 ≡ number_of (first ts) → n ≡ number_of (first (ts ++ us))) → n ≡ number_of (if b then refused e else first (ts ++ us))
+    go true zero k y f = absurd k
+    go true (suc e) k y f = absurd (omega arith)
+    go false zero k y f = absurd k
+    go false (suc e) k y f = f (and_right (not (eqb (suc e) 0)) (all (λ t. not (eqb t.1 0)) ts) k) y
+
+pub list_past : (bound : ℕ) (ms : List ℕ) (us : List (Bool × ℕ)) → 0 ≡ number_of (first (list_tests bound ms)) → {n : ℕ} → n ≡ number_of (first us)
+    → n ≡ number_of (first (list_tests bound ms ++ us))
+unfolding all
+list_past bound ms us q e = all_past (list_tests bound ms) us tt q e
 
 -- a command's last three tests: the combinations where it allocates, else the map, and then the numbers of one that carries them
 module _ (k a b d g : Bool) where
@@ -87,15 +109,15 @@ module _ (k a b d g : Bool) where
   reads-numbers e f = rw (e, f)
 
 -- the test of a map: it is met, or passed
-pub map-met : (d : Bool) {n : ℕ} → n ≡ number_of (first ((d, 251) ∷ [])) → (n ≡ 0 → ⊥) → (d ≡ true) × (n ≡ 251)
+pub map-met : (d : Bool) (e : Refusal) → number e ≡ number_of (first ((d, 251) ∷ [])) → (d ≡ true) × (number e ≡ 251)
 unfolding first
-map-met true e h = (refl, e)
-map-met false e h = absurd (h e)
+map-met true e q = (refl, q)
+map-met false e q = absurd (number-some e q)
 
-pub map_past : (d : Bool) {n : ℕ} → n ≡ number_of (first ((d, 251) ∷ [])) → n ≡ 0 → d ≡ false
+pub map_past : (d : Bool) → 0 ≡ number_of (first ((d, 251) ∷ [])) → d ≡ false
 unfolding first
-map_past true e h = absurd (let z : 251 ≡ 0 = sym e ∙ h in omega arith)
-map_past false e h = refl
+map_past true e = absurd (omega arith)
+map_past false e = refl
 
 -- ---- the numbers that WRITE and PERVOL carry
 
@@ -131,27 +153,23 @@ module _ (ms : List ℕ) (h : length ms ≡ 6) where
   unfolding first
   numbers_bad e = let n : length ms ≡ 0 → ⊥ = λ z. omega arith in rw (ne_eqb (length ms) 0 n, eq-eqb (length ms) 6 h, sym (six-tone ms h) ∙ e) refl
 
--- ---- combinations, one after another
+-- ---- combinations, found by their places
 
-pub record Low (b : ℕ) (ms : List ℕ) (i : ℕ) : Type 0 where
-  pub rest : any (high b) (drop i ms) ≡ any (high b) ms
+any_at : (p : ℕ → Bool) (ms : List ℕ) (i : ℕ) → i < length ms → p (get_or ms i 0) ≡ true → any p ms ≡ true
+unfolding any
+any_at p [] i h e = absurd (omega arith)
+any_at p (m ∷ ms) zero h e = rw e
+any_at p (m ∷ ms) (suc i) h e = by_test (p m) (λ t. rw (test_true (p m) t)) (λ t. rw (test_false (p m) t) (any_at p ms i (omega arith) e))
 
-pub low_start : (b : ℕ) (ms : List ℕ) → Low b ms 0
-low_start b ms = record { rest = refl }
+any_nowhere : (p : ℕ → Bool) (ms : List ℕ) → ((i : ℕ) → i < length ms → p (get_or ms i 0) ≡ false) → any p ms ≡ false
+unfolding any
+any_nowhere p [] h = refl
+any_nowhere p (m ∷ ms) h = rw (h 0 (omega arith)) (any_nowhere p ms (λ i l. h (suc i) (omega (arith, l))))
 
-module _ {b : ℕ} {ms : List ℕ} {i : ℕ} (t : Low b ms i) where
-  pub low_end : length ms ≤ i → false ≡ any (high b) ms
-  unfolding any
-  low_end h = rw (drop_of_length-le ms h) at t.rest
-
-  module _ (h : i < length ms) where
-    pub low_stop : b ≤ get_or ms i 0 → true ≡ any (high b) ms
-    unfolding any
-    low_stop e = rw (drop-cons ms i 0 h, le-ltb _ _ e) at t.rest
-
-    pub low_more : get_or ms i 0 < b → Low b ms (i + 1)
-    unfolding any
-    low_more e = record { rest = rw (add-one i) (rw (drop-cons ms i 0 h, lt-ltb _ _ e) at t.rest) }
+pub any_tested : (top : ℕ) (ms : List ℕ) (r : Bool) → (r ≡ true → (i : ℕ) × (i < length ms) × (top < get_or ms i 0))
+    → (r ≡ false → (i : ℕ) → i < length ms → get_or ms i 0 ≤ top) → r ≡ any (high (top + 1)) ms
+any_tested top ms true f g = let (i, l, h) = f refl in sym (any_at (high (top + 1)) ms i l (high_true (omega (arith, h))))
+any_tested top ms false f g = sym (any_nowhere (high (top + 1)) ms (λ i l. high_false (omega (arith, g refl i l))))
 
 -- ---- the commands: one computed test of the numbers of a byte
 

@@ -1,66 +1,92 @@
-// The steps of a refusal: what is wrong with a list of combinations, a map, a command's number, an id. Assumes nothing.
+// The refusals of form and their steps: what is wrong with a list of combinations, a map, a command's number, an id. Assumes nothing.
 #![tactic(auto)]
 
 ghost use Rattle.std.specs.Prelude.{◌≡◌, not, ◌+◌, ◌<◌, length};
 ghost use Rattle.store.specs.machine.Lists.{any};
 ghost use Rattle.store.specs.machine.Kinds.{kind, unknown, carries as carries_m};
 ghost use Rattle.store.specs.machine.Refusals.{first};
-ghost use Rattle.steps.specs.Steps.{number_of, high, used, list_tests, event_tests, number_tests};
+ghost use Rattle.steps.specs.Steps.{number_of, number, number_in, high, used, list_tests, event_tests, number_tests};
 
 use numbers::table;
 use store::State;
+
+// Why a call is refused, by the names of exec/errors.h, exec/io.h and include/qamhudeer.h.
+#[derive(Clone, Copy)]
+pub enum Refusal {
+    NoRoom,
+    BadId,
+    OtherDesk,
+    InUse,
+    NotOpen,
+    NoCmd,
+    BadLength,
+    BadAddress,
+    OpenFail,
+}
+
+impl Refusal {
+    // The byte that the answer shows: a negative error in two's complement.
+    pub fn number(self) -> u8
+        ensures { result ≡ number self }
+    {
+        match self {
+            Refusal::NoRoom => 5,
+            Refusal::BadId => 4,
+            Refusal::OtherDesk => 8,
+            Refusal::InUse => 3,
+            Refusal::NotOpen => 2,
+            Refusal::NoCmd => 253,
+            Refusal::BadLength => 252,
+            Refusal::BadAddress => 251,
+            Refusal::OpenFail => 255,
+        }
+    }
+}
 
 // Whether a combination is above the board's highest map.
 fn any_high(combos: &[u8], top: u8) -> bool
     ensures { result ≡ any (high (top + 1)) combos.now }
 {
-    let mut i: usize = 0;
-    while i < combos.len() {
-        if combos[i] > top {
-            return true;
-        }
-        i += 1;
-    }
-    false
+    combos.iter().any(|map| *map > top)
 }
 
-// More than 16 combinations: -4. One above the highest map: -5.
-pub fn bad_list(combos: &[u8], top: u8) -> u8
-    ensures { result ≡ number_of (first (list_tests (top + 1) combos.now)) }
+// More than 16 combinations, or one above the highest map.
+pub fn bad_list(combos: &[u8], top: u8) -> Result<(), Refusal>
+    ensures { number_in result ≡ number_of (first (list_tests (top + 1) combos.now)) }
 {
     if State::COMBOS < combos.len() {
-        return 252;
+        return Err(Refusal::BadLength);
     }
     if any_high(combos, top) {
-        return 251;
+        return Err(Refusal::BadAddress);
     }
-    0
+    Ok(())
 }
 
-// A map above the highest: -5.
-pub fn bad_map(map: u8, top: u8) -> u8
-    ensures { result ≡ number_of (first (event_tests (top + 1) map)) }
+// A map above the highest.
+pub fn bad_map(map: u8, top: u8) -> Result<(), Refusal>
+    ensures { number_in result ≡ number_of (first (event_tests (top + 1) map)) }
 {
     if map > top {
-        return 251;
+        return Err(Refusal::BadAddress);
     }
-    0
+    Ok(())
 }
 
-// Cycles, period and volume: six bytes in range, or none. Else -4.
-pub fn bad_numbers(combos: &[u8]) -> u8
-    ensures { result ≡ number_of (first (number_tests combos.now)) }
+// Cycles, period and volume: six bytes in range, or none.
+pub fn bad_numbers(combos: &[u8]) -> Result<(), Refusal>
+    ensures { number_in result ≡ number_of (first (number_tests combos.now)) }
 {
-    if combos.len() == 0 {
-        return 0;
+    if combos.is_empty() {
+        return Ok(());
     }
     if combos.len() != 6 {
-        return 252;
+        return Err(Refusal::BadLength);
     }
     if numbers::in_range(combos[2], combos[3], combos[4], combos[5]) {
-        return 0;
+        return Ok(());
     }
-    252
+    Err(Refusal::BadLength)
 }
 
 // Whether the number is one of the fifteen commands'.

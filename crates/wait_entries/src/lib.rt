@@ -16,14 +16,7 @@ use table::memory;
 fn low(combos: &[u8], top: u8) -> bool
     ensures { result ≡ all (λ m. ltb m (top + 1)) combos.now }
 {
-    let mut i: usize = 0;
-    while i < combos.len() {
-        if combos[i] > top {
-            return false;
-        }
-        i += 1;
-    }
-    true
+    combos.iter().all(|map| *map <= top)
 }
 
 fn flag(on: bool) -> u8

@@ -1,26 +1,27 @@
 -- `place_writes` meets its contract: the walks over the channels left, with the marks made so far, are all the walks. Assumes nothing.
 use Prim.Native.Nat.{◌+◌}
-use mathlib.Core.Path.{◌≡◌, refl}
-use borrow.Author.Tests.{not-true, not-false}
+use mathlib.Core.Path.{◌≡◌, refl, ◌∙◌}
+use Rattle.std.specs.Prelude.{None}
 use lib.ListN.{length, replicate}
 use Rattle.placing.proofs.Turns.{Written, written_stop, written_more, written_none, written_end}
 use Rattle.placing.proofs.Cases.{good_few}
 use borrow.Author.Rules.{rules}
-use Rattle.placing.proofs.place_writes.Goals.{then-q-gt0+else-not-m, else-q-gt0}
+use Rattle.placing.proofs.place_writes.Goals.{then-q-gt0+in_ok-marks, else-q-gt0}
 use Rattle.placing.proofs.place_writes.Goals as goal
 
 pub loop-i-init : goal.loop-i-init
 loop-i-init c = (search rules, search rules, record { rest = refl })
 
-pub place-m-requires : goal.place-m-requires
-place-m-requires c =
+pub place-requires : goal.place-requires
+place-requires c =
     let z : length c.args.cs ≡ 8 = search rules in
     (good_few _ _ _ c.requires.0 (search rules), search rules)
 
-pub returns-then-not-m : goal.returns-then-not-m
-returns-then-not-m c =
+pub returns-in_err-marks : goal.returns-in_err-marks
+returns-in_err-marks c =
     let z : length c.args.cs ≡ 8 = search rules in
-    written_stop c.loop-i.invariant.2 _ (search rules) _ (rw c.at.ensures at c.place-m.ensures) (not-true _ c.if-not-m.true)
+    let e : c.from_residual.result ≡ None = search rules in
+    e ∙ written_stop c.loop-i.invariant.2 _ (search rules) (rw c.at.ensures at c.place.ensures) c.in_err-marks.was
 
 -- a channel's writes were walked over, or it has none
 walked : (c : goal.Joined-q-gt0) → (length c.if-q-gt0.marks ≡ 64) × Written c.args.table.now c.args.cs (replicate 64 0) c.if-q-gt0.marks (c.loop-i.i + 1)
@@ -28,7 +29,7 @@ walked c =
     let l = c.loop-i.invariant in
     let z : length c.args.cs ≡ 8 = search rules in
     elim c.if-q-gt0.branch [
-      | then-q-gt0+else-not-m w ↦ rw w.marks-is (search rules, written_more l.2 _ (search rules) _ (rw w.at.ensures at w.place-m.ensures) (not-false _ w.if-not-m.false))
+      | then-q-gt0+in_ok-marks w ↦ rw w.marks-is (search rules, written_more l.2 _ (search rules) (rw w.at.ensures at w.place.ensures) w.in_ok-marks.was)
       | else-q-gt0 w ↦ rw w.marks-is (l.1, written_none l.2 _ (search rules) w.if-q-gt0.false)
     ]
 

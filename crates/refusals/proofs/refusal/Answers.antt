@@ -1,5 +1,6 @@
 -- `refusal` meets its contract: each verdict is the machine's. Assumes nothing.
 use Prim.Native.Nat.{◌≤◌, ◌<◌}
+use mathlib.Core.Logic.{inl, inr}
 use Rattle.board.proofs.Laws.{held_length, held_opens-count}
 use Rattle.refusals.proofs.Laws.{no_room, open_told, close_told, abort_told, cycle_told, up_told, command-told}
 use borrow.Author.Rules.{rules}
@@ -27,17 +28,15 @@ returns-in-Close c =
 pub returns-in-Abort : goal.returns-in-Abort
 returns-in-Abort c =
     let l : 384 ≤ c.args.room = search rules in
-    rw c.in-Abort.is (abort_told c.requires l c.top-top.ensures c.verdict_abort.ensures)
+    rw c.in-Abort.is (abort_told c.requires l c.top-top.ensures c.verdict_id.ensures)
 
 pub returns-in-CycleEnded : goal.returns-in-CycleEnded
 returns-in-CycleEnded c =
     let l : 384 ≤ c.args.room = search rules in
-    rw c.in-CycleEnded.is (cycle_told c.requires l c.top-top.ensures c.verdict_event.ensures)
-
-pub returns-in-GaveUp : goal.returns-in-GaveUp
-returns-in-GaveUp c =
-    let l : 384 ≤ c.args.room = search rules in
-    rw c.in-GaveUp.is (up_told c.requires l c.top-top.ensures c.verdict_event-in-GaveUp.ensures)
+    elim c.in-CycleEnded.is [
+      | inl e ↦ rw e (cycle_told c.requires l c.top-top.ensures c.bad_map.ensures)
+      | inr e ↦ rw e (up_told c.requires l c.top-top.ensures c.bad_map.ensures)
+    ]
 
 pub returns-in-Command : goal.returns-in-Command
 returns-in-Command c =

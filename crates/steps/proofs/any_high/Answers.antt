@@ -1,21 +1,11 @@
--- `any_high` meets its contract: the test of the combinations left is the test of all. Assumes nothing.
-use Prim.Native.Nat.{◌-◌}
-use Rattle.steps.proofs.Laws.{low_start, low_stop, low_more, low_end}
-use borrow.Author.Rules.{rules}
+-- `any_high` meets its contract: a place with a high combination is found, or there is none. Assumes nothing.
+use Rattle.std.proofs.Common.{rules, ◌≡◌, ℕ, ◌<◌, ◌≤◌, true, false, length, get_or}
+use Rattle.std.proofs.iter.runs.Made.{chains}
+use Rattle.steps.proofs.Laws.{any_tested}
 use Rattle.steps.proofs.any_high.Goals as goal
 
-pub loop-i-init : goal.loop-i-init
-loop-i-init c = low_start _ _
-
-pub returns-then-combos-i : goal.returns-then-combos-i
-returns-then-combos-i c =
-    let l = c.loop-i in
-    low_stop l.invariant (search rules) (search rules)
-
-pub loop-i-preserved : goal.loop-i-preserved
-loop-i-preserved c =
-    let l = c.loop-i in
-    low_more l.invariant (search rules) (search rules)
-
 pub returns : goal.returns
-returns c = low_end c.loop-i.invariant (search rules)
+returns c =
+    let yes : c.any.result ≡ true → (i : ℕ) × (i < length c.args.combos.now) × (c.args.top < get_or c.args.combos.now i 0) = search (rules, chains) in
+    let no : c.any.result ≡ false → (i : ℕ) → i < length c.args.combos.now → get_or c.args.combos.now i 0 ≤ c.args.top = search (rules, chains) in
+    any_tested _ _ _ yes no

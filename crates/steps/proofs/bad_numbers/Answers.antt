@@ -5,11 +5,11 @@ use Rattle.steps.proofs.Laws.{numbers_none, numbers_other, numbers_good, numbers
 use borrow.Author.Rules.{rules}
 use Rattle.steps.proofs.bad_numbers.Goals as goal
 
-pub returns-then-combos-eq0 : goal.returns-then-combos-eq0
-returns-then-combos-eq0 c = numbers_none c.args.combos.now c.if-combos-eq0.true
+pub returns-then-is_empty : goal.returns-then-is_empty
+returns-then-is_empty c = numbers_none c.args.combos.now (search rules)
 
 pub returns-then-combos-ne6 : goal.returns-then-combos-ne6
-returns-then-combos-ne6 c = numbers_other c.args.combos.now c.if-combos-eq0.false c.if-combos-ne6.true
+returns-then-combos-ne6 c = numbers_other c.args.combos.now (search rules) c.if-combos-ne6.true
 
 pub returns-then-in_range : goal.returns-then-in_range
 returns-then-in_range c =

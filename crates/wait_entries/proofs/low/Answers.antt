@@ -1,25 +1,17 @@
--- `low` meets its contract: the test of the combinations left is the test of all. Assumes nothing.
-use Prim.Native.Nat.{◌+◌, ◌≤◌, ◌<◌}
+-- `low` meets its contract: each combination is tested, or one that is too high is found. Assumes nothing.
+use Rattle.std.proofs.Common.{rules, ◌≡◌, ℕ, ◌+◌, ◌<◌, ◌≤◌, true, false, length, get_or}
+use Rattle.std.proofs.iter.runs.Made.{chains}
+use native.Mathlib.Omega.{arith}
 use borrow.Author.Tests.{lt-ltb, le-ltb}
-use lib.ListN.{get_or}
-use Rattle.open_shape.proofs.Turns.{passed_start, passed_stop, passed_more, passed_end}
-use borrow.Author.Rules.{rules}
+use lib.Dec.{ltb}
+use Rattle.open_shape.proofs.Turns.{all_tested}
 use Rattle.wait_entries.proofs.low.Goals as goal
 
-pub loop-i-init : goal.loop-i-init
-loop-i-init c = passed_start _ _ _
-
-pub returns-then-combos-i : goal.returns-then-combos-i
-returns-then-combos-i c =
-    let l = c.loop-i in
-    let h : c.args.top + 1 ≤ get_or c.args.combos.now l.i 0 = search rules in
-    passed_stop l.invariant 0 (search rules) (le-ltb _ _ h)
-
-pub loop-i-preserved : goal.loop-i-preserved
-loop-i-preserved c =
-    let l = c.loop-i in
-    let h : get_or c.args.combos.now l.i 0 < c.args.top + 1 = search rules in
-    passed_more l.invariant 0 (search rules) (lt-ltb _ _ h)
-
 pub returns : goal.returns
-returns c = passed_end c.loop-i.invariant (search rules)
+returns c =
+    let ms = c.args.combos.now in
+    let top = c.args.top in
+    let yes : c.all.result ≡ true → (i : ℕ) → i < length ms → get_or ms i 0 ≤ top = search (rules, chains) in
+    let no : c.all.result ≡ false → (i : ℕ) × (i < length ms) × (top < get_or ms i 0) = search (rules, chains) in
+    all_tested (λ m. ltb m (top + 1)) 0 ms c.all.result (λ e i h. lt-ltb _ _ (omega (arith, yes e i h)))
+    (λ e. let (i, h, g) = no e in (i, h, le-ltb _ _ (omega (arith, g))))

@@ -1,10 +1,10 @@
--- `verdict_abort` meets its contract: its two tests are those of the list. Assumes nothing.
+-- `verdict_id` meets its contract: its two tests are those of the list. Assumes nothing.
 use Prim.Native.Nat.{◌≤◌, ◌<◌}
 use borrow.Author.Tests.{lt-ltb, le-ltb}
 use Rattle.steps.proofs.Laws.{met, past, none}
 use Rattle.refusals.proofs.Laws.{own_desk, other_desk}
 use borrow.Author.Rules.{rules}
-use Rattle.refusals.proofs.verdict_abort.Goals as goal
+use Rattle.refusals.proofs.verdict_id.Goals as goal
 
 pub returns-then-id-ge-REQUESTS : goal.returns-then-id-ge-REQUESTS
 returns-then-id-ge-REQUESTS c = let h : 63 < c.args.id = search rules in met _ _ _ (lt-ltb _ _ h)
