@@ -9,15 +9,14 @@ use image::board::Board;
 use image::store::State;
 use open_keys::Keys;
 use open_keys::queue::Queue;
+use std::array;
 
 fn queue_at(bytes: &[u8], at: usize) -> Queue
     requires { at + 65 ≤ length bytes.now }
     ensures { result ≡ queue_at bytes.now at }
 {
-    let from = at + 1;
-    let to = at + 65;
     let mut ids = [0u8; 64];
-    memory::copy(&mut ids, 0, &bytes[from..to]);
+    ids.copy_from_slice(&bytes[at + 1..at + 65]);
     Queue { n: bytes[at], ids }
 }
 
@@ -39,29 +38,14 @@ fn channels_at(bytes: &[u8]) -> [Channel; 8]
     requires { 560 ≤ length bytes.now }
     ensures { result ≡ channels_at 8 bytes.now 0 }
 {
-    let none = Channel::unused();
-    let mut cs = [none; 8];
-    let mut i: usize = 0;
-    while i < 8 {
-        let c = channel_at(bytes, i * 70);
-        cs[i] = c;
-        i += 1;
-    }
-    cs
+    array::from_fn(|i| channel_at(bytes, i * 70))
 }
 
 fn keys_at(bytes: &[u8], at: usize) -> [u16; Keys::ROOM]
     requires { at + 64 ≤ length bytes.now }
     ensures { result ≡ keys_from 32 bytes.now at }
 {
-    let mut keys = [0u16; Keys::ROOM];
-    let mut i: usize = 0;
-    while i < Keys::ROOM {
-        let k = memory::key_at(bytes, at + 2 * i);
-        keys[i] = k;
-        i += 1;
-    }
-    keys
+    array::from_fn(|i| memory::key_at(bytes, at + 2 * i))
 }
 
 fn open_at(bytes: &[u8], at: usize) -> Keys

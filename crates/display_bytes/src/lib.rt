@@ -8,7 +8,7 @@ pub fn read(display: &[u8]) -> [u8; 18]
     ensures { result ≡ display.now }
 {
     let mut shown = [0u8; 18];
-    memory::copy(&mut shown, 0, display);
+    shown.copy_from_slice(display);
     shown
 }
 
@@ -16,5 +16,5 @@ pub fn write(display: &mut [u8], shown: &[u8; 18])
     requires { length display.old ≡ 18 }
     ensures { display.new ≡ shown.now }
 {
-    memory::copy(display, 0, shown);
+    display.copy_from_slice(shown);
 }

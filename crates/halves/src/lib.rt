@@ -34,10 +34,8 @@ fn fill(half: &mut [u8], made: &[u8], n: usize, desk: u8) -> usize
     ensures { (result * 6 ≡ length (picked desk n made.now)) × (half.new ≡ splice half.old 0 (picked desk n made.now)) }
 {
     let mut at: usize = 0;
-    let mut i: usize = 0;
-    while i < n {
+    for i in 0..n {
         at = pick(half, at, made, i, desk);
-        i += 1;
     }
     at
 }

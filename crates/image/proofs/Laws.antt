@@ -1,14 +1,15 @@
 -- A struct and its bytes: what the stores leave, and that each is read back from the other. Assumes nothing.
-use Prim.Native.Nat.{ℕ, zero, suc, ◌+◌, ◌-◌, ◌*◌, ◌≤◌, ◌<◌}
-use mathlib.Core.Path.{◌≡◌, refl, ap, ap₂, sym, ◌∙◌}
+use Prim.Native.Nat.{ℕ, zero, suc, ◌+◌, ◌*◌, ◌≤◌, ◌<◌}
+use mathlib.Core.Path.{◌≡◌, refl, ap, sym, ◌∙◌}
 use mathlib.Core.Bool.{Bool, true, false, ◌&&◌}
 use mathlib.Core.List.{List, [], ◌∷◌, ◌++◌, append_assoc, append-nil}
 use native.Mathlib.Omega.{arith}
 use native.Mathlib.Numerals.{add-one}
 use lib.Dec.{eqb, eqb→eq}
-use lib.ListN.{length, get_or, take, drop, set, replicate, length-append, length-replicate, length-take, length-drop, drop_of_length-le}
-use lib.Seq.{take-suc, take-suc-set, take_all}
+use lib.ListN.{length, get_or, take, drop, set, length-append, drop_of_length-le}
+use lib.Seq.{take-suc, take_all}
 use borrow.Author.Tests.{lt-ltb, eq-eqb, ne_eqb}
+use mir.Val.{bool_byte}
 use Rattle.memory.specs.Splice.{splice}
 use Rattle.memory.proofs.Splice.{splice_none, set-splice, splice-append, splice_then, splice_snoc, length-splice}
 use Rattle.open_keys.specs.machine.Lists.{all}
@@ -18,7 +19,7 @@ use Rattle.open_keys.specs.queue.declared.Queue.{Queue}
 use Rattle.open_keys.specs.declared.Keys.{Keys}
 use Rattle.board.specs.channel.declared.Channel.{Channel}
 use Rattle.board.specs.declared.Board.{Board}
-use Rattle.image.specs.Image.{keys_bytes, open_bytes, queue_bytes, channel_bytes, channels_bytes, image_of, key_at, keys_from, open_at, queue_at, channel_at, channels_at, state_of, is_byte, marks_at, all_marks, is_whole, Whole, Filled, AllFilled, Wrote, Entered}
+use Rattle.image.specs.Image.{keys_bytes, open_bytes, queue_bytes, channel_bytes, channels_bytes, image_of, key_at, open_at, queue_at, channel_at, channels_at, state_of, is_byte, all_marks, is_whole, Whole, Filled, AllFilled, Wrote, Entered}
 
 -- ---- the test
 
@@ -45,28 +46,12 @@ module _ (bs : List ℕ) where
   unfolding is_whole
   the_marks l h = rw (eq-eqb (length bs) 823 l, bytes_all bs h) (sym (and_on (all_marks 8 bs 0)))
 
--- the marks of the channels left are those of all, where the ones before are marks
-pub record Marked (bs : List ℕ) (i : ℕ) : Type 0 where
-  pub rest : all_marks (8 - i) bs (i * 70) ≡ all_marks 8 bs 0
+-- ---- a mark
 
-module _ {bs : List ℕ} {i : ℕ} (t : Marked bs i) where
-  pub marked_end : 8 ≤ i → true ≡ all_marks 8 bs 0
-  unfolding all_marks
-  marked_end h = let e : 8 - i ≡ 0 = omega arith in rw e at t.rest
-
-  module _ (h : i < 8) where
-    one_left : all_marks (8 - i) bs (i * 70) ≡ (marks_at bs (i * 70) && all_marks (8 - (i + 1)) bs ((i + 1) * 70))
-    unfolding all_marks
-    one_left =
-        let e : 8 - i ≡ suc (8 - (i + 1)) = omega arith in
-        let f : i * 70 + 70 ≡ (i + 1) * 70 = omega arith in
-        ap (λ (n : ℕ). all_marks n bs (i * 70)) e ∙ ap (λ (n : ℕ). marks_at bs (i * 70) && all_marks (8 - (i + 1)) bs n) f
-
-    pub marked_stop : marks_at bs (i * 70) ≡ false → false ≡ all_marks 8 bs 0
-    marked_stop e = sym (one_left ∙ ap (λ (b : Bool). b && all_marks (8 - (i + 1)) bs ((i + 1) * 70)) e) ∙ t.rest
-
-    pub marked_more : marks_at bs (i * 70) ≡ true → Marked bs (i + 1)
-    marked_more e = record { rest = sym (one_left ∙ ap (λ (b : Bool). b && all_marks (8 - (i + 1)) bs ((i + 1) * 70)) e) ∙ t.rest }
+-- as the standard library makes a byte of a truth value
+pub byte_mark : (b : Bool) → bool_byte b ≡ mark_of b
+byte_mark true = refl
+byte_mark false = refl
 
 -- ---- splice
 
@@ -90,13 +75,6 @@ queue-wrote l at n ids h g =
       bytes = rw (set-splice l at n (omega arith)) (splice-append l at (n ∷ []) ids (omega arith));
       size = omega arith;
     }
-
-pub queue_read : (bs : List ℕ) (at m : ℕ) {ids : List ℕ} → ids ≡ splice (replicate 64 0) 0 (take m (drop (at + 1) bs)) → m ≡ 64 → at + 65 ≤ length bs
-    → ◌≡◌ {A = Queue} (record { n = get_or bs at 0; ids = ids }) (queue_at bs at)
-unfolding queue_at
-queue_read bs at m h k g =
-    let e : length (take 64 (drop (at + 1) bs)) ≡ 64 = simp (length-take, length-drop) (omega arith) in
-    ap (λ (x : List ℕ). record { n = get_or bs at 0; ids = x }) (h ∙ ap (λ (x : ℕ). splice (replicate 64 0) 0 (take x (drop (at + 1) bs))) k ∙ splice_whole (replicate 64 0) _ (e ∙ sym (length-replicate {A = ℕ} 64 0)))
 
 pub queue-filled : {l : List ℕ} {at : ℕ} {q : Queue} {l' : List ℕ} → Wrote l at (queue_bytes q) 65 l' → Filled q
 queue-filled w = let e = w.size in omega arith
@@ -173,20 +151,6 @@ pub channels-entered : (l : List ℕ) (cs : List Channel) {l₁ : List ℕ} → 
     → Entered l cs l₁
 channels-entered l cs h a w = let e = take_all 8 cs (omega arith) in record { eight = h; filled = rw e at a; wrote = rw e at w }
 
--- channels read one after another
-channels_snoc : (n : ℕ) (bs : List ℕ) (at : ℕ) → channels_at (suc n) bs at ≡ channels_at n bs at ++ (channel_at bs (at + n * 70) ∷ [])
-unfolding channels_at
-channels_snoc zero bs at = let e : at ≡ at + 0 * 70 = omega arith in ap (λ (k : ℕ). channel_at bs k ∷ []) e
-channels_snoc (suc n) bs at =
-    let e : at + 70 + n * 70 ≡ at + suc n * 70 = omega arith in
-    ap (λ (l : List Channel). channel_at bs at ∷ l) (channels_snoc n bs (at + 70) ∙ ap (λ (k : ℕ). channels_at n bs (at + 70) ++ (channel_at bs k ∷ [])) e)
-
-pub channels_more_at : (bs : List ℕ) (cs : List Channel) (i : ℕ) {c : Channel} → i < length cs → take i cs ≡ channels_at i bs 0 → c ≡ channel_at bs (i * 70)
-    → take (i + 1) (set cs i c) ≡ channels_at (i + 1) bs 0
-channels_more_at bs cs i {c} h t e =
-    let z : 0 + i * 70 ≡ i * 70 = omega arith in
-    rw (add-one i) (take-suc-set cs i c h ∙ (ap₂ (λ (l : List Channel) (d : Channel). l ++ (d ∷ [])) t (e ∙ ap (channel_at bs) (sym z)) ∙ sym (channels_snoc i bs 0)))
-
 -- ---- the open keys
 
 keys-append : (js ks : List ℕ) → keys_bytes (js ++ ks) ≡ keys_bytes js ++ keys_bytes ks
@@ -237,19 +201,6 @@ keys_twice (k ∷ ks) = let h = keys_twice ks in omega arith
 
 pub open_filled : {l : List ℕ} {at : ℕ} (q : Keys) {l' : List ℕ} → Wrote l at (open_bytes q) 65 l' → length q.keys ≡ 32
 open_filled q w = let e = w.size in let k = keys_twice q.keys in omega arith
-
--- keys read one after another
-keys_snoc : (n : ℕ) (bs : List ℕ) (at : ℕ) → keys_from (suc n) bs at ≡ keys_from n bs at ++ (key_at bs (at + 2 * n) ∷ [])
-unfolding keys_from
-keys_snoc zero bs at = let e : at ≡ at + 2 * 0 = omega arith in ap (λ (k : ℕ). key_at bs k ∷ []) e
-keys_snoc (suc n) bs at =
-    let e : at + 2 + 2 * n ≡ at + 2 * suc n = omega arith in
-    ap (λ (l : List ℕ). key_at bs at ∷ l) (keys_snoc n bs (at + 2) ∙ ap (λ (k : ℕ). keys_from n bs (at + 2) ++ (key_at bs k ∷ [])) e)
-
-pub keys_more_at : (bs : List ℕ) (at : ℕ) (ks : List ℕ) (i : ℕ) {k : ℕ} → i < length ks → take i ks ≡ keys_from i bs at → k ≡ key_at bs (at + 2 * i)
-    → take (i + 1) (set ks i k) ≡ keys_from (i + 1) bs at
-keys_more_at bs at ks i {k} h t e =
-    rw (add-one i) (take-suc-set ks i k h ∙ (ap₂ (λ (l : List ℕ) (d : ℕ). l ++ (d ∷ [])) t e ∙ sym (keys_snoc i bs at)))
 
 -- ---- the whole
 

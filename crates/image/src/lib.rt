@@ -19,22 +19,12 @@ fn all_marked(bytes: &[u8]) -> bool
     requires { 560 ≤ length bytes.now }
     ensures { result ≡ all_marks 8 bytes.now 0 }
 {
-    let mut i: usize = 0;
-    while i < 8 {
-        if !marked(bytes, i * 70) {
-            return false;
-        }
-        i += 1;
-    }
-    true
+    (0..8).all(|i| marked(bytes, i * 70))
 }
 
 // The length is right, and each mark is 0 or 1.
 pub fn whole(bytes: &[u8]) -> bool
     ensures { result ≡ is_whole bytes.now }
 {
-    if bytes.len() != 823 {
-        return false;
-    }
-    all_marked(bytes)
+    bytes.len() == 823 && all_marked(bytes)
 }

@@ -1,7 +1,8 @@
 -- `put_channel` meets its contract: five stores, and its queue behind them. Assumes nothing.
+use mathlib.Core.Path.{◌∙◌}
 use native.Mathlib.Omega.{arith}
 use lib.ListN.{length-set}
-use Rattle.image.proofs.Laws.{wrote-length, channel-wrote}
+use Rattle.image.proofs.Laws.{byte_mark, wrote-length, channel-wrote}
 use Rattle.encoding.proofs.put_channel.Goals as goal
 
 pub bounds-bytes-at-2 : goal.bounds-bytes-at-2
@@ -16,7 +17,7 @@ put_queue-requires c = simp length-set (omega arith)
 pub returns : goal.returns
 returns c =
     let a = c.args in
-    channel-wrote a.bytes.now a.at a.c (omega arith) c.put_key.ensures c.mark.ensures c.mark-2.ensures c.put_queue.ensures
+    channel-wrote a.bytes.now a.at a.c (omega arith) c.put_key.ensures (c.from.ensures ∙ byte_mark _) (c.from-2.ensures ∙ byte_mark _) c.put_queue.ensures
 
 pub shape_of-bytes : goal.shape_of-bytes
 shape_of-bytes c = let a = c.args in wrote-length (returns c) (omega arith)

@@ -12,14 +12,14 @@ use Rattle.halves.proofs.fill.Goals as goal
 
 pub loop-i-init : goal.loop-i-init
 unfolding picked
-loop-i-init c = (omega arith, refl, refl, sym (splice_none _ _))
+loop-i-init c = (refl, refl, sym (splice_none _ _))
 
 pub pick-at-requires : goal.pick-at-requires
 pick-at-requires c =
     let l = c.loop-i in
     let a = c.args in
-    let h = room_left a.desk a.made.now a.n l.i l.at (length a.half.now) (omega arith) l.invariant.1 c.requires.1 in
-    (omega arith, rw l.invariant.2 h)
+    let h = room_left a.desk a.made.now a.n l.i l.at (length a.half.now) (omega arith) l.invariant.0 c.requires.1 in
+    (omega arith, rw l.invariant.1 h)
 
 pub loop-i-preserved : goal.loop-i-preserved
 loop-i-preserved c =
@@ -32,12 +32,11 @@ loop-i-preserved c =
     let g : l.i + (a.n - l.i) ≡ a.n = omega arith in
     let k : length (picked a.desk l.i a.made.now) ≤ length (picked a.desk a.n a.made.now) = rw g at h in
     let q = p.ensures.0 in
-    let r = l.invariant.1 in
+    let r = l.invariant.0 in
     let z = c.requires.1 in (
-      omega arith,
       rw f (omega arith),
       omega arith,
-      p.ensures.1 ∙ ap (λ (x : List ℕ). splice x (l.at * 6) (one a.desk a.made.now l.i)) l.invariant.3 ∙ turn a.half.now a.desk a.made.now l.i l.at l.invariant.1 (omega arith),
+      p.ensures.1 ∙ ap (λ (x : List ℕ). splice x (l.at * 6) (one a.desk a.made.now l.i)) l.invariant.2 ∙ turn a.half.now a.desk a.made.now l.i l.at l.invariant.0 (omega arith),
     )
 
 pub returns : goal.returns
@@ -45,6 +44,6 @@ returns c =
     let l = c.loop-i in
     let a = c.args in
     let e : l.i ≡ a.n = omega arith in (
-      l.invariant.1 ∙ ap (λ (k : ℕ). length (picked a.desk k a.made.now)) e,
-      l.invariant.3 ∙ ap (λ (k : ℕ). splice a.half.now 0 (picked a.desk k a.made.now)) e,
+      l.invariant.0 ∙ ap (λ (k : ℕ). length (picked a.desk k a.made.now)) e,
+      l.invariant.2 ∙ ap (λ (k : ℕ). splice a.half.now 0 (picked a.desk k a.made.now)) e,
     )
