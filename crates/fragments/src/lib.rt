@@ -8,7 +8,8 @@ ghost use Rattle.fragments.specs.Fragments.{Feeds};
 pub use telling;
 pub use telling::{admitting, hearing, port, unheard};
 
-// The refusal, or 0; how much of the fragment is used; how much output stands in front of the room.
+// C is handed this, so a refusal is a number: the refusal, or 0; how much of the fragment is used; how much output stands in front
+// of the room.
 #[derive(Clone, Copy)]
 pub struct Fed {
     pub error: u8,
@@ -28,10 +29,9 @@ pub fn feed(
     ensures { Feeds fragment.now port.old state.old table.old display.old out.old
         result.error result.used result.written port.new state.new table.new display.new out.new }
 {
-    let error = admitting::refusal(port, display.len(), out.len());
-    if error != 0 {
+    if let Err(why) = admitting::admit(port, display.len(), out.len()) {
         return Fed {
-            error,
+            error: u8::from(why),
             used: 0,
             written: 0,
         };

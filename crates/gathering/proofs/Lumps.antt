@@ -1,17 +1,17 @@
 -- What the first LF parts: a lump behind a lump, the lines of a log from their front, and what stands of a line after a lump.
 -- Assumes nothing.
-use Prim.Native.Nat.{ℕ, suc, ◌+◌, ◌-◌, ◌≤◌, ◌<◌}
+use Prim.Native.Nat.{ℕ, zero, suc, ◌+◌, ◌-◌, ◌≤◌, ◌<◌}
 use mathlib.Core.Path.{◌≡◌, refl, ap, sym, ◌∙◌}
 use mathlib.Core.Bool.{true, false}
 use mathlib.Core.List.{List, [], ◌∷◌, ◌++◌, append_assoc, append-nil}
-use native.Mathlib.Numerals.{add-one}
-use native.Mathlib.Nat.{add-zero, zero-add}
+use native.Mathlib.Nat.{zero-add}
 use native.Mathlib.Decide.{dec_lt}
 use native.Mathlib.Omega.{arith}
 use borrow.Author.Tests.{eqb-true, eqb-false, eq-eqb, ne_eqb}
 use lib.Dec.{eqb}
-use lib.ListN.{length, get_or, take, drop, drop_of_length-le, length-take, length-append}
-use lib.Seq.{drop-cons, take_all, length-take-le, take-take, take_at, take-append-add, take-append-le, drop-append-add, drop-append-le}
+use lib.ListN.{length, get_or, take, drop, length-take, length-append}
+use lib.Seq.{take_all, length-take-le, take-take, take_at, take-append-add, take-append-le, drop-append-add, drop-append-le}
+use Rattle.std.specs.Prelude.{◌≢◌, Option, Some, None, MatchOption, unwrap_or}
 use Rattle.memory.specs.Splice.{splice}
 use Rattle.digits.specs.machine.State.{State as StateM}
 use Rattle.digits.specs.machine.Log.{LF, opened, lines, unhex, frame, feed}
@@ -60,27 +60,23 @@ module _ (b : ℕ) (bs : List ℕ) where
 by_LF : {A : Type 0} (b : ℕ) → (b ≡ LF → A) → ((b ≡ LF → ⊥) → A) → A
 by_LF b f g = by_test (eqb b LF) (λ t. f (eqb-true b LF (test_true (eqb b LF) t))) (λ t. g (eqb-false b LF (test_false (eqb b LF) t)))
 
--- ---- the loop's place
+-- ---- where the first LF stands
 
-pub record Open (bs : List ℕ) (i : ℕ) : Type 0 where
-  pub so_far : length (front bs) ≡ i + length (front (drop i bs))
+-- or the length, where there is none
+front_ends : (bs : List ℕ) (i : ℕ) → i ≤ length bs → ((k : ℕ) → k < i → get_or bs k 0 ≢ LF) → (i < length bs → get_or bs i 0 ≡ LF) → i ≡ length (front bs)
+unfolding front
+front_ends [] i h before here = omega arith
+front_ends (b ∷ bs) zero h before here = sym (ap length (front_LF b bs (here (omega arith))))
+front_ends (b ∷ bs) (suc i) h before here =
+    let e = front_ends bs i (omega arith) (λ k l. before (suc k) (omega arith)) (λ l. here (omega arith)) in
+    ap suc e ∙ sym (ap length (front_other b bs (before 0 (omega arith))))
 
-pub open_start : (bs : List ℕ) → Open bs 0
-open_start bs = record { so_far = omega arith }
+abbrev pub FirstLF : List ℕ → Option ℕ → Type 0
+FirstLF bs r = MatchOption r ((k : ℕ) → k < length bs → get_or bs k 0 ≢ LF) (λ i. (i < length bs) × (get_or bs i 0 ≡ LF) × ((k : ℕ) → k < i → get_or bs k 0 ≢ LF))
 
-module _ {bs : List ℕ} {i : ℕ} (t : Open bs i) where
-  pub open_end : length bs ≤ i → i ≡ length (front bs)
-  unfolding front
-  open_end h = sym (rw (drop_of_length-le bs h, add-zero) at t.so_far)
-
-  module _ (h : i < length bs) where
-    pub open_stop : get_or bs i 0 ≡ 10 → i ≡ length (front bs)
-    open_stop e = sym (rw (drop-cons bs i 0 h, front_LF (get_or bs i 0) (drop (suc i) bs) e, add-zero) at t.so_far)
-
-    pub open_more : (get_or bs i 0 ≡ 10 → ⊥) → Open bs (i + 1)
-    open_more e =
-        let q = rw (drop-cons bs i 0 h, front_other (get_or bs i 0) (drop (suc i) bs) e) at t.so_far in
-        record { so_far = rw (add-one i) (omega arith) }
+pub front_found : (bs : List ℕ) (r : Option ℕ) → FirstLF bs r → unwrap_or r (length bs) ≡ length (front bs)
+front_found bs None h = front_ends bs (length bs) (omega arith) h (λ l. absurd (omega arith))
+front_found bs (Some i) h = front_ends bs i (omega arith) h.2 (λ _. h.1)
 
 -- ---- a lump behind a lump
 

@@ -5,6 +5,7 @@ ghost use Rattle.std.specs.Prelude.{◌≡◌, ◌-◌, ◌<◌, ◌≤◌, leng
 ghost use Rattle.gathering.specs.Lumps.{front, Gathers};
 
 // What stands of a line after a lump of input, how much of the lump is used, and whether the line has ended.
+// Not an Option: both numbers tell of a line that goes on as well.
 #[derive(Clone, Copy)]
 pub struct Gathered {
     pub n: usize,
@@ -16,27 +17,17 @@ pub struct Gathered {
 pub fn end_of(input: &[u8]) -> usize
     ensures { result ≡ length (front input.now) }
 {
-    let mut i: usize = 0;
-    while i < input.len() {
-        if input[i] == 10 {
-            return i;
-        }
-        i += 1;
-    }
-    i
+    input
+        .iter()
+        .position(|b| *b == b'\n')
+        .unwrap_or(input.len())
 }
 
 // How many of `more` bytes are kept behind n.
 fn kept(n: usize, more: usize) -> usize
     ensures { (result ≤ more) × (result ≤ 527 - n) × (result < more → result ≡ 527 - n) }
 {
-    if n >= 527 {
-        return 0;
-    }
-    if more > 527 - n {
-        return 527 - n;
-    }
-    more
+    more.min(527usize.saturating_sub(n))
 }
 
 // The bytes before the first LF, put behind the first n of the line. What has no place is passed over: a line that long is

@@ -6,7 +6,7 @@ ghost use Rattle.last_line.specs.LastLine.{Ends};
 
 use telling::{admitting, port};
 
-// The refusal, or 0; how much output stands in front of the room.
+// C is handed this, so a refusal is a number: the refusal, or 0; how much output stands in front of the room.
 #[derive(Clone, Copy)]
 pub struct Ended {
     pub error: u8,
@@ -24,10 +24,9 @@ pub fn feed_end(
     ensures { Ends port.old state.old table.old display.old out.old
         result.error result.written port.new state.new table.new display.new out.new }
 {
-    let refused = admitting::refusal(port, display.len(), out.len());
-    if refused != 0 {
+    if let Err(why) = admitting::admit(port, display.len(), out.len()) {
         return Ended {
-            error: refused,
+            error: u8::from(why),
             written: 0,
         };
     }

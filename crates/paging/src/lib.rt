@@ -32,6 +32,7 @@ pub fn fill(
 {
     let mut n = started;
     let mut at = stands;
+    // Counted by hand: a turn uses as many bytes as it takes, and the caller is told how many are used.
     let mut from: usize = 0;
     while from < input.len() {
         if !one_line::room(show, page, at) {

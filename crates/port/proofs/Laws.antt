@@ -4,8 +4,7 @@ use mathlib.Core.Path.{◌≡◌, refl, ap, ◌∙◌}
 use mathlib.Core.List.{List, ◌++◌}
 use native.Mathlib.Omega.{arith}
 use native.Mathlib.Nat.{div-add-mod'}
-use lib.ListN.{length, take, drop, length-drop}
-use lib.Seq.{take_all}
+use lib.ListN.{length}
 use Rattle.machine.specs.InBytes.{two_bytes}
 use Rattle.memory.specs.Splice.{splice}
 use Rattle.memory.proofs.Splice.{splice_then}
@@ -20,13 +19,6 @@ use Rattle.port.specs.Port.{started_in, line_in, port_of}
 pub port_kept : (p l : List ℕ) (n m : ℕ) {p₁ p₂ : List ℕ} → length p ≡ PORT → length l ≡ LINE → m ≡ n → p₁ ≡ splice p 0 (two_bytes m) → p₂ ≡ splice p₁ 2 l → p₂ ≡ port_of n l
 port_kept p l n m h g e a b =
     b ∙ ap (λ (x : List ℕ). splice x 2 l) (a ∙ ap (λ (k : ℕ). splice p 0 (two_bytes k)) e) ∙ splice_then p 0 (two_bytes n) l 2 refl (omega arith) ∙ splice_whole p (two_bytes n ++ l) (omega arith)
-
--- line_in's copy: m bytes from the third on, over all of an array
-pub line_copied : (p z : List ℕ) (m : ℕ) {l : List ℕ} → length p ≡ PORT → length z ≡ LINE → m ≡ LINE → l ≡ splice z 0 (take m (drop 2 p)) → l ≡ line_in p
-line_copied p z m h g e a =
-    let d = length-drop 2 p in
-    let k : take m (drop 2 p) ≡ drop 2 p = take_all m (drop 2 p) (omega arith) in
-    a ∙ ap (splice z 0) k ∙ splice_whole z (drop 2 p) (omega arith)
 
 module _ (n : ℕ) (l : List ℕ) where
   pub started_back : started_in (port_of n l) ≡ n

@@ -8,19 +8,12 @@ ghost use Rattle.port.specs.Port.{started_in, line_in, port_of};
 
 pub use sizes;
 
-// The cast stands by itself, so that a caller has no fact of its own to show for it.
-fn count(x: u16) -> usize
-    ensures { result ≡ x }
-{
-    x as usize
-}
-
 // How many bytes stand of the line.
 pub fn started(port: &[u8]) -> usize
     requires { length port.now ≡ PORT }
     ensures { result ≡ started_in port.now }
 {
-    count(memory::key_at(port, 0))
+    usize::from(memory::key_at(port, 0))
 }
 
 // The bytes of the line, those that do not stand included.
@@ -28,9 +21,8 @@ pub fn line_in(port: &[u8]) -> [u8; 527]
     requires { length port.now ≡ PORT }
     ensures { result ≡ line_in port.now }
 {
-    let from: usize = 2;
     let mut line = [0u8; 527];
-    memory::copy(&mut line, 0, &port[from..]);
+    line.copy_from_slice(&port[2..]);
     line
 }
 

@@ -2,7 +2,8 @@
 use Prim.Native.Nat.{ℕ, ◌+◌, ◌≤◌}
 use mathlib.Core.Path.{◌≡◌, refl, ap, sym, subst, ◌∙◌}
 use mathlib.Core.List.{List}
-use mathlib.Core.Option.{Option, none, some}
+use mathlib.Core.Option.{Option as OptionM, none, some}
+use Rattle.std.specs.Prelude.{Option, Some}
 use native.Mathlib.Omega.{arith}
 use lib.Dec.{T}
 use lib.ListN.{length, take, length-take}
@@ -29,8 +30,6 @@ use Rattle.arbiter.specs.refusals.Refusals.{asked_of}
 use Rattle.display.specs.Display.{displayed_by}
 use Rattle.arbiter.specs.Arbiter.{Handled, Shown}
 use Rattle.unheard.specs.frames.declared.Frame.{Frame}
-use Rattle.unheard.specs.frames.declared.Line.{Line}
-use Rattle.unheard.specs.frames.declared.Line.TheVariants.{Call}
 use Rattle.unheard.specs.frames.Frames.{combos_after, Reads, Asked}
 use Rattle.unheard.proofs.frames.Laws.{asked-frame}
 use Rattle.unheard.specs.lines.Lines.{Tells}
@@ -72,7 +71,7 @@ dull-display {s} {tb} dp _ e = sym (ap (λ o. displayed_by (state_in s tb) o dp)
 -- ---- a line that is one
 
 -- the list of combinations keeps its length
-pub reads-length : {l ms ms' : List ℕ} {r : Line} {f : Frame} → Reads l ms r ms' → r ≡ Call f → 255 ≡ length ms → 255 ≡ length ms'
+pub reads-length : {l ms ms' : List ℕ} {r : Option Frame} {f : Frame} → Reads l ms r ms' → r ≡ Some f → 255 ≡ length ms → 255 ≡ length ms'
 unfolding combos_after
 reads-length {l} {ms} {ms'} {r} {f} t e h =
     let a = asked-frame t e in
@@ -129,7 +128,7 @@ pub feed_few : (s : StateM) (l : List ℕ) → T (sound s) → length (feed s l)
 unfolding feed outcome_of
 feed_few s l h = go (frame (unhex l))
   where
-    go : (o : Option CallM) → length (told (outcome_of s o)) ≤ 973
+    go : (o : OptionM CallM) → length (told (outcome_of s o)) ≤ 973
     go none = let z = length-told (outcome_of s none) in let y : length (outcome_of s none).replies ≡ 0 = unfold outcome_of silent in refl in omega arith
     go (some c) = let z = length-told (call s c) in let k = (call-replies s c h).1 in omega arith
 

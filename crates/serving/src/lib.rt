@@ -13,7 +13,7 @@ use arbiter::Answered;
 pub use arbiter::{decoding, refusing, sound};
 pub use unheard;
 use unheard::frames;
-use unheard::frames::{Frame, Line};
+use unheard::frames::Frame;
 pub use unheard::lines;
 
 fn serve(
@@ -53,8 +53,7 @@ pub fn feed_sound(
         display.new }
 {
     let mut combos = [0u8; audio::LIST_SIZE];
-    let read = frames::read(line, &mut combos);
-    let Line::Call(f) = read else {
+    let Some(f) = frames::read(line, &mut combos) else {
         return unheard::malformed(out);
     };
     let mut replies = [0u8; audio::REPLIES_SIZE];

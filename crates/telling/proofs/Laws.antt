@@ -50,19 +50,11 @@ poured l m {st} {tb} {xs} {out = out} {st' = st'} {tb' = tb'} {dp' = dp'} {z' = 
           };
     }
 
--- ---- refused or served
+-- ---- what is not refused is served
 
-module _ {o : Option (List ℕ)} {q : List ℕ} {v : ℕ} {p st tb dp out : List ℕ} {e : ℕ} (h : e ≡ refusal p (length dp) (length out)) where
-  pub is_refused : (e ≡ 0 → ⊥) → {x u w : ℕ} → x ≡ e → u ≡ 0 → w ≡ 0 → Ported o q v p st tb dp out x u w p st tb dp out
-  is_refused n y u w =
-      record {
-        error = y ∙ h;
-        refused = λ _. record { used = u; port = refl; silent = record { count = w; state = refl; table = refl; display = refl; bytes = refl } };
-        served = λ z. absurd (n (h ∙ z));
-      }
-
-  pub is_served : e ≡ 0 → {x u n : ℕ} {p' st' tb' dp' out' : List ℕ} → x ≡ 0 → Moves o q v st tb dp out u n p' st' tb' dp' out' → Ported o q v p st tb dp out x u n p' st' tb' dp' out'
-  is_served z y m = record { error = y ∙ sym z ∙ h; refused = λ n. absurd (n (sym h ∙ z)); served = λ _. m }
+pub is_served : {o : Option (List ℕ)} {q : List ℕ} {v : ℕ} {p st tb dp out : List ℕ} → refusal p (length dp) (length out) ≡ 0
+    → {x u n : ℕ} {p' st' tb' dp' out' : List ℕ} → x ≡ 0 → Moves o q v st tb dp out u n p' st' tb' dp' out' → Ported o q v p st tb dp out x u n p' st' tb' dp' out'
+is_served z y m = record { error = y ∙ sym z; refused = λ n. absurd (n z); served = λ _. m }
 
 -- a port by its bytes
 pub cons_cons : {a a₂ b b₂ : ℕ} {l l₂ : List ℕ} → a ≡ a₂ → b ≡ b₂ → l ≡ l₂ → a ∷ b ∷ l ≡ a₂ ∷ b₂ ∷ l₂

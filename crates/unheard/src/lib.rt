@@ -6,7 +6,6 @@ ghost use Rattle.board.specs.declared.Board.{Board};
 ghost use Rattle.unheard.specs.Unheard.{Dull, Unheard};
 
 pub use frames;
-use frames::Line;
 pub use lines;
 
 // A line that is no frame: 7, map 0, key 0. How many bytes of output there are; the state, whatever it is, stays.
@@ -23,8 +22,7 @@ pub fn unsound(line: &[u8], out: &mut [u8; audio::ROOM_SIZE]) -> usize
     ensures { (s : Board) → Unheard s line.now out.old (record { state = s; n = result }) out.new }
 {
     let mut combos = [0u8; audio::LIST_SIZE];
-    let read = frames::read(line, &mut combos);
-    let Line::Call(f) = read else {
+    let Some(f) = frames::read(line, &mut combos) else {
         return malformed(out);
     };
     let r = f.request;

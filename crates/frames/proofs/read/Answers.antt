@@ -1,6 +1,6 @@
 -- `read` meets its contract: a line that fails a test is no frame, and nothing was written by then; a line that passes all
 -- is one, and its combinations alone are written. Assumes nothing.
-use Prim.Native.Nat.{◌+◌, ◌*◌, ◌<◌}
+use Prim.Native.Nat.{◌+◌, ◌*◌}
 use mathlib.Core.Path.{◌≡◌, sym, ◌∙◌}
 use mathlib.Core.Bool.{true, false}
 use native.Mathlib.Omega.{arith}
@@ -34,8 +34,8 @@ returns-then-line-n c =
     let a = c.args in
     let s = c.spelt in
     let t : spells a.line.now ≡ true = sym s.ensures ∙ c.if-not-spelt.false in
-    let n : length a.line.now ≡ c.count-n.result * 2 + 16 → ⊥ = c.if-line-n.true in
-    let e : c.count-n.result ≡ get_or (pairs a.line.now) 7 0 = c.count-n.ensures.0 ∙ c.byte_at.ensures in
+    let n : length a.line.now ≡ c.from-n.result * 2 + 16 → ⊥ = c.if-line-n.true in
+    let e : c.from-n.result ≡ get_or (pairs a.line.now) 7 0 = c.from-n.ensures ∙ c.byte_at.ensures in
     reads_malformed a.line.now a.combos.now (uneven_malformed a.line.now t (rw e at n))
 
 pub fill-requires : goal.fill-requires
@@ -43,7 +43,6 @@ fill-requires c =
     let s = c.spelt in
     let a = c.args in
     let g : length a.combos.now ≡ 255 = search rules in
-    let n : c.count-n.result < 256 = c.count-n.ensures.1 in
     (sym s.ensures ∙ c.if-not-spelt.false, c.if-line-n.false, omega arith)
 
 pub request_of-request-requires : goal.request_of-request-requires
@@ -56,7 +55,7 @@ returns c =
     let a = c.args in
     let s = c.spelt in
     let t : spells a.line.now ≡ true = sym s.ensures ∙ c.if-not-spelt.false in
-    let e : c.count-n.result ≡ get_or (pairs a.line.now) 7 0 = c.count-n.ensures.0 ∙ c.byte_at.ensures in
-    let n : length a.line.now ≡ c.count-n.result * 2 + 16 = c.if-line-n.false in
+    let e : c.from-n.result ≡ get_or (pairs a.line.now) 7 0 = c.from-n.ensures ∙ c.byte_at.ensures in
+    let n : length a.line.now ≡ c.from-n.result * 2 + 16 = c.if-line-n.false in
     let f = frame_is a.line.now c.op_of.ensures c.request_of-request.ensures n in
     rw c.fill.ensures (reads-frame a.line.now a.combos.now _ t (rw e at n) f)

@@ -1,19 +1,22 @@
 -- `request_of` meets its contract: each number is made of its own bytes. Assumes nothing.
-use Rattle.frames.proofs.Laws.{request_is, desk_of_byte, prec_of_byte, key_of_bytes}
+use Prim.Native.Nat.{◌+◌, ◌*◌}
+use mathlib.Core.Path.{◌≡◌}
+use native.Mathlib.Omega.{arith}
+use lib.ListN.{get_or}
+use Rattle.digits.specs.Digits.{pairs}
+use Rattle.digits.specs.machine.Log.{call_of}
 use Rattle.frames.proofs.request_of.Goals as goal
 
 pub returns : goal.returns
+unfolding call_of
 returns c =
-    let p = c.prec_of-prec.ensures in
-    let b5 = c.byte_at.ensures in
-    let b6 = c.byte_at-high.ensures in
-    let b7 = c.byte_at-low.ensures in
-    request_is _ _ record {
-      desk = desk_of_byte c.of-desk.ensures c.byte_at-id.ensures;
-      command = c.byte_at-command.ensures;
-      id = c.byte_at-id.ensures;
-      flags = c.byte_at-flags.ensures;
-      map = c.byte_at-map.ensures;
-      prec = prec_of_byte p b5;
-      key = key_of_bytes c.key_of.ensures b6 b7;
-    }
+    let bs = pairs c.args.line.now in
+    let command = c.byte_at-command.ensures in
+    let id = c.byte_at-id.ensures in
+    let flags = c.byte_at-flags.ensures in
+    let map = c.byte_at-map.ensures in
+    let prec = c.byte_at-prec.ensures in
+    let high = c.byte_at.ensures in
+    let low = c.byte_at-2.ensures in
+    let key : get_or bs 5 0 * 256 + get_or bs 6 0 ≡ 256 * get_or bs 5 0 + get_or bs 6 0 = omega arith in
+    rw (command, c.of-desk.ensures, id, flags, map, prec, c.from_be_bytes-key.ensures, high, low, key)

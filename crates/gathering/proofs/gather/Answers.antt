@@ -8,6 +8,7 @@ use lib.Seq.{length-take-le}
 use Rattle.memory.proofs.Splice.{splice_none}
 use Rattle.gathering.specs.Lumps.{front}
 use Rattle.gathering.proofs.Lumps.{front_within, gathers_ended, gathers_open}
+use borrow.Author.Rules.{rules}
 use Rattle.gathering.proofs.gather.Goals as goal
 use Rattle.gathering.proofs.gather.Goals.{then-k-gt0, else-k-gt0}
 
@@ -24,7 +25,7 @@ pub copy-requires : goal.copy-requires
 copy-requires c =
     let a = c.args in
     let k = c.kept-k in
-    let g : length a.line.now ≡ 527 = c.copy-arg-1.given.0.1 in
+    let g : length a.line.now ≡ 527 = search rules in
     let t : 0 < k.result = c.if-k-gt0.true in
     let m : k.result ≤ 527 - a.n = k.ensures.1 in
     let l = length-take k.result a.input.now in

@@ -8,19 +8,19 @@ use Rattle.serving.proofs.feed_sound.Goals as goal
 
 pub returns-in_default : goal.returns-in_default
 returns-in_default c =
-    let e = (malformed_none c.read-read.ensures c.in_default.is).0 in
+    let e = (malformed_none c.read.ensures c.in_default.is).0 in
     let w = dull-feeds c.requires.1 e (c.malformed.ensures (state_of c.args.state.now)) in
     (c.requires.0, w, dull-display _ w e)
 
 pub slice_bounds-serve-end : goal.slice_bounds-serve-end
 slice_bounds-serve-end c =
-    reads-length c.read-read.ensures
-    c.in-Call.is refl
+    reads-length c.read.ensures
+    c.in-Some.is refl
 
 pub serve-d-requires : goal.serve-d-requires
 serve-d-requires c =
-    let r = c.read-read.ensures in
-    let e = c.in-Call.is in
+    let r = c.read.ensures in
+    let e = c.in-Some.is in
     let k = reads-length r e refl in
     let b = (asked-frame r e).few in
     let p = c.requires in
@@ -39,8 +39,8 @@ tell-requires c =
 
 pub returns : goal.returns
 returns c =
-    let a = asked-frame c.read-read.ensures
-    c.in-Call.is in
+    let a = asked-frame c.read.ensures
+    c.in-Some.is in
     let e = c.serve-d.ensures in (
       e.0,
       served-feeds _ refl a e.1 c.order.ensures

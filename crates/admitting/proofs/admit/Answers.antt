@@ -1,9 +1,9 @@
--- `refusal` meets its contract, test by test. Assumes nothing.
+-- `admit` meets its contract, test by test. Assumes nothing.
 use native.Mathlib.Omega.{arith}
 use Rattle.image.proofs.Laws.{bytes_all}
 use Rattle.admitting.proofs.Laws.{bad_size, bad_display, bad_count, small_room, no_refusal}
 use borrow.Author.Rules.{rules}
-use Rattle.admitting.proofs.refusal.Goals as goal
+use Rattle.admitting.proofs.admit.Goals as goal
 
 pub returns-then-port-ne529 : goal.returns-then-port-ne529
 returns-then-port-ne529 c = let a = c.args in let r = bad_size a.port.now a.display a.room (λ e. c.if-port-ne529.true (omega arith)) in omega arith
