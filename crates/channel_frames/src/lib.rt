@@ -10,18 +10,17 @@ use queue::Queue;
 pub use sheet;
 use sheet::Draft;
 
-// The channel of a frame D1, without its writes.
+// The channel of a frame D1, without its writes. Its precedence stands there as two's complement.
 fn channel_of(f: &[u8]) -> Channel
     requires { length f.now ≡ 12 }
     ensures { result ≡ channel_from f.now }
 {
-    let q = Queue::empty();
     Channel {
         key: memory::key_at(f, 1),
-        prec: sheet::stored(f[3]),
+        prec: f[3].wrapping_add(128),
         locked: f[4] == 1,
         stopped: f[5] == 1,
-        writes: q,
+        writes: Queue::empty(),
     }
 }
 

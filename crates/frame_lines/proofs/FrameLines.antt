@@ -9,7 +9,9 @@ use native.Mathlib.Nat.{add-zero, zero-add}
 use borrow.Author.Tests.{eq-eqb, ne_eqb}
 use lib.Dec.{T, eqb}
 use lib.ListN.{length, get_or, take, drop, replicate, length-append, length-map, length-take, length-drop}
-use lib.Seq.{take-suc, length-take-le, take-take}
+use lib.Seq.{take-suc}
+use Rattle.std.proofs.Common.{get_or-take}
+use Rattle.std.specs.Int.{from_bool, to_be_bytes, w16}
 use Rattle.table.specs.memory.Splice.{splice, block}
 use Rattle.table.proofs.memory.Splice.{splice_all, splice_then, splice_none}
 use Rattle.table.proofs.Laws.{part_in}
@@ -27,7 +29,7 @@ use Rattle.table.specs.Entry.{key_in, list_in}
 use Rattle.board.specs.store.Store.{request_in}
 use Rattle.waiting.specs.Waiting.{Readable}
 use Rattle.saved.specs.Saved.{request_frame, spelt}
-use Rattle.frame_lines.specs.FrameLines.{request_line, span_line, write_line, entry_frame, kept_in, channel_line, writes_in, AllListed}
+use Rattle.frame_lines.specs.FrameLines.{request_line, span_line, write_line, entry_frame, kept_in, channel_line, writes_in, Listed, AllListed}
 
 -- ---- lines one behind the other
 
@@ -60,15 +62,13 @@ spelt-within f (x ∷ xs) (suc i) =
     let b = length-append (line (f x)) (spelt (map f xs)) in
     omega arith
 
--- there is room for one more of the first n
-pub room_more {ℓ} : {A : Type ℓ} (f : A → List ℕ) (xs : List A) (n i : ℕ) (d : A) → i < n → n ≤ length xs
-    → length (spelt (map f (take i xs))) + length (line (f (get_or xs i d))) ≤ length (spelt (map f (take n xs)))
-room_more f xs n i d h g =
-    let a = spelt-within f (take n xs) (i + 1) in
-    let t : take (i + 1) (take n xs) ≡ take (i + 1) xs = take-take (i + 1) n xs (omega arith) in
-    let b = ap length (spelt_more f xs i d (omega arith)) in
+-- there is room for one more
+pub room_more {ℓ} : {A : Type ℓ} (f : A → List ℕ) (xs : List A) (i : ℕ) (d : A) → i < length xs
+    → length (spelt (map f (take i xs))) + length (line (f (get_or xs i d))) ≤ length (spelt (map f xs))
+room_more f xs i d h =
+    let a = spelt-within f xs (i + 1) in
+    let b = ap length (spelt_more f xs i d h) in
     let c = length-append (spelt (map f (take i xs))) (line (f (get_or xs i d))) in
-    let e = ap (λ ys. length (spelt (map f ys))) t in
     omega arith
 
 -- ---- what was put
@@ -85,6 +85,18 @@ put_then {l} {vs = vs} {ws = ws} {at = at} {p = p} a b h =
 
 pub put_as : {l l₁ vs ws : List ℕ} {at p : ℕ} → Put l at vs p l₁ → vs ≡ ws → Put l at ws p l₁
 put_as {l} {l₁} {at = at} {p = p} a e = subst (λ vs. Put l at vs p l₁) e a
+
+-- ---- a key's two bytes, and a mark
+
+pub high_byte : (k : ℕ) {bs : List ℕ} → bs ≡ to_be_bytes w16 k → k < 65536 → get_or bs 0 0 ≡ k / 256
+high_byte k e h = let f = ap (λ l. get_or l 0 0) e in omega arith
+
+pub low_byte : (k : ℕ) {bs : List ℕ} → bs ≡ to_be_bytes w16 k → get_or bs 1 0 ≡ k % 256
+low_byte k e = let f = ap (λ l. get_or l 1 0) e in omega arith
+
+pub mark_from : (b : Bool) → from_bool b ≡ mark_of b
+mark_from true = refl
+mark_from false = refl
 
 -- ---- a part of an entry
 
@@ -136,21 +148,21 @@ unfolding entry_frame
 entry_span first i tb id n m = rw (ne_eqb first 0xD2 n, ne_eqb first 0xD5 m)
 
 -- the numbers of a request's entry make its frame
-pub request_line_lem : (tb : List ℕ) (id : ℕ) {k p m n : ℕ} {ms : List ℕ} → id < 64 → length tb ≡ 1472 → get_or (block 23 tb id) 6 0 ≤ 16
-    → k ≡ key_in (block 23 tb id) → p ≡ (get_or (block 23 tb id) 4 0 + 128) % 256 → m ≡ mark_of (eqb (get_or (block 23 tb id) 5 0) 1)
+pub request_line_lem : (tb : List ℕ) (id : ℕ) {h l p m n : ℕ} {ms : List ℕ} → id < 64 → length tb ≡ 1472 → get_or (block 23 tb id) 6 0 ≤ 16
+    → h ≡ key_in (block 23 tb id) / 256 → l ≡ key_in (block 23 tb id) % 256 → p ≡ (get_or (block 23 tb id) 4 0 + 128) % 256 → m ≡ mark_of (eqb (get_or (block 23 tb id) 5 0) 1)
     → n ≡ get_or (block 23 tb id) 6 0 → ms ≡ list_in (block 23 tb id)
-    → line (0xD2 ∷ id ∷ (k / 256) ∷ (k % 256) ∷ p ∷ m ∷ n ∷ ms) ≡ line (request_line tb id)
+    → line (0xD2 ∷ id ∷ h ∷ l ∷ p ∷ m ∷ n ∷ ms) ≡ line (request_line tb id)
 unfolding request_frame
-request_line_lem tb id h g j ek ep em en es =
+request_line_lem tb id h g j eh el ep em en es =
     let b = block 23 tb id in
-    rw (ek, ep, em, es)
+    rw (eh, el, ep, em, es)
     (ap (λ x. line (0xD2 ∷ id ∷ (key_in b / 256) ∷ (key_in b % 256) ∷ ((get_or b 4 0 + 128) % 256) ∷ mark_of (eqb (get_or b 5 0) 1) ∷ x ∷ list_in b))
     (en ∙ sym (length-list tb id h g j)))
 
-pub channel_line_lem : (tb : List ℕ) (c : Channel) {p m n : ℕ} {ks : List ℕ} → p ≡ (c.prec + 128) % 256 → m ≡ mark_of c.locked → n ≡ mark_of c.stopped
-    → ks ≡ kept_in tb c.writes → line (0xD1 ∷ (c.key / 256) ∷ (c.key % 256) ∷ p ∷ m ∷ n ∷ ks) ≡ line (channel_line tb c)
+pub channel_line_lem : (tb : List ℕ) (c : Channel) {h l p m n : ℕ} {ks : List ℕ} → h ≡ c.key / 256 → l ≡ c.key % 256 → p ≡ (c.prec + 128) % 256 → m ≡ mark_of c.locked → n ≡ mark_of c.stopped
+    → ks ≡ kept_in tb c.writes → line (0xD1 ∷ h ∷ l ∷ p ∷ m ∷ n ∷ ks) ≡ line (channel_line tb c)
 unfolding channel_line
-channel_line_lem tb c ep em en ek = rw (ep, em, en, ek)
+channel_line_lem tb c eh el ep em en ek = rw (eh, el, ep, em, en, ek)
 
 -- ---- what is remembered
 
@@ -182,13 +194,20 @@ length-channel tb c r =
     let f = length_line (channel_line tb c) in
     omega arith
 
+-- a channel among the first w
+pub listed_taken : (tb : List ℕ) (cs : List Channel) (w i : ℕ) (d : Channel) → AllListed cs tb → w ≤ 8 → i < length (take w cs) → Listed (get_or (take w cs) i d).writes tb
+listed_taken tb cs w i d r g h =
+    let n = length-take w cs in
+    let k : i < w = omega arith in
+    rw (get_or-take w cs i d k) (r i d (omega arith))
+
 -- there is room for one more of the first w
-pub channel_room : (tb : List ℕ) (cs : List Channel) (w i : ℕ) → AllListed cs tb → i < w → w ≤ 8 → length cs ≡ 8
-    → length (spelt (map (channel_line tb) (take i cs))) + 25 ≤ length (spelt (map (channel_line tb) (take w cs)))
-channel_room tb cs w i r h g e =
+pub channel_room : (tb : List ℕ) (cs : List Channel) (w i : ℕ) → AllListed cs tb → w ≤ 8 → i < length (take w cs)
+    → length (spelt (map (channel_line tb) (take i (take w cs)))) + 25 ≤ length (spelt (map (channel_line tb) (take w cs)))
+channel_room tb cs w i r g h =
     let d = channel_of free in
-    let a = room_more (channel_line tb) cs w i d h (omega arith) in
-    let b = length-channel tb (get_or cs i d) (r i d (omega arith)).0 in
+    let a = room_more (channel_line tb) (take w cs) i d h in
+    let b = length-channel tb (get_or (take w cs) i d) (listed_taken tb cs w i d r g h).0 in
     omega arith
 
 -- ---- the writes of channels
@@ -222,15 +241,13 @@ writes_step tb cs i d h =
     let e = rw zero-add at (writes_more tb 0 cs i d h) in
     ap spelt e ∙ spelt-append (writes_in tb 0 (take i cs)) (map (entry_frame 0xD5 i tb) (list_of (get_or cs i d).writes))
 
-pub writes_room : (tb : List ℕ) (cs : List Channel) (w i : ℕ) (d : Channel) → i < w → w ≤ length cs
-    → length (spelt (writes_in tb 0 (take i cs))) + length (spelt (map (entry_frame 0xD5 i tb) (list_of (get_or cs i d).writes))) ≤ length (spelt (writes_in tb 0 (take w cs)))
-writes_room tb cs w i d h g =
-    let a = writes_within tb 0 (take w cs) (i + 1) in
-    let t : take (i + 1) (take w cs) ≡ take (i + 1) cs = take-take (i + 1) w cs (omega arith) in
-    let e = ap (λ ys. length (spelt (writes_in tb 0 ys))) t in
-    let b = ap length (writes_step tb cs i d (omega arith)) ∙ length-append (spelt (writes_in tb 0 (take i cs))) (spelt (map (entry_frame 0xD5 i tb) (list_of (get_or cs i d).writes))) in
+pub writes_room : (tb : List ℕ) (cs : List Channel) (i : ℕ) (d : Channel) → i < length cs
+    → length (spelt (writes_in tb 0 (take i cs))) + length (spelt (map (entry_frame 0xD5 i tb) (list_of (get_or cs i d).writes))) ≤ length (spelt (writes_in tb 0 cs))
+writes_room tb cs i d h =
+    let a = writes_within tb 0 cs (i + 1) in
+    let b = ap length (writes_step tb cs i d h) ∙ length-append (spelt (writes_in tb 0 (take i cs))) (spelt (map (entry_frame 0xD5 i tb) (list_of (get_or cs i d).writes))) in
     omega arith
 
-pub writes_fit : (tb : List ℕ) (cs : List Channel) (w i : ℕ) (d : Channel) (at : ℕ) {p n m : ℕ} → i < w → w ≤ length cs → p ≡ at + length (spelt (writes_in tb 0 (take i cs)))
-    → at + length (spelt (writes_in tb 0 (take w cs))) ≤ n → m ≡ n → p + length (spelt (map (entry_frame 0xD5 i tb) (list_of (get_or cs i d).writes))) ≤ m
-writes_fit tb cs w i d at h g e f k = let r = writes_room tb cs w i d h g in omega arith
+pub writes_fit : (tb : List ℕ) (cs : List Channel) (i : ℕ) (d : Channel) (at : ℕ) {p n m : ℕ} → i < length cs → p ≡ at + length (spelt (writes_in tb 0 (take i cs)))
+    → at + length (spelt (writes_in tb 0 cs)) ≤ n → m ≡ n → p + length (spelt (map (entry_frame 0xD5 i tb) (list_of (get_or cs i d).writes))) ≤ m
+writes_fit tb cs i d at h e f k = let r = writes_room tb cs i d h in omega arith

@@ -2,10 +2,9 @@
 // function hands back the place behind what it wrote. Assumes nothing.
 #![tactic(auto)]
 
-ghost use Rattle.std.specs.Prelude.{◌≡◌, map, ◌+◌, ◌*◌, ◌%◌, ◌≤◌, ◌<◌, length, get_or};
+ghost use Rattle.std.specs.Prelude.{◌≡◌, map, ◌+◌, ◌*◌, ◌≤◌, ◌<◌, length, get_or};
 ghost use Rattle.table.specs.memory.Splice.{block};
 ghost use Rattle.machine_laws.specs.machine.Log.{line};
-ghost use Rattle.machine_laws.specs.machine.InBytes.{mark_of};
 ghost use Rattle.open_keys.specs.queue.Queue.{list_of};
 ghost use Rattle.hex_lines.specs.HexLines.{Put};
 ghost use Rattle.saved.specs.Saved.{spelt};
@@ -15,33 +14,20 @@ use open_keys::queue::Queue;
 pub use saved;
 pub use waiting;
 
-pub fn mark(on: bool) -> u8
-    ensures { result ≡ mark_of on }
-{
-    if on { 1 } else { 0 }
-}
-
-// A stored precedence as two's complement.
-pub fn signed(prec: u8) -> u8
-    ensures { result ≡ (prec + 128) % 256 }
-{
-    ((prec as u16 + 128) % 256) as u8
-}
-
-// D2: a waiting request.
+// D2: a waiting request, its precedence as two's complement.
 fn put_request(out: &mut [u8], at: usize, table: &[u8], id: u8) -> usize
     requires { (id < 64) × (length table.now ≡ 1472) × (get_or (block 23 table.now id) 6 0 ≤ 16) × (at + 15 + 2 * get_or (block 23 table.now id) 6 0 ≤ length out.old) }
     ensures { Put out.old at (line (request_line table.now id)) result out.new }
 {
     let ms = table::combos(table, id);
-    let key = table::key(table, id);
+    let [high, low] = table::key(table, id).to_be_bytes();
     let head = [
         0xD2u8,
         id,
-        (key / 256) as u8,
-        (key % 256) as u8,
-        signed(table::prec(table, id)),
-        mark(table::impatient(table, id)),
+        high,
+        low,
+        table::prec(table, id).wrapping_add(128),
+        u8::from(table::impatient(table, id)),
         table::count(table, id),
     ];
     hex_lines::put_line(out, at, &head, ms)
@@ -74,13 +60,11 @@ fn put_entry(out: &mut [u8], at: usize, first: u8, channel: u8, table: &[u8], id
     requires { (id < 64) × (length table.now ≡ 1472) × (get_or (block 23 table.now id) 6 0 ≤ 16) × (at + length (line (entry_frame first channel table.now id)) ≤ length out.old) }
     ensures { Put out.old at (line (entry_frame first channel table.now id)) result out.new }
 {
-    if first == 0xD2 {
-        return put_request(out, at, table, id);
+    match first {
+        0xD2 => put_request(out, at, table, id),
+        0xD5 => put_write(out, at, channel, table, id),
+        _ => put_span(out, at, first, table, id),
     }
-    if first == 0xD5 {
-        return put_write(out, at, channel, table, id);
-    }
-    put_span(out, at, first, table, id)
 }
 
 // The lines of a queue's requests, in order.
@@ -88,13 +72,10 @@ pub fn put_queue(out: &mut [u8], at: usize, first: u8, channel: u8, q: Queue, ta
     requires { Listed q table.now × (at + length (spelt (map (entry_frame first channel table.now) (list_of q))) ≤ length out.old) }
     ensures { Put out.old at (spelt (map (entry_frame first channel table.now) (list_of q))) result out.new }
 {
-    let ids = q.ids;
     let n = q.n as usize;
     let mut p = at;
-    let mut i: usize = 0;
-    while i < n {
-        p = put_entry(out, p, first, channel, table, ids[i]);
-        i += 1;
+    for id in &q.ids[..n] {
+        p = put_entry(out, p, first, channel, table, *id);
     }
     p
 }

@@ -30,10 +30,8 @@ pub fn put_numbers(out: &mut [u8], at: usize, w: usize, display: &[u8]) -> usize
     ensures { Put out.old at (spelt (number_lines w display.now)) result out.new }
 {
     let mut p = at;
-    let mut i: usize = 0;
-    while i < w {
+    for i in 0..w {
         p = put_number(out, p, i, display);
-        i += 1;
     }
     p
 }

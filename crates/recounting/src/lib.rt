@@ -21,14 +21,10 @@ fn words_of(q: Queue, table: &[u8]) -> u64
     requires { Readable q table.now }
     ensures { result ≡ weights (map (request_in table.now) (list_of q)) }
 {
-    let ids = q.ids;
     let n = q.n as usize;
     let mut all: u64 = 0;
-    let mut i: usize = 0;
-    while i < n {
-        let id = ids[i];
-        all += lanes::word(table::combos(table, id));
-        i += 1;
+    for id in &q.ids[..n] {
+        all += lanes::word(table::combos(table, *id));
     }
     all
 }
@@ -39,8 +35,7 @@ pub fn recount(b: Board, table: &[u8], display: &mut [u8])
 {
     let fresh = State::fresh();
     let s = b.state;
-    let q = s.waiting;
-    let waiting = words_of(q, table);
+    let waiting = words_of(s.waiting, table);
     memory::clear(display, 0, 18);
     correcting::show(display, fresh, s, 0, waiting, 0);
 }

@@ -31,20 +31,20 @@ fn kept(q: Queue, table: &[u8]) -> [u8; 6]
     b
 }
 
-// D1: a channel.
+// D1: a channel, its precedence as two's complement.
 fn put_channel(out: &mut [u8], at: usize, c: Channel, table: &[u8]) -> usize
     requires { Readable c.writes table.now × (at + 25 ≤ length out.old) }
     ensures { Put out.old at (line (channel_line table.now c)) result out.new }
 {
-    let q = c.writes;
-    let tail = kept(q, table);
+    let tail = kept(c.writes, table);
+    let [high, low] = c.key.to_be_bytes();
     let head = [
         0xD1u8,
-        (c.key / 256) as u8,
-        (c.key % 256) as u8,
-        frame_lines::signed(c.prec),
-        frame_lines::mark(c.locked),
-        frame_lines::mark(c.stopped),
+        high,
+        low,
+        c.prec.wrapping_add(128),
+        u8::from(c.locked),
+        u8::from(c.stopped),
     ];
     hex_lines::put_line(out, at, &head, &tail)
 }
@@ -54,11 +54,8 @@ pub fn put_channels(out: &mut [u8], at: usize, cs: [Channel; 8], w: usize, table
     ensures { Put out.old at (spelt (map (channel_line table.now) (take w cs))) result out.new }
 {
     let mut p = at;
-    let mut i: usize = 0;
-    while i < w {
-        let c = cs[i];
-        p = put_channel(out, p, c, table);
-        i += 1;
+    for c in &cs[..w] {
+        p = put_channel(out, p, *c, table);
     }
     p
 }

@@ -13,7 +13,7 @@ use span_frames::store::State;
 use span_frames::table;
 use span_frames::table::Head;
 
-// D2: a waiting request, behind the others.
+// D2: a waiting request, behind the others. Its precedence stands in the frame as two's complement.
 fn take_request(s: State, f: &[u8], table: &mut [u8]) -> State
     requires { length table.old ≡ 1472 }
     ensures { Took (request_taken f.now (sheet s 0 table.old [])) result table.new }
@@ -36,7 +36,7 @@ fn take_request(s: State, f: &[u8], table: &mut [u8]) -> State
         command: 32,
         key: memory::key_at(f, 2),
         map: 0,
-        prec: sheet::stored(f[4]),
+        prec: f[4].wrapping_add(128),
         impatient: f[5],
         n: f[6],
     };
@@ -92,25 +92,15 @@ fn take_part(first: u8, s: State, f: &[u8], table: &mut [u8], kept: &[u8]) -> St
     requires { (length s.channels ≡ 8) × (length table.old ≡ 1472) × (length kept.now ≡ 48) }
     ensures { Took (part_taken first f.now (sheet s 0 table.old kept.now)) result table.new }
 {
-    if first == 0xD2 {
-        return take_request(s, f, table);
+    match first {
+        0xD2 => take_request(s, f, table),
+        0xD3 => span_frames::take_lock(s, f, table),
+        0xD4 => span_frames::take_waiter(s, f, table),
+        0xD5 => write_frames::take_write(s, f, table, kept),
+        0xD6 => take_open(s, f),
+        0xD7 => take_last(s, f),
+        _ => s,
     }
-    if first == 0xD3 {
-        return span_frames::take_lock(s, f, table);
-    }
-    if first == 0xD4 {
-        return span_frames::take_waiter(s, f, table);
-    }
-    if first == 0xD5 {
-        return write_frames::take_write(s, f, table, kept);
-    }
-    if first == 0xD6 {
-        return take_open(s, f);
-    }
-    if first == 0xD7 {
-        return take_last(s, f);
-    }
-    s
 }
 
 // Any frame.

@@ -20,22 +20,17 @@ fn put_key(out: &mut [u8], at: usize, first: u8, key: u16) -> usize
     requires { at + 7 ≤ length out.old }
     ensures { Put out.old at (line (key_frame first key)) result out.new }
 {
-    let head = [first];
-    let tail = [(key / 256) as u8, (key % 256) as u8];
-    hex_lines::put_line(out, at, &head, &tail)
+    hex_lines::put_line(out, at, &[first], &key.to_be_bytes())
 }
 
 fn put_opens(out: &mut [u8], at: usize, q: Keys) -> usize
     requires { (q.n ≤ 32) × (q.n ≤ length q.keys) × (at + length (spelt (map (key_frame OPEN) (keys_in q))) ≤ length out.old) }
     ensures { Put out.old at (spelt (map (key_frame OPEN) (keys_in q))) result out.new }
 {
-    let keys = q.keys;
     let n = q.n as usize;
     let mut p = at;
-    let mut i: usize = 0;
-    while i < n {
-        p = put_key(out, p, 0xD6, keys[i]);
-        i += 1;
+    for key in &q.keys[..n] {
+        p = put_key(out, p, 0xD6, *key);
     }
     p
 }

@@ -16,12 +16,9 @@ pub fn put_requests(out: &mut [u8], at: usize, s: State, table: &[u8]) -> usize
     requires { WideHeld s table.now × (at + length (request_lines s table.now) ≤ length out.old) }
     ensures { Put out.old at (request_lines s table.now) result out.new }
 {
-    let waiting = s.waiting;
-    let locks = s.locks;
-    let waiters = s.waiters;
-    let p = frame_lines::put_queue(out, at, 0xD2, 0, waiting, table);
-    let p = frame_lines::put_queue(out, p, 0xD3, 0, locks, table);
-    frame_lines::put_queue(out, p, 0xD4, 0, waiters, table)
+    let p = frame_lines::put_queue(out, at, 0xD2, 0, s.waiting, table);
+    let p = frame_lines::put_queue(out, p, 0xD3, 0, s.locks, table);
+    frame_lines::put_queue(out, p, 0xD4, 0, s.waiters, table)
 }
 
 // The writes of each channel, front first.
@@ -30,12 +27,8 @@ pub fn put_writes(out: &mut [u8], at: usize, cs: [Channel; 8], w: usize, table: 
     ensures { Put out.old at (spelt (writes_in table.now 0 (take w cs))) result out.new }
 {
     let mut p = at;
-    let mut i: usize = 0;
-    while i < w {
-        let c = cs[i];
-        let q = c.writes;
-        p = frame_lines::put_queue(out, p, 0xD5, i as u8, q, table);
-        i += 1;
+    for (i, c) in cs[..w].iter().enumerate() {
+        p = frame_lines::put_queue(out, p, 0xD5, i as u8, c.writes, table);
     }
     p
 }

@@ -4,4 +4,4 @@ use Rattle.channel_frames.proofs.channel_of.Goals as goal
 
 pub returns : goal.returns
 unfolding channel_from
-returns c = rw (c.empty-q.ensures, c.key_at.ensures, c.stored.ensures)
+returns c = rw (c.empty.ensures, c.key_at.ensures)

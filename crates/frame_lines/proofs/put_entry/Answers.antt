@@ -16,8 +16,8 @@ put_request-requires c =
     let r = c.requires.3 in
     (c.requires.0, c.requires.1, c.requires.2, omega arith)
 
-pub returns-then-first-eq210 : goal.returns-then-first-eq210
-returns-then-first-eq210 c =
+pub returns-in-210 : goal.returns-in-210
+returns-in-210 c =
     let a = c.args in
     put_as c.put_request.ensures (ap line (sym (entry-request a.first a.channel a.table.now a.id (omega arith))))
 
@@ -31,8 +31,8 @@ put_write-requires c =
     let r = c.requires.3 in
     (c.requires.0, c.requires.1, omega arith)
 
-pub returns-then-first-eq213 : goal.returns-then-first-eq213
-returns-then-first-eq213 c =
+pub returns-in-213 : goal.returns-in-213
+returns-in-213 c =
     let a = c.args in
     put_as c.put_write.ensures (ap line (sym (entry_write a.first a.channel a.table.now a.id (λ z. omega arith) (omega arith))))
 
@@ -46,7 +46,7 @@ put_span-requires c =
     let r = c.requires.3 in
     (c.requires.0, c.requires.1, omega arith)
 
-pub returns : goal.returns
-returns c =
+pub returns-in_default : goal.returns-in_default
+returns-in_default c =
     let a = c.args in
     put_as c.put_span.ensures (ap line (sym (entry_span a.first a.channel a.table.now a.id (λ z. omega arith) (λ z. omega arith))))

@@ -3,45 +3,48 @@ use Prim.Native.Nat.{ℕ, ◌+◌, ◌-◌, ◌<◌}
 use mathlib.Core.Path.{◌≡◌, refl, ap, ◌∙◌}
 use mathlib.Core.List.{map}
 use native.Mathlib.Omega.{arith}
-use lib.ListN.{length, take}
+use lib.ListN.{length, take, length-take}
+use lib.Seq.{take_all}
+use Rattle.std.proofs.Common.{get_or-take}
+use Rattle.queue.specs.Queue.{list_of}
 use Rattle.board.specs.store.Store.{request_in}
 use Rattle.correcting.specs.lanes.Lanes.{word_of, weights}
 use Rattle.recounting.proofs.Recounting.{words_more, words_fit}
 use borrow.Author.Rules.{rules}
 use Rattle.recounting.proofs.words_of.Goals as goal
 
-pub loop-i-init : goal.loop-i-init
+pub loop-id-init : goal.loop-id-init
 unfolding weights
-loop-i-init c = (search rules, refl)
+loop-id-init c = refl
 
 pub combos-requires : goal.combos-requires
 combos-requires c =
     let p = c.requires in
-    let k : c.loop-i.i < c.args.q.n = search rules in
-    (p.small _ k, p.long, p.lists _ k)
+    let q = c.args.q in
+    let i = c.loop-id.id-index in
+    let h : i < length (list_of q) = c.loop-id-test.true in
+    let k : i < q.n = omega (arith, length-take q.n q.ids) in
+    let g = get_or-take q.n q.ids i 0 k in
+    (rw g (p.small i k), p.long, rw g (p.lists i k))
 
 pub overflow_add-all : goal.overflow_add-all
 overflow_add-all c =
-    let l = c.loop-i in
-    let z : length c.args.q.ids ≡ 64 = search rules in
-    let i : l.i < length c.args.q.ids = omega (arith, c.requires.few, c.loop-i-test.true) in
-    let m = words_more c.args.table.now c.args.q.ids l.i i in
+    let l = c.loop-id in
+    let xs = list_of c.args.q in
+    let h : l.id-index < length xs = c.loop-id-test.true in
+    let m = words_more c.args.table.now xs l.id-index h in
     let w = c.word-all.ensures ∙ ap word_of c.combos.ensures in
-    let f = words_fit c.args.table.now c.args.q.ids (l.i + 1)
-    (omega (arith, c.requires.few, c.loop-i-test.true)) in
-    omega (arith, m, w, f, l.invariant.1)
+    let f = words_fit c.args.table.now xs (l.id-index + 1) (omega (arith, c.requires.few, length-take c.args.q.n c.args.q.ids)) in
+    omega (arith, m, w, f, l.invariant)
 
-pub loop-i-preserved : goal.loop-i-preserved
-loop-i-preserved c =
-    let l = c.loop-i in
-    let z : length c.args.q.ids ≡ 64 = search rules in
-    let i : l.i < length c.args.q.ids = omega (arith, c.requires.few, c.loop-i-test.true) in
-    let m = words_more c.args.table.now c.args.q.ids l.i i in
+pub loop-id-preserved : goal.loop-id-preserved
+loop-id-preserved c =
+    let l = c.loop-id in
+    let m = words_more c.args.table.now (list_of c.args.q) l.id-index c.loop-id-test.true in
     let w = c.word-all.ensures ∙ ap word_of c.combos.ensures in
-    (search rules, omega (arith, m, w, l.invariant.1))
+    omega (arith, m, w, l.invariant)
 
 pub returns : goal.returns
 returns c =
-    let l = c.loop-i in
-    let e : l.i ≡ c.args.q.n = search rules in
-    l.invariant.1 ∙ ap (λ (i : ℕ). weights (map (request_in c.args.table.now) (take i c.args.q.ids))) e
+    let l = c.loop-id in
+    l.invariant ∙ ap (λ xs. weights (map (request_in c.args.table.now) xs)) (take_all l.id-index (list_of c.args.q) (omega arith))

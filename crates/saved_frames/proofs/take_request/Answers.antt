@@ -33,4 +33,4 @@ unfolding request_entry
 returns c =
     let a = c.args in
     request-took a.f.now a.s a.table.now _ _ (let z : 7 ≤ length a.f.now = omega arith in z) (let z : length a.f.now ≤ 23 = omega arith in z) (let z : get_or a.f.now 1 0 < 64 = omega arith in z) (let z : a.s.waiting.n < 64 = omega arith in z) c.push-more.ensures
-    (c.put_all.ensures ∙ rw (c.key_at.ensures, c.stored.ensures, rest_is_drop 7 a.f.now))
+    (c.put_all.ensures ∙ rw (c.key_at.ensures, rest_is_drop 7 a.f.now))

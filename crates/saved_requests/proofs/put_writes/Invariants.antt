@@ -1,16 +1,9 @@
 -- `put_writes` meets its contract: after i turns the writes of the first i channels stand there. Assumes nothing.
-use Prim.Native.Nat.{◌+◌, ◌-◌, ◌≤◌}
-use mathlib.Core.Path.{◌≡◌}
-use lib.ListN.{length, take}
+use lib.ListN.{take}
 use Rattle.hex_lines.specs.HexLines.{Put}
 use Rattle.frame_lines.specs.saved.Saved.{spelt}
-use Rattle.frame_lines.specs.FrameLines.{writes_in, AllListed}
+use Rattle.frame_lines.specs.FrameLines.{writes_in}
 use Rattle.saved_requests.proofs.put_writes.Given as goal
 
 abbrev pub invariant-loop-i : goal.invariant-loop-i
-invariant-loop-i l = (l.i ≤ l.w) × (l.w ≤ 8) × AllListed l.cs l.table × (length l.cs ≡ 8)
-    × (l.at + length (spelt (writes_in l.table 0 (take l.w l.cs))) ≤ length l.initial.out) × (length l.out ≡ length l.initial.out)
-    × Put l.initial.out l.at (spelt (writes_in l.table 0 (take l.i l.cs))) l.p l.out
-
-abbrev pub decreases-loop-i : goal.decreases-loop-i
-decreases-loop-i l = l.w - l.i
+invariant-loop-i l = Put l.initial.out l.at (spelt (writes_in l.table 0 (take l.i l.c-items))) l.p l.out
