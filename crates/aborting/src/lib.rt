@@ -13,6 +13,7 @@ ghost use Rattle.aborting.specs.Aborting.{cancels as cancels_m};
 use answers::reply::Reply;
 use answers::store::State;
 use answers::{Outcome, Request, reply};
+use audio::{ADCMD_ALLOCATE, ADCMD_WAITCYCLE, CMD_WRITE, IOERR_ABORTED};
 use fronts::Front;
 use locks::fates::End;
 use locks::table;
@@ -20,7 +21,7 @@ use locks::table;
 fn cancels(command: u8) -> bool
     ensures { result ≡ cancels_m command }
 {
-    command == 3 || command == 14 || command == 32
+    command == CMD_WRITE || command == ADCMD_WAITCYCLE || command == ADCMD_ALLOCATE
 }
 
 // Removed, and replied -2 with the command and the key that its entry has.
@@ -37,7 +38,7 @@ fn cancel(r: Request, s: State, table: &mut [u8], replies: &mut [u8], command: u
         Reply {
             id: r.id,
             command,
-            error: 254,
+            error: IOERR_ABORTED,
             map: 0,
             key,
         },

@@ -115,7 +115,13 @@ impl TryFrom<u8> for Command {
 
 // ---- errors
 
+pub const IOERR_ABORTED: u8 = 254;
+
+pub const ADIOERR_NOALLOCATION: u8 = 246;
+
 pub const ADIOERR_ALLOCFAILED: u8 = 245;
+
+pub const ADIOERR_CHANNELSTOLEN: u8 = 244;
 
 // ---- the arbiter's own refusals
 

@@ -13,6 +13,7 @@ ghost use Rattle.awaiting.specs.Awaiting.{awaited_by};
 
 use answers::store::State;
 use answers::{Outcome, Request};
+use audio::{ADCMD_WAITCYCLE, ADIOERR_NOALLOCATION};
 pub use play;
 use table::Head;
 
@@ -25,7 +26,7 @@ fn enter(r: Request, s: State, table: &mut [u8], map: u8) -> State
         table,
         r.id,
         Head {
-            command: 14,
+            command: ADCMD_WAITCYCLE,
             key: r.key,
             map,
             prec: 0,
@@ -44,11 +45,10 @@ pub fn wait_cycle(r: Request, s: State, table: &mut [u8], replies: &mut [u8]) ->
     requires { Ready s table.old replies.old 0 1 × (r.command ≡ 14) × (r.id < 64) × T (not (among r.id (ids (state_in s table.old)))) }
     ensures { Does (do_waitcycle (call_of r [])) s table.old replies.old result table.new replies.new }
 {
-    let i = play::place(r, s);
-    if 8 <= i {
-        let no = answers::done(246, 0, r.key, 255);
+    let Some(i) = play::place(r, s) else {
+        let no = answers::done(ADIOERR_NOALLOCATION, 0, r.key, 255);
         return answers::finished(r, no, s, replies, 0);
-    }
+    };
     let b = play::bit(i);
     let cs = s.channels;
     let c = cs[i];

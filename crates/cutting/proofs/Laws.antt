@@ -26,7 +26,7 @@ use Rattle.answers.specs.store.declared.State.{State}
 use Rattle.answers.specs.store.Store.{write_item, state_in, Held, Small}
 use Rattle.answers.specs.store.Work.{Ready, Did}
 use Rattle.answers.proofs.store.Store.{held_parts, held_eight, write_ids}
-use Rattle.sweep.specs.dropped_writes.declared.Dropped.{Dropped}
+use Rattle.sweep.specs.dropped_writes.locks.declared.Sifted.{Sifted}
 use Rattle.sweep.specs.dropped_writes.DroppedWrites.{writes_in, Writables, held_in, Dropping, Drops}
 use Rattle.sweep.proofs.granting.Laws.{Splits, Cuts, aborted_of, writes_of_lem, aborted_changed, writes_changed, writables_of, held_channels, held_changed, dropping, cuts}
 use Rattle.answers.specs.declared.Request.{Request}
@@ -36,7 +36,7 @@ use Rattle.answers.specs.Answers.{call_of, answer_of, Told}
 use Rattle.sweep.specs.Sweep.{error_at}
 use Rattle.sweep.proofs.Matching.{match_is}
 use Rattle.sweep.proofs.Steps.{Ends, end_room, changed_to, cut_did, told_each}
-use Rattle.cutting.specs.declared.Cut.{Cut}
+use Rattle.answers.specs.store.declared.Progress.{Progress}
 use Rattle.cutting.specs.Cutting.{CutsFronts, finish_replies}
 
 -- ---- the front write and those behind it
@@ -111,8 +111,8 @@ module _ {st : State} {tb l : List ℕ} {n m : ℕ} (b : m < 256) {fs : List Cha
   pub cut_asks : Dropping m fs st.waiters tb l n
   cut_asks = dropping p.held front_gone front_only front_splits m b fronts_writable fronts_lent p.room fits
 
-  pub fronts_cut : {q : Dropped} {tb₁ l₁ : List ℕ} → Drops m fs st.waiters tb l n q tb₁ l₁ → {ds : List Channel} → ds ≡ change_each (changed_of FrontGone) m st.channels
-      → CutsFronts m st tb l n (record { state = changed_to st ds q.waiters; n = q.n }) tb₁ l₁
+  pub fronts_cut : {q : Sifted} {tb₁ l₁ : List ℕ} → Drops m fs st.waiters tb l n q tb₁ l₁ → {ds : List Channel} → ds ≡ change_each (changed_of FrontGone) m st.channels
+      → CutsFronts m st tb l n (record { state = changed_to st ds q.left; n = q.n }) tb₁ l₁
   fronts_cut {q} {tb₁} {l₁} w v =
       cut_did p.held FrontGone m v
       (subst (λ (rs : List Reply). Cuts front_gone m (state_in st tb) rs l n q tb₁ l₁) replies_are
@@ -139,7 +139,7 @@ module _ {st : State} {tb l : List ℕ} {ok on : ℕ} (r : Request) (e : ok ≡ 
       let f = p.fits in
       record { held = p.held; room = p.room; fits = rw (on_is p.held r e o) (omega arith) }
 
-  module _ {d : Cut} {tb₁ l₁ : List ℕ} (w : CutsFronts on st tb l 0 d tb₁ l₁) where
+  module _ {d : Progress} {tb₁ l₁ : List ℕ} (w : CutsFronts on st tb l 0 d tb₁ l₁) where
     finish-cuts : Did (cut_fronts (in_progress (matching r.key r.map (state_in st tb).channels) (state_in st tb).channels) (state_in st tb)) (finish_replies r (state_in st tb)) l 0 d.state tb₁ l₁ d.n
     finish-cuts = subst (λ (m : ℕ). CutsFronts m st tb l 0 d tb₁ l₁) (on_is p.held r e o) w
 

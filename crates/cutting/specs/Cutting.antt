@@ -11,9 +11,9 @@ use Rattle.answers.specs.store.declared.State.{State}
 use Rattle.answers.specs.store.Store.{state_in}
 use Rattle.answers.specs.store.Work.{Did}
 use Rattle.answers.specs.declared.Request.{Request}
-use Rattle.cutting.specs.declared.Cut.{Cut}
+use Rattle.answers.specs.store.declared.Progress.{Progress}
 
-abbrev pub CutsFronts : ℕ → State → List ℕ → List ℕ → ℕ → Cut → List ℕ → List ℕ → Type 0
+abbrev pub CutsFronts : ℕ → State → List ℕ → List ℕ → ℕ → Progress → List ℕ → List ℕ → Type 0
 CutsFronts m s tb l n d tb' l' = Did (cut_fronts m (state_in s tb)) (front_replies m (state_in s tb)) l n d.state tb' l' d.n
 
 abbrev pub finish_replies : Request → StateM → List Reply

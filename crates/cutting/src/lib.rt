@@ -10,7 +10,7 @@ ghost use Rattle.answers.specs.store.Work.{Ready};
 ghost use Rattle.answers.specs.Answers.{call_of, Does};
 ghost use Rattle.cutting.specs.Cutting.{CutsFronts, finish_replies};
 
-use answers::store::State;
+use answers::store::{Progress, State};
 use answers::{Outcome, Request};
 use channel::Change;
 pub use fronts;
@@ -18,16 +18,9 @@ use fronts::Front;
 use sweep::dropped_writes;
 pub use sweep::granting;
 
-// The state without the front writes, and how many replies there are.
-#[derive(Clone, Copy)]
-pub struct Cut {
-    pub state: State,
-    pub n: usize,
-}
-
 // The front writes of the channels that the map names are replied -2, then those who wait for a cycle of theirs. The channels are lent
 // with those writes alone.
-pub fn cut_fronts(s: State, table: &mut [u8], replies: &mut [u8], n: usize, map: u8) -> Cut
+pub fn cut_fronts(s: State, table: &mut [u8], replies: &mut [u8], n: usize, map: u8) -> Progress
     requires { Ready s table.old replies.old n (length (front_replies map (state_in s table.old))) }
     ensures { CutsFronts map s table.old replies.old n result table.new replies.new }
 {
@@ -36,11 +29,11 @@ pub fn cut_fronts(s: State, table: &mut [u8], replies: &mut [u8], n: usize, map:
     let q = s.waiters;
     let d = dropped_writes::drop_named(table, replies, n, fronts, q, map);
     let ds = channel::change_named(cs, map, Change::FrontGone);
-    let left = d.waiters;
+    let left = d.left;
     let mut t = s;
     t.channels = ds;
     t.waiters = left;
-    Cut { state: t, n: d.n }
+    Progress { state: t, n: d.n }
 }
 
 pub fn finish(r: Request, s: State, table: &mut [u8], replies: &mut [u8]) -> Outcome

@@ -52,7 +52,7 @@ module _ {m : ℕ} {cs : List Channel} {q : Queue} {tb l : List ℕ} {n : ℕ} (
         }
 
     pub dropt : {f : Sifted} {tb₂ l₂ : List ℕ} → Sifts Cut m q tb₁ l₁ at f tb₂ l₂
-        → Dropt m (held_in tb cs) a.pre a.ws a.post l n (record { waiters = f.left; n = f.n }) tb₂ l₂
+        → Dropt m (held_in tb cs) a.pre a.ws a.post l n f tb₂ l₂
     unfolding sifting told
     dropt d =
         let v = d sifting in

@@ -27,7 +27,7 @@ use Rattle.machine.specs.Granting.{aborted, aborted_in, on_channels, given_up}
 use Rattle.locks.specs.reply.Replies.{sent}
 use Rattle.locks.specs.store.Store.{Item, waiter_item, entries, write_in, Small, Each}
 use Rattle.locks.specs.Locks.{Locked}
-use Rattle.dropped_writes.specs.declared.Dropped.{Dropped}
+use Rattle.locks.specs.declared.Sifted.{Sifted}
 
 unfoldable pub idled : List ℕ → List ℕ → List ℕ
 idled [] tb = tb
@@ -74,12 +74,12 @@ pub record Dropping (m : ℕ) (cs : List Channel) (q : Queue) (tb l : List ℕ) 
   pub locked : Locked ADCMD_WAITCYCLE pre ws post q (idled (writes_in m (held_in tb cs)) tb)
   pub room : n * 6 + length (drop_replies m (held_in tb cs) ws) * 6 ≤ length l
 
-pub record Dropt (m : ℕ) (cs : List ChannelM) (pre : List Item) (ws : List Lock) (post : List Item) (l : List ℕ) (n : ℕ) (r : Dropped) (tb' l' : List ℕ)
+pub record Dropt (m : ℕ) (cs : List ChannelM) (pre : List Item) (ws : List Lock) (post : List Item) (l : List ℕ) (n : ℕ) (r : Sifted) (tb' l' : List ℕ)
     : Type 0 where
-  pub queue : r.waiters ≡ queue_of (map (λ w. w.id) (stays m ws))
+  pub queue : r.left ≡ queue_of (map (λ w. w.id) (stays m ws))
   pub table : tb' ≡ entries 64 0 (pre ++ map waiter_item (stays m ws) ++ post)
   pub replies : l' ≡ sent l n (drop_replies m cs ws)
   pub count : r.n ≡ n + length (drop_replies m cs ws)
 
-abbrev pub Drops : ℕ → List Channel → Queue → List ℕ → List ℕ → ℕ → Dropped → List ℕ → List ℕ → Type 0
+abbrev pub Drops : ℕ → List Channel → Queue → List ℕ → List ℕ → ℕ → Sifted → List ℕ → List ℕ → Type 0
 Drops m cs q tb l n r tb' l' = (a : Dropping m cs q tb l n) → Dropt m (held_in tb cs) a.pre a.ws a.post l n r tb' l'

@@ -8,11 +8,12 @@ ghost use Rattle.queue.specs.Queue.{list_of};
 ghost use Rattle.machine.specs.Granting.{aborted_in};
 ghost use Rattle.dropped_writes.specs.DroppedWrites.{Writable, Writables, held_in, Aborts, AbortsIn, Dropping, Drops};
 
+use audio::{CMD_WRITE, IOERR_ABORTED};
 use channel::Channel;
 pub use locks;
 use locks::fates::End;
 use locks::reply::Reply;
-use locks::{reply, table};
+use locks::{Sifted, reply, table};
 use queue::Queue;
 
 // Every write of a channel, oldest first.
@@ -20,27 +21,17 @@ pub fn abort_writes(table: &mut [u8], replies: &mut [u8], n: usize, c: Channel) 
     requires { Writable c × (length table.old ≡ 1472) × (n * 6 + length (list_of c.writes) * 6 ≤ length replies.old) }
     ensures { Aborts c n table.old replies.old result table.new replies.new }
 {
-    let q = c.writes;
-    let ids = q.ids;
-    let many = q.n as usize;
-    let key = c.key;
     let mut at = n;
-    let mut i: usize = 0;
-    while i < many {
-        let id = ids[i];
-        at = reply::put(
-            replies,
-            at,
-            Reply {
-                id,
-                command: 3,
-                error: 254,
-                map: 0,
-                key,
-            },
-        );
+    for &id in &c.writes.ids[..c.writes.n as usize] {
+        let r = Reply {
+            id,
+            command: CMD_WRITE,
+            error: IOERR_ABORTED,
+            map: 0,
+            key: c.key,
+        };
+        at = reply::put(replies, at, r);
         table::clear(table, id);
-        i += 1;
     }
     at
 }
@@ -57,26 +48,16 @@ pub fn abort_named(
     ensures { AbortsIn map cs n table.old replies.old result table.new replies.new }
 {
     let mut at = n;
-    let mut i: usize = 0;
-    while i < 8 {
+    for (i, &c) in cs.iter().enumerate() {
         if channel::names(map, i) {
-            let c = cs[i];
             at = abort_writes(table, replies, at, c);
         }
-        i += 1;
     }
     at
 }
 
-// The WAITCYCLEs that are left, and how many replies there are.
-#[derive(Clone, Copy)]
-pub struct Dropped {
-    pub waiters: Queue,
-    pub n: usize,
-}
-
 // Every write of the channels that a map names is aborted, and those who wait for a cycle there are told after them: the one function
-// through which a front write ends otherwise than at a cycle's end. Where the front writes alone end, the channels are lent with those
+// through which a front write ends otherwise than at a cycle's end. The WAITCYCLEs that are left are in its result. Where the front writes alone end, the channels are lent with those
 // alone.
 pub fn drop_named(
     table: &mut [u8],
@@ -85,15 +66,10 @@ pub fn drop_named(
     cs: [Channel; 8],
     waiters: Queue,
     map: u8,
-) -> Dropped
+) -> Sifted
     requires { Dropping map cs waiters table.old replies.old n }
     ensures { Drops map cs waiters table.old replies.old n result table.new replies.new }
 {
     let at = abort_named(table, replies, n, cs, map);
-    let f = locks::sift(waiters, table, replies, at, map, End::Cut);
-    let left = f.left;
-    Dropped {
-        waiters: left,
-        n: f.n,
-    }
+    locks::sift(waiters, table, replies, at, map, End::Cut)
 }

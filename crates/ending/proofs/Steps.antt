@@ -31,7 +31,7 @@ use Rattle.tuning.specs.cycles.Cycles.{turn_in, turn_of, next_of, turn_replies, 
 use Rattle.tuning.proofs.cycles.Laws.{turn_is, turn_replies_lem, turn_queue_lem}
 use Rattle.tuning.specs.retuning.declared.Tune.TheVariants.{Next}
 use Rattle.tuning.specs.Tuning.{Tunes}
-use Rattle.ending.specs.declared.Ended.{Ended}
+use Rattle.tuning.specs.store.declared.Progress.{Progress}
 use Rattle.ending.specs.Ending.{Led, end_reply, EndsWrite, with_cycle, cycle_replies, EndsCycle}
 
 -- ---- the front write's entry
@@ -121,7 +121,7 @@ module _ {st : State} {tb : List ℕ} (h : Held st tb) (i : ℕ) (g : i < 8) (a 
   unfolding front
   end_is e m = rw a.queue refl
 
-  module _ {l : List ℕ} {n : ℕ} {d : Ended} {tb' l' : List ℕ} where
+  module _ {l : List ℕ} {n : ℕ} {d : Progress} {tb' l' : List ℕ} where
     pub cycle_cut : turn_of a.first ≡ Cut → EndsWrite i 254 0 st tb l n d tb' l' → EndsCycle i st tb l n d tb' l'
     cycle_cut e w =
         subst (λ (rs : List Reply). Did (with_cycle i s) rs l n d.state tb' l' d.n) (ap (λ (x : Reply). x ∷ []) (end_is 254 0) ∙ sym (turn_told Cut e))

@@ -15,7 +15,7 @@ use Rattle.tuning.specs.store.declared.State.{State}
 use Rattle.tuning.specs.store.Store.{state_in}
 use Rattle.tuning.specs.store.Work.{Did}
 use Rattle.play.specs.Play.{with_front}
-use Rattle.ending.specs.declared.Ended.{Ended}
+use Rattle.tuning.specs.store.declared.Progress.{Progress}
 
 pub record Led (i : ℕ) (s : StateM) : Type 0 where
   pub first : Write
@@ -33,7 +33,7 @@ end_reply i e m s =
       key = (get_or s.channels i free).key;
     }
 
-abbrev pub EndsWrite : ℕ → ℕ → ℕ → State → List ℕ → List ℕ → ℕ → Ended → List ℕ → List ℕ → Type 0
+abbrev pub EndsWrite : ℕ → ℕ → ℕ → State → List ℕ → List ℕ → ℕ → Progress → List ℕ → List ℕ → Type 0
 EndsWrite i e m s tb l n d tb' l' = Did (with_front i (state_in s tb)) (end_reply i e m (state_in s tb) ∷ []) l n d.state tb' l' d.n
 
 abbrev pub with_cycle : ℕ → StateM → StateM
@@ -42,5 +42,5 @@ with_cycle i s = with_channels (set s.channels i (front_cycled (get_or s.channel
 abbrev pub cycle_replies : ℕ → StateM → List Reply
 cycle_replies i s = last_replies (2 ^ i) (get_or s.channels i free).key (get_or s.channels i free).writes
 
-abbrev pub EndsCycle : ℕ → State → List ℕ → List ℕ → ℕ → Ended → List ℕ → List ℕ → Type 0
+abbrev pub EndsCycle : ℕ → State → List ℕ → List ℕ → ℕ → Progress → List ℕ → List ℕ → Type 0
 EndsCycle i s tb l n d tb' l' = Did (with_cycle i (state_in s tb)) (cycle_replies i (state_in s tb)) l n d.state tb' l' d.n

@@ -10,20 +10,14 @@ ghost use Rattle.tuning.specs.store.Work.{Ready};
 ghost use Rattle.tuning.specs.cycles.Cycles.{turn_in};
 ghost use Rattle.ending.specs.Ending.{Led, EndsWrite, EndsCycle};
 
+use audio::{CMD_WRITE, IOERR_ABORTED};
 pub use play;
 use tuning::cycles::Turn;
 use tuning::reply::Reply;
 use tuning::retuning::Tune;
-use tuning::store::State;
+use tuning::store::{Progress, State};
 use tuning::table::Head;
 use tuning::{cycles, reply, table};
-
-// The state after it, and how many replies there are.
-#[derive(Clone, Copy)]
-pub struct Ended {
-    pub state: State,
-    pub n: usize,
-}
 
 // What becomes of the write of an id.
 fn turn_at(table: &[u8], id: u8) -> Turn
@@ -44,7 +38,7 @@ fn end_write(
     i: usize,
     error: u8,
     map: u8,
-) -> Ended
+) -> Progress
     requires { Ready s table.old replies.old n 1 × (i < 8) × Led i (state_in s table.old) }
     ensures { EndsWrite i error map s table.old replies.old n result table.new replies.new }
 {
@@ -57,7 +51,7 @@ fn end_write(
         n,
         Reply {
             id,
-            command: 3,
+            command: CMD_WRITE,
             error,
             map,
             key: c.key,
@@ -67,11 +61,11 @@ fn end_write(
     let left = q.remove(0);
     let d = c.with_writes(left);
     let t = play::put_channel(s, i, d);
-    Ended { state: t, n: at }
+    Progress { state: t, n: at }
 }
 
 // FINISH that is remembered ends the write with -2, its last cycle with 0; else it goes on, with PERVOL applied and a cycle less.
-pub fn end_cycle(s: State, table: &mut [u8], replies: &mut [u8], n: usize, i: usize) -> Ended
+pub fn end_cycle(s: State, table: &mut [u8], replies: &mut [u8], n: usize, i: usize) -> Progress
     requires { Ready s table.old replies.old n 1 × (i < 8) × Led i (state_in s table.old) }
     ensures { EndsCycle i s table.old replies.old n result table.new replies.new }
 {
@@ -81,12 +75,12 @@ pub fn end_cycle(s: State, table: &mut [u8], replies: &mut [u8], n: usize, i: us
     let t = turn_at(table, q.at(0));
     let b = play::bit(i);
     match t {
-        Turn::Cut => end_write(s, table, replies, n, i, 254, 0),
+        Turn::Cut => end_write(s, table, replies, n, i, IOERR_ABORTED, 0),
         Turn::Over => end_write(s, table, replies, n, i, 0, b),
         Turn::On => {
             let none = [0u8; Head::NUMBERS];
             tuning::tune_fronts(s, table, b, none, Tune::Next);
-            Ended { state: s, n }
+            Progress { state: s, n }
         }
     }
 }

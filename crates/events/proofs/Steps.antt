@@ -38,9 +38,8 @@ use Rattle.answers.specs.Answers.{call_of, answer_of, Told}
 use Rattle.answers.proofs.Laws.{told_as}
 use Rattle.ending.proofs.play.Outcomes.{at_is, bit_is, change_is}
 use Rattle.ending.proofs.play.Queue.{front_room}
-use Rattle.cutting.specs.declared.Cut.{Cut}
 use Rattle.cutting.specs.Cutting.{CutsFronts}
-use Rattle.ending.specs.declared.Ended.{Ended}
+use Rattle.answers.specs.store.declared.Progress.{Progress}
 use Rattle.ending.specs.Ending.{Led, with_cycle, cycle_replies, EndsCycle}
 use Rattle.events.specs.Events.{met_replies, Meets}
 
@@ -125,7 +124,7 @@ cut_eight : (m : ℕ) (s : StateM) → length s.channels ≡ 8 → length (cut m
 unfolding cut
 cut_eight m s e = e
 
-module _ {st : State} {tb l : List ℕ} (p : Ready st tb l 0 1) (i : ℕ) (a : Led i (state_in st tb)) (m : ℕ) {d : Ended} {tb₁ l₁ : List ℕ}
+module _ {st : State} {tb l : List ℕ} (p : Ready st tb l 0 1) (i : ℕ) (a : Led i (state_in st tb)) (m : ℕ) {d : Progress} {tb₁ l₁ : List ℕ}
     (w : Meets m st tb l d tb₁ l₁) where
   -- with the write in front, they are at most 63
   met_few : length (met_replies m (state_in st tb)) ≤ 63
@@ -159,7 +158,7 @@ module _ {st : State} {tb l : List ℕ} (p : Ready st tb l 0 1) (i : ℕ) (a : L
   cycle_led = subst (Led i) (sym next.1) (cut_led m (state_in st tb) a)
 
   -- one step behind the other
-  after : {f : Ended} {tb₂ l₂ : List ℕ} → EndsCycle i d.state tb₁ l₁ d.n f tb₂ l₂
+  after : {f : Progress} {tb₂ l₂ : List ℕ} → EndsCycle i d.state tb₁ l₁ d.n f tb₂ l₂
       → Did (with_cycle i (cut m (state_in st tb))) (met_replies m (state_in st tb) ++ cycle_replies i (cut m (state_in st tb))) l 0 f.state tb₂ l₂ f.n
   after {f} {tb₂} {l₂} v =
       let s = state_in st tb in
@@ -219,8 +218,8 @@ module _ {st : State} {tb : List ℕ} (h : Held st tb) (r : Request) where
       answers : x ≡ answer_of (done 0 (2 ^ i) r.key 255)
       answers = ex ∙ ap (λ (y : ℕ). answer_of (done 0 y r.key 255)) em
 
-      pub told_cycle : {l : List ℕ} (p : Ready st tb l 0 1) {d : Ended} {tb₁ l₁ : List ℕ} → Meets m st tb l d tb₁ l₁
-          → {f : Ended} {tb₂ l₂ : List ℕ} → EndsCycle i d.state tb₁ l₁ d.n f tb₂ l₂
+      pub told_cycle : {l : List ℕ} (p : Ready st tb l 0 1) {d : Progress} {tb₁ l₁ : List ℕ} → Meets m st tb l d tb₁ l₁
+          → {f : Progress} {tb₂ l₂ : List ℕ} → EndsCycle i d.state tb₁ l₁ d.n f tb₂ l₂
           → Told (do_event CYCLE_ENDED (call_of r []) (state_in st tb)) l (record { answer = x; state = f.state; n = f.n }) tb₂ l₂
       unfolding silent
       told_cycle {l} p w {f} {tb₂} {l₂} v =
@@ -231,7 +230,7 @@ module _ {st : State} {tb : List ℕ} (h : Held st tb) (r : Request) where
             did = subst (λ (y : ℕ). Did (with_cycle i (cut y s)) (met_replies y s ++ cycle_replies i (cut y s)) l 0 f.state tb₂ l₂ f.n) em (after p i a m w v);
           })
 
-      pub told_up : {l : List ℕ} {d : Cut} {tb₁ l₁ : List ℕ} → CutsFronts m st tb l 0 d tb₁ l₁
+      pub told_up : {l : List ℕ} {d : Progress} {tb₁ l₁ : List ℕ} → CutsFronts m st tb l 0 d tb₁ l₁
           → Told (do_event GAVE_UP (call_of r []) (state_in st tb)) l (record { answer = x; state = d.state; n = d.n }) tb₁ l₁
       unfolding silent
       told_up {l} {d} {tb₁} {l₁} w = told_as up_at (record { answer = answers; did = subst (λ (y : ℕ). CutsFronts y st tb l 0 d tb₁ l₁) em w })

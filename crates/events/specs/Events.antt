@@ -15,7 +15,7 @@ use Rattle.cutting.specs.fronts.Fronts.{on_air}
 use Rattle.answers.specs.store.declared.State.{State}
 use Rattle.answers.specs.store.Store.{state_in}
 use Rattle.answers.specs.store.Work.{Did}
-use Rattle.ending.specs.declared.Ended.{Ended}
+use Rattle.answers.specs.store.declared.Progress.{Progress}
 
 unfoldable pub plays_at : ℕ → List Channel → ℕ
 plays_at m cs =
@@ -25,5 +25,5 @@ plays_at m cs =
 abbrev pub met_replies : ℕ → StateM → List Reply
 met_replies m s = map met (keep (on_channels (length s.channels) m) s.waiters)
 
-abbrev pub Meets : ℕ → State → List ℕ → List ℕ → Ended → List ℕ → List ℕ → Type 0
+abbrev pub Meets : ℕ → State → List ℕ → List ℕ → Progress → List ℕ → List ℕ → Type 0
 Meets m s tb l d tb' l' = Did (cut m (state_in s tb)) (met_replies m (state_in s tb)) l 0 d.state tb' l' d.n

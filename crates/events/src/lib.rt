@@ -7,30 +7,30 @@ ghost use Rattle.answers.specs.machine.State.{CYCLE_ENDED, GAVE_UP};
 ghost use Rattle.answers.specs.machine.Commands.{do_event};
 ghost use Rattle.answers.specs.store.Work.{Ready};
 ghost use Rattle.answers.specs.Answers.{call_of, Does};
+ghost use Rattle.ending.specs.play.Play.{on_board};
 ghost use Rattle.events.specs.Events.{plays_at, Meets};
 
-use answers::store::State;
+use answers::store::{Progress, State};
 use answers::{Outcome, Request};
 use cutting::fronts;
-use ending::{Ended, play};
+use ending::play;
 use locks::fates::End;
 
-// The place of that channel; 8 where there is none.
-fn place(map: u8, s: State) -> usize
+// The place of that channel.
+fn place(map: u8, s: State) -> Option<usize>
     requires { length s.channels ≡ 8 }
-    ensures { result ≡ plays_at map s.channels }
+    ensures { result ≡ on_board (plays_at map s.channels) }
 {
     let i = channel::lowest(map);
     if 8 <= i {
-        return 8;
+        return None;
     }
-    let cs = s.channels;
-    let c = cs[i];
-    if fronts::plays(c) { i } else { 8 }
+    let c = s.channels[i];
+    if fronts::plays(c) { Some(i) } else { None }
 }
 
 // Those who wait for a cycle of the channels that the map names are answered.
-fn meet(s: State, table: &mut [u8], replies: &mut [u8], map: u8) -> Ended
+fn meet(s: State, table: &mut [u8], replies: &mut [u8], map: u8) -> Progress
     requires { Ready s table.old replies.old 0 0 }
     ensures { Meets map s table.old replies.old result table.new replies.new }
 {
@@ -39,22 +39,21 @@ fn meet(s: State, table: &mut [u8], replies: &mut [u8], map: u8) -> Ended
     let left = f.left;
     let mut t = s;
     t.waiters = left;
-    Ended { state: t, n: f.n }
+    Progress { state: t, n: f.n }
 }
 
 pub fn cycle_ended(r: Request, s: State, table: &mut [u8], replies: &mut [u8]) -> Outcome
     requires { Ready s table.old replies.old 0 1 }
     ensures { Does (do_event CYCLE_ENDED (call_of r [])) s table.old replies.old result table.new replies.new }
 {
-    let i = place(r.map, s);
-    if 8 <= i {
+    let Some(i) = place(r.map, s) else {
         let no = answers::done(0, 0, r.key, 255);
         return Outcome {
             answer: no,
             state: s,
             n: 0,
         };
-    }
+    };
     let b = play::bit(i);
     let m = meet(s, table, replies, b);
     let t = m.state;
@@ -72,15 +71,14 @@ pub fn gave_up(r: Request, s: State, table: &mut [u8], replies: &mut [u8]) -> Ou
     requires { Ready s table.old replies.old 0 1 }
     ensures { Does (do_event GAVE_UP (call_of r [])) s table.old replies.old result table.new replies.new }
 {
-    let i = place(r.map, s);
-    if 8 <= i {
+    let Some(i) = place(r.map, s) else {
         let no = answers::done(0, 0, r.key, 255);
         return Outcome {
             answer: no,
             state: s,
             n: 0,
         };
-    }
+    };
     let b = play::bit(i);
     let d = cutting::cut_fronts(s, table, replies, 0, b);
     let t = d.state;

@@ -7,12 +7,13 @@
 --   ends_at how m x    whether one with the map x ends
 --   map_at how m x     the map that it is replied with then, and has where it stays
 --   error_of how       what one that ends is replied
---   Told m x e r      the fate of a map x that ends with all its bits where m shares one, with the error e
---   Fated how m x r   the fate of a map
+--   Told m x e k r     the fate of a map x that ends where m shares a bit, with the error e and the map k
+--   Fated how m x r    the fate of a map
 use Rattle.std.specs.Prelude.{ℕ, ◌≡◌, Bool, eqb, if◌then◌else◌}
 use Rattle.store.specs.machine.Numbers.{ABORTED, CHANNELSTOLEN, ADCMD_LOCK, ADCMD_WAITCYCLE}
 use Rattle.store.specs.machine.Maps.{minus, meets}
 use Rattle.fates.specs.declared.Fate.{Fate}
+use Rattle.fates.specs.declared.Fate.TheVariants.{Ends, Stays}
 use Rattle.fates.specs.declared.End.{End}
 use Rattle.fates.specs.declared.End.TheVariants.{Freed, Stolen, Cut, Met}
 
@@ -43,12 +44,8 @@ error_of Stolen = CHANNELSTOLEN
 error_of Cut = ABORTED
 error_of Met = 0
 
-pub record Told (m x e : ℕ) (r : Fate) : Type 0 where
-  pub ends : r.ends ≡ meets 8 m x
-  pub error : r.error ≡ e
-  pub map : r.map ≡ x
+abbrev pub Told : ℕ → ℕ → ℕ → ℕ → Fate → Type 0
+Told m x e k r = r ≡ (if meets 8 m x then Ends e k else Stays x)
 
-pub record Fated (how : End) (m x : ℕ) (r : Fate) : Type 0 where
-  pub ends : r.ends ≡ ends_at how m x
-  pub error : r.error ≡ error_of how
-  pub map : r.map ≡ map_at how m x
+abbrev pub Fated : End → ℕ → ℕ → Fate → Type 0
+Fated how m x r = r ≡ (if ends_at how m x then Ends (error_of how) (map_at how m x) else Stays (map_at how m x))

@@ -3,9 +3,10 @@
 #![tactic(auto)]
 
 ghost use Rattle.std.specs.Prelude.{◌≡◌, ◌<◌};
-ghost use Rattle.fates.specs.declared.End.TheVariants.{Freed, Cut};
+ghost use Rattle.fates.specs.declared.End.TheVariants.{Freed};
 ghost use Rattle.fates.specs.Fates.{command_of, Told, Fated};
 
+use audio::{ADCMD_LOCK, ADCMD_WAITCYCLE, ADIOERR_CHANNELSTOLEN, IOERR_ABORTED};
 pub use store;
 use store::State;
 pub use store::reply;
@@ -20,12 +21,11 @@ pub enum End {
     Met,
 }
 
-// It ends with an error and a map, or stays with the map.
+// It ends, and is replied an error and a map; or it stays, with the map.
 #[derive(Clone, Copy)]
-pub struct Fate {
-    pub ends: bool,
-    pub error: u8,
-    pub map: u8,
+pub enum Fate {
+    Ends { error: u8, map: u8 },
+    Stays { map: u8 },
 }
 
 // LOCK or WAITCYCLE.
@@ -33,10 +33,10 @@ pub fn command(how: End) -> u8
     ensures { result ≡ command_of how }
 {
     match how {
-        End::Freed => 13,
-        End::Stolen => 13,
-        End::Cut => 14,
-        End::Met => 14,
+        End::Freed => ADCMD_LOCK,
+        End::Stolen => ADCMD_LOCK,
+        End::Cut => ADCMD_WAITCYCLE,
+        End::Met => ADCMD_WAITCYCLE,
     }
 }
 
@@ -46,35 +46,25 @@ fn freed(own: u8, m: u8) -> Fate
     ensures { Fated Freed m own result }
 {
     let left = own & (State::TOP - m);
-    Fate {
-        ends: left == 0,
-        error: 0,
-        map: left,
+    let emptied = left == 0;
+    if emptied {
+        Fate::Ends { error: 0, map: 0 }
+    } else {
+        Fate::Stays { map: left }
     }
 }
 
-// One that shares a channel with m is told an error with its whole map.
-fn told(own: u8, m: u8, error: u8) -> Fate
+// One that shares a channel with m ends with the error and the map; another stays.
+fn told(own: u8, m: u8, error: u8, map: u8) -> Fate
     requires { (own < 256) × (m < 256) }
-    ensures { Told m own error result }
+    ensures { Told m own error map result }
 {
-    Fate {
-        ends: own & m != 0,
-        error,
-        map: own,
+    let shared = own & m != 0;
+    if shared {
+        Fate::Ends { error, map }
+    } else {
+        Fate::Stays { map: own }
     }
-}
-
-// A write on one of the channels m is cut: -2 and no map.
-fn cut(own: u8, m: u8) -> Fate
-    requires { (own < 256) × (m < 256) }
-    ensures { Fated Cut m own result }
-{
-    let mut f = told(own, m, 254);
-    if f.ends {
-        f.map = 0;
-    }
-    f
 }
 
 // The fate of one with the map `own`.
@@ -84,8 +74,8 @@ pub fn judge(own: u8, m: u8, how: End) -> Fate
 {
     match how {
         End::Freed => freed(own, m),
-        End::Stolen => told(own, m, 244),
-        End::Cut => cut(own, m),
-        End::Met => told(own, m, 0),
+        End::Stolen => told(own, m, ADIOERR_CHANNELSTOLEN, own),
+        End::Cut => told(own, m, IOERR_ABORTED, 0),
+        End::Met => told(own, m, 0, own),
     }
 }

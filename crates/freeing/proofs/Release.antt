@@ -24,7 +24,7 @@ use Rattle.answers.specs.store.declared.State.{State}
 use Rattle.answers.specs.store.Store.{Item, lock_item, waiter_item, wait_item, write_items, items, entries, table_of, state_in, Held, Good}
 use Rattle.answers.specs.store.Work.{Ready, Did}
 use Rattle.answers.proofs.store.Store.{held_parts, held_eight, good_of, held_opens, opens-count}
-use Rattle.sweep.specs.dropped_writes.declared.Dropped.{Dropped}
+use Rattle.sweep.specs.dropped_writes.locks.declared.Sifted.{Sifted}
 use Rattle.sweep.specs.dropped_writes.DroppedWrites.{Dropping, Drops}
 use Rattle.sweep.proofs.granting.Laws.{held_changed, good_cut, Cuts, dropping_all, cuts_all}
 use Rattle.locks.specs.fates.declared.End.TheVariants.{Freed}
@@ -71,7 +71,7 @@ module _ {st : State} {tb l : List ℕ} (m : ℕ) (b : m < 256) (p : Ready st tb
   pub drop-asks : Dropping m st.channels st.waiters tb l 0
   drop-asks = dropping_all m b drop-ready freed no_writes
 
-  module _ {q : Dropped} {l₁ tb₁ : List ℕ} (w : Drops m st.channels st.waiters tb l 0 q tb₁ l₁) where
+  module _ {q : Sifted} {l₁ tb₁ : List ℕ} (w : Drops m st.channels st.waiters tb l 0 q tb₁ l₁) where
     after : Cuts freed m (state_in st tb) (dropped m (state_in st tb)) l 0 q tb₁ l₁
     after = cuts_all m b drop-ready freed no_writes w
 
@@ -121,7 +121,7 @@ module _ {st : State} {tb l : List ℕ} (m : ℕ) (b : m < 256) (p : Ready st tb
     pub freed-did : {l₂ tb₂ : List ℕ} {f : Sifted} {ds : List Channel} → ds ≡ change_each (changed_of Free) m st.channels
         → Sifts Freed m st.locks tb₁ l₁ q.n f tb₂ l₂
         → Did (freeing m (state_in st tb)) (freeing_replies m (state_in st tb)) l 0
-        (record { channels = ds; locks = f.left; waiters = q.waiters; waiting = st.waiting; opens = st.opens; last = st.last }) tb₂ l₂ f.n
+        (record { channels = ds; locks = f.left; waiters = q.left; waiting = st.waiting; opens = st.opens; last = st.last }) tb₂ l₂ f.n
     unfolding freeing table_of cut sifting
     freed-did {l₂} {tb₂} {f} {ds} u g =
         let s = state_in st tb in

@@ -12,7 +12,7 @@ use Rattle.answers.specs.store.declared.State.{State}
 use Rattle.answers.specs.store.Store.{state_in}
 use Rattle.answers.specs.store.Work.{Did}
 use Rattle.answers.specs.declared.Request.{Request}
-use Rattle.freeing.specs.declared.Freed.{Freed}
+use Rattle.answers.specs.store.declared.Progress.{Progress}
 
 abbrev pub match_replies : Request → StateM → List Reply
 match_replies r s = freeing_replies (matching r.key r.map s.channels) s
@@ -20,5 +20,5 @@ match_replies r s = freeing_replies (matching r.key r.map s.channels) s
 abbrev pub owned_replies : Request → StateM → List Reply
 owned_replies r s = freeing_replies (owned r.key s.channels) s
 
-abbrev pub Frees : ℕ → State → List ℕ → List ℕ → Freed → List ℕ → List ℕ → Type 0
+abbrev pub Frees : ℕ → State → List ℕ → List ℕ → Progress → List ℕ → List ℕ → Type 0
 Frees m st tb l r tb' l' = Did (freeing m (state_in st tb)) (freeing_replies m (state_in st tb)) l 0 r.state tb' l' r.n

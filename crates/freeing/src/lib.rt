@@ -9,20 +9,14 @@ ghost use Rattle.answers.specs.store.Work.{Ready};
 ghost use Rattle.freeing.specs.Freeing.{match_replies, owned_replies, Frees};
 ghost use Rattle.answers.specs.Answers.{call_of, Does};
 
-use answers::store::State;
+use answers::store::{Progress, State};
 use answers::{Outcome, Request};
 use channel::Change;
 use locks::fates::End;
 use sweep::dropped_writes;
 
-#[derive(Clone, Copy)]
-pub struct Freed {
-    pub state: State,
-    pub n: usize,
-}
-
 // The channels of a map freed: their writes aborted, those who wait for a cycle told, their bits cleared in every lock.
-pub fn freeing(s: State, map: u8, table: &mut [u8], replies: &mut [u8]) -> Freed
+pub fn freeing(s: State, map: u8, table: &mut [u8], replies: &mut [u8]) -> Progress
     requires { Ready s table.old replies.old 0 (length (freeing_replies map (state_in s table.old))) × (map < 256) }
     ensures { Frees map s table.old replies.old result table.new replies.new }
 {
@@ -33,12 +27,12 @@ pub fn freeing(s: State, map: u8, table: &mut [u8], replies: &mut [u8]) -> Freed
     let f = locks::sift(q, table, replies, d.n, map, End::Freed);
     let ds = channel::change_named(cs, map, Change::Free);
     let left = f.left;
-    let waiters = d.waiters;
+    let waiters = d.left;
     let mut t = s;
     t.channels = ds;
     t.locks = left;
     t.waiters = waiters;
-    Freed { state: t, n: f.n }
+    Progress { state: t, n: f.n }
 }
 
 // FREE.

@@ -12,6 +12,7 @@ ghost use Rattle.locking.specs.Locking.{locked_by};
 
 use answers::store::State;
 use answers::{Outcome, Request};
+use audio::{ADCMD_LOCK, ADIOERR_NOALLOCATION};
 use channel::Change;
 use table::Head;
 
@@ -24,7 +25,7 @@ fn enter(r: Request, s: State, table: &mut [u8]) -> State
         table,
         r.id,
         Head {
-            command: 13,
+            command: ADCMD_LOCK,
             key: r.key,
             map: r.map,
             prec: 0,
@@ -49,7 +50,7 @@ pub fn lock(r: Request, s: State, table: &mut [u8], replies: &mut [u8]) -> Outco
     let cs = s.channels;
     let ok = channel::matching(cs, r.key, r.map);
     if ok != r.map {
-        let a = answers::done(246, 0, r.key, 255);
+        let a = answers::done(ADIOERR_NOALLOCATION, 0, r.key, 255);
         return answers::finished(r, a, s, replies, 0);
     }
     if r.map == 0 {

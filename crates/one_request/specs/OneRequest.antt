@@ -19,7 +19,7 @@ use Rattle.locks.specs.store.declared.State.{State as Struct}
 use Rattle.locks.specs.store.Store.{state_in}
 use Rattle.locks.specs.store.Work.{Did}
 use Rattle.waiting.specs.Waiting.{waiter}
-use Rattle.one_request.specs.declared.Settled.{Settled}
+use Rattle.locks.specs.store.declared.Progress.{Progress}
 
 abbrev pub out_at : ℕ → State → State
 out_at i s = with_waiting (take i s.waiting ++ drop (suc i) s.waiting) s
@@ -39,5 +39,5 @@ granted_at i m s = granted m (waiter i s).key (waiter i s).prec (out_at i s)
 abbrev pub granted_replies : ℕ → ℕ → State → List Reply
 granted_replies i m s = dropped m s ++ replied 0 m (key_for (waiter i s).key (out_at i s)) (waiter i s) ∷ []
 
-abbrev pub Makes : (State → State) → (State → List Reply) → Struct → List ℕ → List ℕ → ℕ → Settled → List ℕ → List ℕ → Type 0
+abbrev pub Makes : (State → State) → (State → List Reply) → Struct → List ℕ → List ℕ → ℕ → Progress → List ℕ → List ℕ → Type 0
 Makes f g st tb l n r tb' l' = Did (f (state_in st tb)) (g (state_in st tb)) l n r.state tb' l' r.n

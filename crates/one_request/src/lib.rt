@@ -8,17 +8,12 @@ ghost use Rattle.locks.specs.store.Store.{state_in, Held};
 ghost use Rattle.locks.specs.store.Work.{Stands, Ready};
 ghost use Rattle.one_request.specs.OneRequest.{out_at, dropped_replies, granted_at, granted_replies, stolen, without_locks, Makes};
 
+use audio::{ADCMD_ALLOCATE, ADIOERR_ALLOCFAILED};
 use locks::fates::End;
 use locks::reply::Reply;
-use locks::store::State;
+use locks::store::{Progress, State};
 pub use locks::{reply, store, table};
 pub use waiting;
-
-#[derive(Clone, Copy)]
-pub struct Settled {
-    pub state: State,
-    pub n: usize,
-}
 
 // The waiting request at place i is gone, and its id idle.
 fn take_out(s: State, table: &mut [u8], i: usize) -> State
@@ -35,7 +30,7 @@ fn take_out(s: State, table: &mut [u8], i: usize) -> State
 }
 
 // It fails with NOWAIT: replied -11 and dropped.
-pub fn drop_one(s: State, table: &mut [u8], replies: &mut [u8], n: usize, i: usize) -> Settled
+pub fn drop_one(s: State, table: &mut [u8], replies: &mut [u8], n: usize, i: usize) -> Progress
     requires { Ready s table.old replies.old n 1 × (i < s.waiting.n) }
     ensures { Makes (out_at i) (dropped_replies i) s table.old replies.old n result table.new replies.new }
 {
@@ -48,13 +43,13 @@ pub fn drop_one(s: State, table: &mut [u8], replies: &mut [u8], n: usize, i: usi
         n,
         Reply {
             id,
-            command: 32,
-            error: 245,
+            command: ADCMD_ALLOCATE,
+            error: ADIOERR_ALLOCFAILED,
             map: 0,
             key,
         },
     );
-    Settled { state: t, n: at }
+    Progress { state: t, n: at }
 }
 
 // It is granted a map: the grant, the reply.
@@ -65,7 +60,7 @@ pub fn grant_one(
     n: usize,
     i: usize,
     map: u8,
-) -> Settled
+) -> Progress
     requires { Ready s table.old replies.old n (length (dropped map (state_in s table.old)) + 1) × (i < s.waiting.n) }
     ensures { Makes (granted_at i map) (granted_replies i map) s table.old replies.old n result table.new replies.new }
 {
@@ -80,18 +75,18 @@ pub fn grant_one(
         g.n,
         Reply {
             id,
-            command: 32,
+            command: ADCMD_ALLOCATE,
             error: 0,
             map,
             key: g.key,
         },
     );
     let u = g.state;
-    Settled { state: u, n: at }
+    Progress { state: u, n: at }
 }
 
 // It is held: every lock over a channel of its map is replied -12 and ends; the channels stay locked.
-pub fn steal(s: State, table: &mut [u8], replies: &mut [u8], n: usize, map: u8) -> Settled
+pub fn steal(s: State, table: &mut [u8], replies: &mut [u8], n: usize, map: u8) -> Progress
     requires { Ready s table.old replies.old n (length (stolen map (state_in s table.old))) × (map < 256) }
     ensures { Makes (without_locks map) (stolen map) s table.old replies.old n result table.new replies.new }
 {
@@ -100,5 +95,5 @@ pub fn steal(s: State, table: &mut [u8], replies: &mut [u8], n: usize, map: u8) 
     let left = f.left;
     let mut t = s;
     t.locks = left;
-    Settled { state: t, n: f.n }
+    Progress { state: t, n: f.n }
 }

@@ -1,13 +1,13 @@
 -- The place of the caller's channel. Assumes nothing.
 use Prim.Native.Nat.{ℕ, ◌≤◌, ◌<◌}
-use mathlib.Core.Path.{◌≡◌, refl, sym, subst, ◌∙◌}
+use mathlib.Core.Path.{◌≡◌, refl, ap, sym, subst, ◌∙◌}
 use mathlib.Core.Bool.{Bool, true, false, not}
 use mathlib.Core.List.{List}
 use native.Mathlib.Omega.{arith}
 use borrow.Author.Tests.{le-leb, lt-leb, leb-true, leb-false}
 use lib.Dec.{T, eqb, leb, eqb→eq}
 use lib.ListN.{length, get_or}
-use Rattle.std.specs.Prelude.{if◌then◌else◌}
+use Rattle.std.specs.Prelude.{if◌then◌else◌, Option, None, Some, is_some, unwrap_or}
 use Rattle.answers.specs.machine.State.{Channel as ChannelM, free}
 use Rattle.answers.specs.machine.Commands.{matches}
 use Rattle.answers.proofs.machine.Tests.{and_right}
@@ -15,7 +15,7 @@ use Rattle.channel.specs.declared.Channel.{Channel}
 use Rattle.channel.specs.Channel.{channel_of, lowest_from, has_key}
 use Rattle.answers.specs.store.declared.State.{State}
 use Rattle.answers.specs.store.Store.{state_in, Held}
-use Rattle.play.specs.Play.{place_of}
+use Rattle.play.specs.Play.{place_of, on_board}
 use Rattle.play.proofs.Laws.{get_d_any, matches_is}
 use Rattle.play.proofs.Queue.{channel_is}
 
@@ -33,6 +33,25 @@ place_own k m cs i e h f = rw (← e, lt-leb 8 i h, f) refl
 
 pub key_any : (k : ℕ) (cs : List Channel) (i : ℕ) (d : Channel) (b : Bool) → i < length cs → has_key k (get_or cs i d) ≡ b → has_key k (get_or cs i (channel_of free)) ≡ b
 key_any k cs i d b h e = rw (get_d_any cs i (channel_of free) d h) e
+
+-- ---- as an Option
+
+pub on_low : (i : ℕ) → i < 8 → Some i ≡ on_board i
+on_low i h = rw (lt-leb 8 i h) refl
+
+some_as : (i n : ℕ) (b : Bool) → leb 8 n ≡ b → Some i ≡ (if b then None else Some n) → (i ≡ n) × (n < 8)
+some_as i n true e p = absurd (subst T (ap is_some p) tt)
+some_as i n false e p = (ap (λ (x : Option ℕ). unwrap_or x 0) p, leb-false 8 n e)
+
+pub some_at : (i n : ℕ) → Some i ≡ on_board n → (i ≡ n) × (i < 8)
+some_at i n p = let w = some_as i n (leb 8 n) refl p in (w.0, rw w.0 w.1)
+
+none_as : (n : ℕ) (b : Bool) → leb 8 n ≡ b → None ≡ (if b then None else Some n) → 8 ≤ n
+none_as n true e p = leb-true 8 n e
+none_as n false e p = absurd (subst T (sym (ap is_some p)) tt)
+
+pub none_at : (n : ℕ) → None ≡ on_board n → 8 ≤ n
+none_at n p = none_as n (leb 8 n) refl p
 
 -- ---- of a state that is held
 

@@ -1,5 +1,5 @@
 -- Which function performs FINISH and PERVOL: by the flag SYNCCYCLE. Assumes nothing.
-use Prim.Native.Nat.{ℕ, ◌+◌, ◌/◌, ◌%◌}
+use Prim.Native.Nat.{ℕ, ◌+◌}
 use mathlib.Core.Path.{◌≡◌, refl, ap, sym, subst, ◌∙◌}
 use mathlib.Core.Bool.{true, false}
 use mathlib.Core.List.{List, []}
@@ -10,7 +10,6 @@ use Rattle.answers.specs.machine.State.{State as StateM}
 use Rattle.answers.specs.machine.Commands.{matching, in_progress, finished, each, each_change, do_finish, do_pervol}
 use Rattle.answers.specs.machine.Kinds.{kind}
 use Rattle.answers.specs.machine.Call.{perform}
-use Rattle.answers.proofs.machine.Tests.{eqb_false}
 use Rattle.answers.specs.store.declared.State.{State}
 use Rattle.answers.specs.store.Store.{state_in}
 use Rattle.answers.specs.store.Work.{Ready}
@@ -32,14 +31,6 @@ module _ (r : Request) (ms : List ℕ) (s : StateM) where
   finish_listless n e = subst (λ (k : ℕ). perform (kind k) (call_of r ms) s ≡ perform (kind k) (call_of r []) s) (sym e) refl
 
 -- ---- SYNCCYCLE
-
-pub synced_true : (f : ℕ) → f / 32 % 2 ≡ 1 → synced f ≡ true
-unfolding synced
-synced_true f e = rw e refl
-
-pub synced_false : (f : ℕ) → (f / 32 % 2 ≡ 1 → ⊥) → synced f ≡ false
-unfolding synced
-synced_false f n = eqb_false (f / 32 % 2) 1 n
 
 module _ (r : Request) (s : StateM) where
   pub finish-now : r.command ≡ 11 → perform (kind r.command) (call_of r []) s ≡ do_finish (call_of r []) s

@@ -16,7 +16,7 @@ pub fn finish(r: Request, s: State, table: &mut [u8], replies: &mut [u8]) -> Out
     requires { Accepted r s table.old replies.old × (r.command ≡ 11) }
     ensures { Does (command_of r []) s table.old replies.old result table.new replies.new }
 {
-    if (r.flags / 32) % 2 == 1 {
+    if r.is_synced() {
         return tuning::tune_each(r, s, &[], Tune::Finish, table, replies);
     }
     cutting::finish(r, s, table, replies)
@@ -27,7 +27,7 @@ pub fn pervol(r: Request, s: State, combos: &[u8], table: &mut [u8], replies: &m
     requires { Accepted r s table.old replies.old × (r.command ≡ 12) × ((length combos.now ≡ 0) ⊎ (length combos.now ≡ 6)) }
     ensures { Does (command_of r combos.now) s table.old replies.old result table.new replies.new }
 {
-    if (r.flags / 32) % 2 == 1 {
+    if r.is_synced() {
         return tuning::tune_each(r, s, combos, Tune::Later, table, replies);
     }
     tuning::tune_each(r, s, combos, Tune::Set, table, replies)

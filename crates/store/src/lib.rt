@@ -24,6 +24,13 @@ pub struct State {
     pub last: u16,
 }
 
+// The state so far, and how many replies there are.
+#[derive(Clone, Copy)]
+pub struct Progress {
+    pub state: State,
+    pub n: usize,
+}
+
 impl State {
     // How many requests the table has, how many combinations a list may have, how many keys may be open, and the map of all eight channels. A board's highest
     // map is the board's to say.

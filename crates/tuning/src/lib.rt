@@ -12,6 +12,7 @@ ghost use Rattle.tuning.specs.Tuning.{tuned_at, tune_each, Tunable, Tunes, tuned
 use answers::store::State;
 pub use answers::{reply, store};
 use answers::{Outcome, Request};
+use audio::CMD_WRITE;
 use channel::Channel;
 use fronts::Front;
 pub use numbers::table;
@@ -33,7 +34,7 @@ fn tune(table: &mut [u8], id: u8, new: [u8; Head::NUMBERS], how: Tune)
         table,
         id,
         Head {
-            command: 3,
+            command: CMD_WRITE,
             key,
             map: 0,
             prec: 0,
@@ -49,14 +50,10 @@ fn tune_named(cs: [Channel; 8], table: &mut [u8], map: u8, new: [u8; Head::NUMBE
     requires { (length table.old ≡ 1472) × Tunable map cs table.old }
     ensures { table.new ≡ tune_each how new map cs table.old }
 {
-    let mut i: usize = 0;
-    while i < 8 {
+    for (i, &c) in cs.iter().enumerate() {
         if channel::names(map, i) {
-            let c = cs[i];
-            let q = c.writes;
-            tune(table, q.at(0), new, how);
+            tune(table, c.writes.at(0), new, how);
         }
-        i += 1;
     }
 }
 

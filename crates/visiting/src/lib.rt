@@ -13,9 +13,9 @@ pub use choosing;
 use choosing::Look;
 pub use choosing::standing;
 pub use lanes;
-use one_request::store::State;
+use one_request::store::{Progress, State};
+use one_request::table;
 pub use one_request::{reply, store, waiting};
-use one_request::{Settled, table};
 
 // One look: what became of the request at place i. `next` is the place to look at next; after a grant the walk starts again. `left` is the
 // word of who left the waiting list: a 1 in the lane of each channel that it named.
@@ -56,7 +56,7 @@ fn fails(s: State, table: &mut [u8], replies: &mut [u8], n: usize, i: usize) -> 
 }
 
 // The walk goes on behind place i, with the state as it is.
-fn pass(d: Settled, i: usize) -> Turn
+fn pass(d: Progress, i: usize) -> Turn
     requires { i < 64 }
     ensures { result ≡ record { state = d.state; n = d.n; next = i + 1; granted = false; left = 0 } }
 {

@@ -14,6 +14,7 @@ ghost use Rattle.writing.specs.Writing.{Joins};
 
 use answers::store::State;
 use answers::{Outcome, Request};
+use audio::{ADIOERR_NOALLOCATION, CMD_WRITE};
 use channel::Channel;
 use numbers::table;
 use numbers::table::Head;
@@ -22,11 +23,10 @@ pub fn write(r: Request, s: State, combos: &[u8], table: &mut [u8], replies: &mu
     requires { Ready s table.old replies.old 0 1 × (r.command ≡ 3) × (r.id < 64) × T (not (among r.id (ids (state_in s table.old)))) × ((length combos.now ≡ 0) ⊎ (length combos.now ≡ 6)) }
     ensures { Does (do_write (call_of r combos.now)) s table.old replies.old result table.new replies.new }
 {
-    let i = play::place(r, s);
-    if 8 <= i {
-        let no = answers::done(246, 0, r.key, 255);
+    let Some(i) = play::place(r, s) else {
+        let no = answers::done(ADIOERR_NOALLOCATION, 0, r.key, 255);
         return answers::finished(r, no, s, replies, 0);
-    }
+    };
     let cs = s.channels;
     let c = cs[i];
     let t = join(r, s, combos, table, i, c);
@@ -48,7 +48,7 @@ fn join(r: Request, s: State, combos: &[u8], table: &mut [u8], i: usize, c: Chan
         table,
         r.id,
         Head {
-            command: 3,
+            command: CMD_WRITE,
             key: r.key,
             map: 0,
             prec: 0,

@@ -1,17 +1,8 @@
--- `at_once` meets its contract: one reply, or none where QUICK is set. Assumes nothing.
-use mathlib.Core.Path.{refl, sym}
+-- `at_once` meets its contract: no reply where QUICK is set. Assumes nothing.
+use mathlib.Core.Path.{refl, sym, ◌∙◌}
 use native.Mathlib.Nat.{add-zero}
-use borrow.Author.Tests.{eq-eqb, ne_eqb}
-use Rattle.store.specs.machine.Numbers.{quick}
 use Rattle.memory.proofs.Splice.{splice_none}
 use Rattle.answers.proofs.at_once.Goals as goal
 
-pub returns-then-r-eq1 : goal.returns-then-r-eq1
-unfolding quick
-returns-then-r-eq1 c = rw (eq-eqb _ _ c.if-r-eq1.true) (refl, sym (add-zero _), sym (splice_none _ _))
-
-pub returns : goal.returns
-unfolding quick
-returns c =
-    let p = c.put-at.ensures in
-    rw (ne_eqb _ _ c.if-r-eq1.false) (refl, p.0, p.1)
+pub returns-then-is_quick : goal.returns-then-is_quick
+returns-then-is_quick c = rw (sym c.is_quick.ensures ∙ c.if-is_quick.true) (refl, sym (add-zero _), sym (splice_none _ _))

@@ -7,8 +7,8 @@ abort_named-at-requires c =
     let a = c.requires in
     (a.writable, a.tall, abort_fits a)
 
-pub sift-f-requires : goal.sift-f-requires
-sift-f-requires c = sifting c.requires c.abort_named-at.ensures
+pub sift-requires : goal.sift-requires
+sift-requires c = sifting c.requires c.abort_named-at.ensures
 
 pub returns : goal.returns
-returns c = λ a. dropt a c.abort_named-at.ensures c.sift-f.ensures
+returns c = λ a. dropt a c.abort_named-at.ensures c.sift.ensures

@@ -1,5 +1,5 @@
 -- `write` meets its contract: a caller's own channel gets the write; another's gives -10. Assumes nothing.
-use Prim.Native.Nat.{◌≤◌, ◌<◌}
+use Prim.Native.Nat.{◌≤◌}
 use mathlib.Core.Path.{refl, sym}
 use mathlib.Core.List.{[]}
 use native.Mathlib.Omega.{arith}
@@ -7,29 +7,21 @@ use lib.ListN.{length}
 use Rattle.memory.proofs.Splice.{splice_none}
 use Rattle.answers.specs.store.Store.{state_in}
 use Rattle.answers.proofs.Laws.{finished_of, finished-told, told_as}
-use Rattle.play.proofs.Laws.{get_d_any}
+use Rattle.play.proofs.Places.{some_at, none_at}
 use Rattle.writing.proofs.Steps.{write_refused, write_told}
 use Rattle.writing.proofs.write.Goals as goal
 
-pub returns-then-i-ge8 : goal.returns-then-i-ge8
-returns-then-i-ge8 c =
+pub returns-in_default : goal.returns-in_default
+returns-in_default c =
     let a = c.args in
     let h = c.requires.0.held in
     let ms = a.combos.now in
-    told_as (write_refused h a.r ms _ c.place-i.ensures c.if-i-ge8.true)
+    told_as (write_refused h a.r ms _ refl (none_at _ c.in_default.ensures))
     (finished-told ms _ [] (state_in a.s a.table.now) 3 c.requires.1 c.done-no.ensures h.struct h.table (sym (splice_none _ _)) refl (let z : 0 ≤ length a.replies.now = omega arith in z) (finished_of c.finished.ensures))
-
-pub join-t-requires : goal.join-t-requires
-join-t-requires c =
-    let p = c.requires in
-    let found = c.place-i in
-    let n : found.result < 8 = c.if-i-ge8.false in
-    let g : found.result < length c.args.s.channels = rw p.0.held.eight n in
-    (p.0.held, n, get_d_any c.args.s.channels _ _ _ g, p.2, p.3, p.4)
 
 pub returns : goal.returns
 returns c =
     let p = c.requires in
     let j = c.join-t.ensures in
-    let found = c.place-i in
-    write_told p.0.held c.args.r c.args.combos.now p.2 p.3 _ found.ensures c.if-i-ge8.false c.pending-a.ensures j.0 j.1
+    let found = some_at _ _ c.in-Some.ensures in
+    write_told p.0.held c.args.r c.args.combos.now p.2 p.3 _ found.0 found.1 c.pending-a.ensures j.0 j.1
