@@ -31,6 +31,7 @@ pub fn put_line(out: &mut [u8], at: usize, head: &[u8], tail: &[u8]) -> usize
 }
 
 // The bytes that a line spells, in front of `f`; how many they are. None where it spells none, or more than 23.
+// A count, not an Option: to `octets_of` a line that spells nothing and a line of no bytes are one.
 pub fn octets(line: &[u8], f: &mut [u8]) -> usize
     requires { length f.old ≡ 23 }
     ensures { (result ≡ length (octets_of line.now)) × (f.new ≡ splice f.old 0 (octets_of line.now)) }

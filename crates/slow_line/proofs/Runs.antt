@@ -158,10 +158,10 @@ room_long = let e = length-replicate {A = ℕ} ROOM 0 in omega arith
 
 module _ (p st tb dp : List ℕ) (h : Proper p) (d : length dp ≡ DISPLAY) where
   feed_made : (bs : List ℕ) (a : Answered (line_fed p bs) st tb dp room₀) → Feeds bs p st tb dp room₀ 0 (used bs) a.n (port_fed p bs) a.st' a.tb' a.dp' a.room'
-  feed_made bs a = is_served (no_refusal p (length dp) (length room₀) h d room_long) refl refl (record { used = refl; port = refl; answers = a.answers })
+  feed_made bs a = is_served (sym (no_refusal p (length dp) (length room₀) h d room_long)) refl (record { used = refl; port = refl; answers = a.answers })
 
   end_made : (a : Answered (line_last p) st tb dp room₀) → Ends p st tb dp room₀ 0 a.n (port_last p) a.st' a.tb' a.dp' a.room'
-  end_made a = is_served (no_refusal p (length dp) (length room₀) h d room_long) refl refl (record { used = refl; port = refl; answers = a.answers })
+  end_made a = is_served (sym (no_refusal p (length dp) (length room₀) h d room_long)) refl (record { used = refl; port = refl; answers = a.answers })
 
 -- a call that is not refused uses some of a fragment that has any bytes
 pub progress : (bs p : List ℕ) {st tb dp room : List ℕ} {u n : ℕ} {p' st' tb' dp' room' : List ℕ} → Feeds bs p st tb dp room 0 u n p' st' tb' dp' room' → 0 < length bs → 0 < u
