@@ -9,6 +9,7 @@ use native.Mathlib.Numerals.{add-one}
 use lib.Dec.{T, T_not, eqb, eqb→eq, eqb_refl, leb, leb→le, nleb→lt}
 use lib.ListN.{length, get_or, take, drop, replicate}
 use lib.Seq.{take-suc, take_all}
+use Rattle.std.specs.Prelude.{Option, Some, None, is_some}
 use Rattle.machine_laws.specs.machine.State.{State}
 use Rattle.machine_laws.specs.machine.Log.{line, hex_digit}
 use Rattle.machine_laws.proofs.machine.Tests.{by_test}
@@ -27,14 +28,10 @@ use Rattle.read_back.specs.reading.Reading.{read_from}
 use Rattle.read_back.proofs.WholeText.{text_read}
 use Rattle.read_back.specs.hex_lines.HexLines.{Put}
 use Rattle.saving.proofs.Laws.{front}
-use Rattle.accepting.specs.declared.Found.{Found}
-use Rattle.accepting.specs.Accepting.{opening, Finds, Accepts}
+use Rattle.accepting.specs.Accepting.{opening, Yes, No, Finds, Accepts}
 
 pub false_true : false ≡ true → ⊥
 false_true e = subst (λ (b : Bool). T b) (sym e) tt
-
-pub take_more : (a b : List ℕ) (i : ℕ) → i < length a → i < length b → take i a ≡ take i b → get_or a i 0 ≡ get_or b i 0 → take (i + 1) a ≡ take (i + 1) b
-take_more a b i h g e f = rw (add-one i, take-suc a i 0 h, take-suc b i 0 g, e, f)
 
 -- ---- one spelling
 
@@ -54,16 +51,9 @@ pub text-opens : (s : State) → take 5 (text s) ≡ opening
 unfolding text spelt line hex_digit
 text-opens s = refl
 
-pub short-opening : (t l : List ℕ) → length t < length l → take (length l) t ≡ l → ⊥
-short-opening t l h e = let m = ap length e in let k = take_all (length l) t (omega arith) in let q = ap length k in omega arith
-
 pub opening_is : opening ≡ 68 ∷ 48 ∷ 48 ∷ 49 ∷ 10 ∷ []
 unfolding line hex_digit
 opening_is = refl
-
-pub opening-length : (t : List ℕ) → take 5 t ≡ opening → 5 ≤ length t
-opening-length t e = by_test (leb 5 (length t)) (λ h. leb→le 5 (length t) h)
-    (λ h. absurd (short-opening t (68 ∷ 48 ∷ 48 ∷ 49 ∷ 10 ∷ []) (nleb→lt 5 (length t) h) (e ∙ opening_is)))
 
 pub took_from : (t : List ℕ) {x tb tb' : List ℕ} {st : Struct} → tb ≡ x → Took (read_from t tb) st tb' → Took (read_from t x) st tb'
 took_from t {tb' = tb'} {st = st} e r = subst (λ z. Took (read_from t z) st tb') e r
@@ -93,47 +83,35 @@ module _ {t : List ℕ} {s : State} (h : TextOf 4 s t) {st : Struct} {tb : List 
 
 -- ---- case by case
 
-pub unopened : {t : List ℕ} (f : Found) (tb : List ℕ) → f.ok ≡ false → (take 5 t ≡ opening → ⊥) → Finds t f tb
-unopened f tb e n =
-    record {
-      yes = λ o. absurd (false_true (sym e ∙ o));
-      no = λ _ s h. n (ap (take 5) h.saved ∙ text-opens s);
-    }
+pub unopened : {t : List ℕ} → (take 5 t ≡ opening → ⊥) → No t
+unopened n s h = n (ap (take 5) h.saved ∙ text-opens s)
 
-pub unsound : {t : List ℕ} (f : Found) {st : Struct} {tb : List ℕ} → f.ok ≡ false
-    → Took (read_from (drop 5 t) (replicate 1472 0)) st tb → (Held (board_of st) tb → ⊥) → Finds t f tb
-unsound f e r n = record { yes = λ o. absurd (false_true (sym e ∙ o)); no = λ _ s h. n (read_held h r) }
+pub unsound : {t : List ℕ} {st : Struct} {tb : List ℕ} → Took (read_from (drop 5 t) (replicate 1472 0)) st tb → (Held (board_of st) tb → ⊥) → No t
+unsound r n s h = n (read_held h r)
 
-pub compared : {t : List ℕ} {st : Struct} {tb : List ℕ} {ok : Bool} {z page : List ℕ} {n : ℕ} → Took (read_from (drop 5 t) (replicate 1472 0)) st tb → Held (board_of st) tb
-    → Put z 0 (text (state_in (board_of st) tb)) n page → Decides ok (t ≡ take n page)
-    → Finds t (record { ok = ok; board = board_of st }) tb
-compared {t} {st} {tb} {ok} {z} {page} {n} r h p d =
-    let u = state_in (board_of st) tb in
-    let k : n ≡ length (text u) = let m = p.next in omega arith in
-    let e : take n page ≡ text u = ap (take n) p.bytes ∙ (ap (λ i. take i (splice z 0 (text u))) k ∙ front z (text u)) in
-    record {
-      yes = λ o. record { held = h; text = record { sane = h.sane; width = sym (held_width h); saved = d.only o ∙ e } };
-      no = λ o s q. false_true (sym o ∙ d.always (q.saved ∙ (ap text (sym (read_state q r)) ∙ sym e)));
-    }
+-- what was put stands in front of the page
+its_text : {z page vs : List ℕ} {n : ℕ} → Put z 0 vs n page → take n page ≡ vs
+its_text {z} {page} {vs} {n} p =
+    let k : n ≡ length vs = let m = p.next in omega arith in
+    ap (take n) p.bytes ∙ (ap (λ i. take i (splice z 0 vs)) k ∙ front z vs)
+
+module _ {t : List ℕ} {st : Struct} {tb : List ℕ} {z page : List ℕ} {n : ℕ} (r : Took (read_from (drop 5 t) (replicate 1472 0)) st tb) (h : Held (board_of st) tb)
+    (p : Put z 0 (text (state_in (board_of st) tb)) n page) where
+  pub compared : t ≡ take n page → Yes t (board_of st) tb
+  compared e = record { held = h; text = record { sane = h.sane; width = sym (held_width h); saved = e ∙ its_text p } }
+
+  pub differs : (t ≡ take n page → ⊥) → No t
+  differs d s q = d (q.saved ∙ (ap text (sym (read_state q r)) ∙ sym (its_text p)))
 
 -- ---- what is handed back
 
-pub blank-found : {b : Board} {w : ℕ} → b ≡ fresh_board w
-    → ◌≡◌ {A = Found} (record { ok = false; board = b }) (record { ok = false; board = fresh_board w })
-blank-found e i = record { ok = false; board = e i }
+pub emptied : (t : List ℕ) (f : Option Board) (tb : List ℕ) {tb' : List ℕ} → Finds t f tb → is_some f ≡ false → tb' ≡ replicate 1472 0 → Accepts t f tb'
+emptied t (Some b) tb x e z = absurd (false_true (sym e))
+emptied t None tb x e z = (x, z)
 
-pub refused : {t : List ℕ} {f g : Found} {tb tb' : List ℕ} → Finds t f tb → f.ok ≡ false
-    → g ≡ record { ok = false; board = fresh_board 4 } → tb' ≡ replicate 1472 0
-    → Accepts t g tb'
-refused x o e z =
-    record {
-      yes = λ y. absurd (false_true (sym (ap (λ (h : Found). h.ok) e) ∙ y));
-      no = λ _. x.no o;
-      blank = λ _. (ap (λ (h : Found). h.board) e, z);
-    }
-
-pub kept : {t : List ℕ} {f : Found} {tb : List ℕ} → Finds t f tb → f.ok ≡ true → Accepts t f tb
-kept x o = record { yes = x.yes; no = x.no; blank = λ n. absurd (false_true (sym n ∙ o)) }
+pub kept : (t : List ℕ) (f : Option Board) (tb : List ℕ) → Finds t f tb → is_some f ≡ true → Accepts t f tb
+kept t (Some b) tb x e = x
+kept t None tb x e = absurd (false_true e)
 
 -- ---- no second outcome fits
 
@@ -142,25 +120,11 @@ pub held_once : {b b₂ : Board} {tb tb₂ : List ℕ} → Held b tb → Held b�
     → (b ≡ b₂) × (tb ≡ tb₂)
 held_once h g e = (h.struct ∙ ap struct_of e ∙ sym g.struct, h.table ∙ ap table_of e ∙ sym g.table)
 
-pub found_same : {f g : Found} → f.ok ≡ g.ok → f.board ≡ g.board → f ≡ g
-found_same a b i = record { ok = a i; board = b i }
-
-pub one_accepting : {t : List ℕ} {f g : Found} {tb tb₂ : List ℕ} → Accepts t f tb → Accepts t g tb₂ → (f ≡ g)
-    × (tb ≡ tb₂)
-one_accepting {t} {f} {g} {tb} {tb₂} x y = go f.ok g.ok refl refl
-  where
-    go : (a b : Bool) → f.ok ≡ a → g.ok ≡ b → (f ≡ g) × (tb ≡ tb₂)
-    go true true e d =
-        let p = x.yes e in
-        let q = y.yes d in
-        let h = held_once p.held q.held (one_spelling p.text q.text) in
-        (found_same (e ∙ sym d) h.0, h.1)
-    go true false e d = absurd (y.no d _ (x.yes e).text)
-    go false true e d = absurd (x.no e _ (y.yes d).text)
-    go false false e d =
-        let p = x.blank e in
-        let q = y.blank d in
-        (found_same (e ∙ sym d) (p.0 ∙ sym q.0), p.1 ∙ sym q.1)
+pub one_accepting : (t : List ℕ) (f g : Option Board) {tb tb₂ : List ℕ} → Accepts t f tb → Accepts t g tb₂ → (f ≡ g) × (tb ≡ tb₂)
+one_accepting t (Some b) (Some c) x y = let h = held_once x.held y.held (one_spelling x.text y.text) in (ap Some h.0, h.1)
+one_accepting t (Some b) None x y = absurd (y.0 _ x.text)
+one_accepting t None (Some c) x y = absurd (x.0 _ y.text)
+one_accepting t None None x y = (refl, x.1 ∙ sym y.1)
 
 -- ---- whether there is one
 

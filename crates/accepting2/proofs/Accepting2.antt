@@ -6,6 +6,7 @@ use mathlib.Core.List.{List, [], ◌∷◌}
 use native.Mathlib.Omega.{arith}
 use lib.Dec.{T, T_not, eqb}
 use lib.ListN.{length, take, drop, replicate}
+use Rattle.std.specs.Prelude.{Option, Some, None, is_some}
 use Rattle.machine_laws.specs.machine.State.{State}
 use Rattle.machine_laws.specs.machine.Sound.{sound}
 use Rattle.machine_laws.specs.machine.Log.{line, hex_digit}
@@ -22,13 +23,12 @@ use Rattle.saving2.proofs.sound.Own.{decides}
 use Rattle.read_back2.specs.sheet.Sheet.{Sheet, Took}
 use Rattle.read_back2.specs.reading.Reading.{read_from}
 use Rattle.read_back2.specs.hex_lines.HexLines.{Put}
-use Rattle.saving2.specs.accepting.declared.Found.{Found}
-use Rattle.saving2.proofs.accepting.Accepting.{false_true, same_or_not, held_once, found_same}
+use Rattle.saving2.proofs.accepting.Accepting.{false_true, same_or_not, held_once}
 use Rattle.read_back2.specs.saved2.Saved2.{text2, TextOf2}
 use Rattle.read_back2.proofs.saved2.Lengths2.{text2-length}
 use Rattle.saving2.proofs.Laws2.{taken_front}
 use Rattle.read_back2.proofs.ReadBack2.{zeros, text2_read, one_spelling2}
-use Rattle.accepting2.specs.Accepting2.{Yes2, Finds2, Accepts2}
+use Rattle.accepting2.specs.Accepting2.{Yes2, No2, Finds2, Accepts2}
 
 -- ---- what was read
 
@@ -68,60 +68,40 @@ took_from t {tb' = tb'} {st = st} e r = subst (λ z. Took (read_from t z) st tb'
 -- ---- case by case
 
 module _ {w : ℕ} {t : List ℕ} where
-  pub too_short : (f : Found) (tb : List ℕ) → f.ok ≡ false → length t < 10 → Finds2 w t f tb
-  too_short f tb e n =
-      record { yes = λ o. absurd (false_true (sym e ∙ o)); no = λ _ s h. let k = text2-long h in omega arith }
+  pub too_short : length t < 10 → No2 w t
+  too_short n s h = let k = text2-long h in omega arith
 
-  pub unopened : (f : Found) (tb : List ℕ) → f.ok ≡ false → (take 5 t ≡ 68 ∷ 48 ∷ 48 ∷ 50 ∷ 10 ∷ [] → ⊥)
-      → Finds2 w t f tb
-  unopened f tb e n = record { yes = λ o. absurd (false_true (sym e ∙ o)); no = λ _ s h. n (ap (take 5) h.saved ∙ text2-opens s) }
+  pub unopened : (take 5 t ≡ 68 ∷ 48 ∷ 48 ∷ 50 ∷ 10 ∷ [] → ⊥) → No2 w t
+  unopened n s h = n (ap (take 5) h.saved ∙ text2-opens s)
 
-  pub unsound : (f : Found) {st : Struct} {tb : List ℕ} → T (sized w) → f.ok ≡ false → Took (read_from (drop 10 t) zeros) st tb
-      → (Held (board_of w st) tb → ⊥) → Finds2 w t f tb
-  unsound f z e r n = record { yes = λ o. absurd (false_true (sym e ∙ o)); no = λ _ s h. n (read_held h r z) }
+  pub unsound : {st : Struct} {tb : List ℕ} → T (sized w) → Took (read_from (drop 10 t) zeros) st tb → (Held (board_of w st) tb → ⊥) → No2 w t
+  unsound z r n s h = n (read_held h r z)
 
-  pub compared : {st : Struct} {tb : List ℕ} {ok : Bool} {z page : List ℕ} {n : ℕ} → Took (read_from (drop 10 t) zeros) st tb → Held (board_of w st) tb
-      → Put z 0 (text2 (state_in (board_of w st) tb)) n page → Decides ok (t ≡ take n page)
-      → Finds2 w t (record { ok = ok; board = board_of w st }) tb
-  compared r h p d =
-      let e = taken_front p in
-      record {
-        yes = λ o. record { held = h; text = record { sane = h.sane; width = sym (held_width h); saved = d.only o ∙ e } };
-        no = λ o s q. false_true (sym o ∙ d.always (q.saved ∙ (ap text2 (sym (read_state q r)) ∙ sym e)));
-      }
+  module _ {st : Struct} {tb : List ℕ} {z page : List ℕ} {n : ℕ} (r : Took (read_from (drop 10 t) zeros) st tb) (h : Held (board_of w st) tb)
+      (p : Put z 0 (text2 (state_in (board_of w st) tb)) n page) where
+    pub compared : t ≡ take n page → Yes2 w t (board_of w st) tb
+    compared e = record { held = h; text = record { sane = h.sane; width = sym (held_width h); saved = e ∙ taken_front p } }
+
+    pub differs : (t ≡ take n page → ⊥) → No2 w t
+    differs d s q = d (q.saved ∙ (ap text2 (sym (read_state q r)) ∙ sym (taken_front p)))
 
 -- ---- what is handed back
 
-module _ {w : ℕ} {t : List ℕ} {f : Found} {tb : List ℕ} (x : Finds2 w t f tb) where
-  pub refused : {g : Found} {tb' : List ℕ} → f.ok ≡ false → g ≡ record { ok = false; board = fresh_board w }
-      → tb' ≡ replicate 1472 0 → Accepts2 w t g tb'
-  refused o e z =
-      record {
-        yes = λ y. absurd (false_true (sym (ap (λ (h : Found). h.ok) e) ∙ y));
-        no = λ _. x.no o;
-        blank = λ _. (ap (λ (h : Found). h.board) e, z);
-      }
+pub emptied : (w : ℕ) (t : List ℕ) (f : Option Board) (tb : List ℕ) {tb' : List ℕ} → Finds2 w t f tb → is_some f ≡ false → tb' ≡ replicate 1472 0 → Accepts2 w t f tb'
+emptied w t (Some b) tb x e z = absurd (false_true (sym e))
+emptied w t None tb x e z = (x, z)
 
-  pub kept : f.ok ≡ true → Accepts2 w t f tb
-  kept o = record { yes = x.yes; no = x.no; blank = λ n. absurd (false_true (sym n ∙ o)) }
+pub kept : (w : ℕ) (t : List ℕ) (f : Option Board) (tb : List ℕ) → Finds2 w t f tb → is_some f ≡ true → Accepts2 w t f tb
+kept w t (Some b) tb x e = x
+kept w t None tb x e = absurd (false_true e)
 
--- no second outcome fits
-pub one_accepting2 : {w : ℕ} {t : List ℕ} {f g : Found} {tb tb₂ : List ℕ} → Accepts2 w t f tb → Accepts2 w t g tb₂
-    → (f ≡ g) × (tb ≡ tb₂)
-one_accepting2 {w} {t} {f} {g} {tb} {tb₂} x y = go f.ok g.ok refl refl
-  where
-    go : (a b : Bool) → f.ok ≡ a → g.ok ≡ b → (f ≡ g) × (tb ≡ tb₂)
-    go true true e d =
-        let p = x.yes e in
-        let q = y.yes d in
-        let h = held_once p.held q.held (one_spelling2 p.text q.text) in
-        (found_same (e ∙ sym d) h.0, h.1)
-    go true false e d = absurd (y.no d _ (x.yes e).text)
-    go false true e d = absurd (x.no e _ (y.yes d).text)
-    go false false e d =
-        let p = x.blank e in
-        let q = y.blank d in
-        (found_same (e ∙ sym d) (p.0 ∙ sym q.0), p.1 ∙ sym q.1)
+-- ---- no second outcome fits
+
+pub one_accepting2 : (w : ℕ) (t : List ℕ) (f g : Option Board) {tb tb₂ : List ℕ} → Accepts2 w t f tb → Accepts2 w t g tb₂ → (f ≡ g) × (tb ≡ tb₂)
+one_accepting2 w t (Some b) (Some c) x y = let h = held_once x.held y.held (one_spelling2 x.text y.text) in (ap Some h.0, h.1)
+one_accepting2 w t (Some b) None x y = absurd (y.0 _ x.text)
+one_accepting2 w t None (Some c) x y = absurd (x.0 _ y.text)
+one_accepting2 w t None None x y = (refl, x.1 ∙ sym y.1)
 
 -- ---- a text is one of a board's, or it is not
 

@@ -12,52 +12,41 @@ pub use read_back2;
 use read_back2::reading;
 pub use read_back2::{hex_lines, number_lines, read_back, saved, saved2};
 pub use saving2;
-use saving2::accepting::Found;
 use saving2::sound;
 pub use saving2::{accepting, recounting};
 
-// What the text's lines behind the first two were read to, and whether it is what is saved of that.
-fn compare2(width: u8, text: &[u8], table: &mut [u8]) -> Found
+// The board that the text's lines behind the first two were read to, where the text is what is saved of it.
+fn compare2(width: u8, text: &[u8], table: &mut [u8]) -> Option<Board>
     requires { T (sized width) × (table.old ≡ replicate 1472 0) }
     ensures { Finds2 width text.now result table.new }
 {
-    let none = Board::fresh(width);
     if text.len() < 10 {
-        return Found {
-            ok: false,
-            board: none,
-        };
+        return None;
     }
-    if !accepting::opens(text, b"D002\n") {
-        return Found {
-            ok: false,
-            board: none,
-        };
+    if !text.starts_with(b"D002\n") {
+        return None;
     }
     let s = reading::read(text, 10, table);
     let b = Board { width, state: s };
     if !sound::sound(b, table) {
-        return Found {
-            ok: false,
-            board: none,
-        };
+        return None;
     }
     let mut page = [0u8; saving2::LONGEST];
     let n = saving2::spell2(b, table, &mut page);
-    Found {
-        ok: accepting::same(text, &page[..n]),
-        board: b,
+    if text != &page[..n] {
+        return None;
     }
+    Some(b)
 }
 
-// The board that a text of `width` channels holds, and its table.
-pub fn accept2(width: u8, text: &[u8], table: &mut [u8]) -> Found
+// The board that a text of `width` channels holds, and its table. Where the text is none, the table is cleared.
+pub fn accept2(width: u8, text: &[u8], table: &mut [u8]) -> Option<Board>
     requires { T (sized width) × (table.old ≡ replicate 1472 0) }
     ensures { Accepts2 width text.now result table.new }
 {
-    let f = compare2(width, text, table);
-    if !f.ok {
-        return accepting::blank(width, table);
+    let found = compare2(width, text, table);
+    if found.is_none() {
+        table.fill(0);
     }
-    f
+    found
 }

@@ -7,7 +7,7 @@ use native.Mathlib.Nat.{zero-add}
 use native.Mathlib.Omega.{arith}
 use lib.ListN.{length, take, drop, length-drop}
 use lib.Seq.{take_all}
-use Rattle.std.specs.Prelude.{if◌then◌else◌}
+use Rattle.std.specs.Prelude.{Some, if◌then◌else◌}
 use Rattle.beginning.specs.taking.declared.Show.{Show}
 use Rattle.beginning.specs.taking.Desk.{Taken, desk_of, needed, filled, finished}
 use Rattle.image.specs.board.declared.Board.{Board}
@@ -18,7 +18,6 @@ use Rattle.beginning.specs.paging.Paging.{Fills}
 use Rattle.beginning.specs.finishing.Finishing.{Finishes}
 use Rattle.beginning.proofs.whole_log.Progress.{Went, desk_good, fills-went, fills_on, finished-went, left_held, left_shown, left_within, left_inside, left_size, left_used}
 use Rattle.arbiter_log.specs.declared.Desk.{Desk}
-use Rattle.beginning.specs.accepting.declared.Found.{Found}
 use Rattle.beginning.specs.Beginning.{Begins}
 use Rattle.arbiter_log.specs.Desk.{Ready}
 
@@ -99,13 +98,13 @@ module _ {show : Show} {d : Desk} {st tb dp l page : List ℕ} {t : Taken} {tb' 
 -- where the program begins
 
 module _ {load second : Bool} {w : ℕ} {tb dp : List ℕ} where
-  pub begun-ready : {f : Found} {ok : Bool} {st page : List ℕ} → Begins load second w f tb dp → f.ok ≡ true
-      → Saved f.board st → 65536 ≡ length page
+  pub begun-ready : {b : Board} {ok : Bool} {st page : List ℕ} → Begins load second w (Some b) tb dp
+      → Saved b st → 65536 ≡ length page
       → Ready (record { line = 0; ok = ok }) st tb dp page
-  begun-ready e o v n = record {
+  begun-ready e v n = record {
     whole = v.whole;
     held = rw (← saved-state v)
-        (e.held o);
+        e.held;
     shown = e.shown;
     within = omega arith;
     room = omega arith;

@@ -43,7 +43,7 @@ struct Desk {
     ok: bool,
 }
 
-// The desk after a read, and whether to read again.
+// The desk after a read, and whether to read again. The desk stands in either case, so an Option would say no more.
 #[derive(Drop)]
 struct Turned {
     desk: Desk,
@@ -258,34 +258,20 @@ fn width(rt: &HostRuntime) -> u8
     Board::FOUR
 }
 
-// Whether a letter is in the word.
-fn has(word: &[u8; 5], letter: u8) -> bool {
-    word[0] == letter
-        || word[1] == letter
-        || word[2] == letter
-        || word[3] == letter
-        || word[4] == letter
-}
-
 // What the second word asks for.
 fn words(rt: &HostRuntime) -> Asked {
     let mut word = [0u8; 5];
     // of a longer word the first five letters stand there
     let _ = rt.arg(2, &mut word);
-    let c = has(&word, b'c');
-    let d = has(&word, b'd');
     let show = Show {
-        channels: c,
-        display: d,
+        channels: word.contains(&b'c'),
+        display: word.contains(&b'd'),
     };
-    let l = has(&word, b'l');
-    let s = has(&word, b's');
-    let t = has(&word, b't');
     Asked {
         show,
-        load: l,
-        save: s,
-        second: t,
+        load: word.contains(&b'l'),
+        save: word.contains(&b's'),
+        second: word.contains(&b't'),
     }
 }
 
@@ -294,12 +280,10 @@ fn main(rt: HostRuntime) -> ExitCode {
     let w = width(&rt);
     let mut table = [0u8; audio::TABLE_SIZE];
     let mut display = [0u8; audio::DISPLAY_SIZE];
-    let f = beginning::begin(a.load, a.second, w, &mut table, &mut display);
-    if !f.ok {
+    let Some(s) = beginning::begin(a.load, a.second, w, &mut table, &mut display) else {
         io::write_all(STDERR, b"the text is refused\n");
         return ExitCode::SUCCESS;
-    }
-    let s = f.board;
+    };
     let mut state = [0u8; audio::STATE_SIZE];
     encoding::save(s, &mut state);
     let d = Desk { line: 0, ok: true };

@@ -7,7 +7,6 @@ ghost use Rattle.display.specs.Display.{blank};
 ghost use Rattle.carrying.specs.board.Board.{sized};
 ghost use Rattle.beginning.specs.Beginning.{Begins};
 
-use carrying::accepting::Found;
 use carrying::board::Board;
 pub use carrying::{accepting, finishing, paging, saving2, taking, whole_log};
 
@@ -19,13 +18,12 @@ const MOST: usize = 3522;
 
 // What the program begins with: a fresh board of w channels; or the board of the loaded text, its table and its display. A text of the
 // second form is one of w channels.
-pub fn begin(load: bool, second: bool, w: u8, table: &mut [u8], display: &mut [u8]) -> Found
+pub fn begin(load: bool, second: bool, w: u8, table: &mut [u8], display: &mut [u8]) -> Option<Board>
     requires { (T (sized w)) × (table.old ≡ replicate 1472 0) × (display.old ≡ blank) }
     ensures { Begins load second w result table.new display.new }
 {
     if !load {
-        let s = Board::fresh(w);
-        return Found { ok: true, board: s };
+        return Some(Board::fresh(w));
     }
     let mut text = [0u8; MOST];
     let n = io::read_full(LOADED, &mut text);

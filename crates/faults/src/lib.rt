@@ -7,13 +7,6 @@ ghost use Rattle.faults.specs.Faults.{length_of, length_in, frame_of, fault as f
 
 use reading::{gathering, hex_lines};
 
-// The cast stands by itself, so that a caller has no fact of its own to show for it.
-fn wide(x: u8) -> usize
-    ensures { (result ≡ x) × (result < 256) }
-{
-    x as usize
-}
-
 // How many bytes a frame has that begins so, of a kind that both forms have; 0 where there is no such kind.
 fn length_of(f: &[u8]) -> usize
     requires { 0 < length f.now }
@@ -25,7 +18,7 @@ fn length_of(f: &[u8]) -> usize
             if f.len() < 7 {
                 return 7;
             }
-            7 + wide(f[6])
+            7 + usize::from(f[6])
         }
         0xD3 => 5,
         0xD4 => 5,
@@ -90,6 +83,7 @@ pub fn fault(form: u8, text: &[u8]) -> usize
     }
     let mut k: usize = 0;
     let mut at: usize = 0;
+    // Walked by hand: whether a line has its LF is asked too, which a split at LF no longer tells.
     while at < text.len() {
         let e = at + gathering::end_of(&text[at..]);
         if e == text.len() {

@@ -3,11 +3,11 @@ use Prim.Native.Nat.{ℕ}
 use mathlib.Core.Path.{◌≡◌, refl, subst, ◌∙◌}
 use mathlib.Core.List.{List}
 use Rattle.machine.specs.State.{State}
+use Rattle.image.specs.board.declared.Board.{Board}
 use Rattle.image.specs.board.Board.{state_in}
 use Rattle.image.specs.Image.{Saved}
 use Rattle.accepting.specs.saved.Saved.{TextOf}
 use Rattle.recounting.specs.Recounting.{counted}
-use Rattle.accepting.specs.declared.Found.{Found}
 use Rattle.accepting.specs.Accepting.{Yes}
 use Rattle.accepting.proofs.Accepting.{one_spelling}
 use Rattle.loading.specs.Loading.{Fits, Loaded, Loads}
@@ -42,11 +42,11 @@ module _ {w : ℕ} {t st tb dp : List ℕ} where
         loaded = λ _ _ s h. absurd (n s h);
       }
 
-  pub was_saved : {found : Found} {read st' tb' dp' : List ℕ} → Fits st tb dp → w ≡ 4 → Yes t found read → Saved found.board st' → tb' ≡ read → dp' ≡ counted (state_in found.board read)
+  pub was_saved : {b : Board} {read st' tb' dp' : List ℕ} → Fits st tb dp → w ≡ 4 → Yes t b read → Saved b st' → tb' ≡ read → dp' ≡ counted (state_in b read)
       → Loads w t st tb dp 0 st' tb' dp'
-  was_saved {found} {read} {st'} {tb'} {dp'} f e y a b d =
-      let u = state_in found.board read in
-      let whole : Loaded u 0 st' tb' dp' = record { result = refl; state = subst (λ x. Saved x st') y.held.struct a; table = b ∙ y.held.table; display = d } in
+  was_saved {b} {read} {st'} {tb'} {dp'} f e y a c d =
+      let u = state_in b read in
+      let whole : Loaded u 0 st' tb' dp' = record { result = refl; state = subst (λ x. Saved x st') y.held.struct a; table = c ∙ y.held.table; display = d } in
       record {
         misfit = λ m. absurd (m f);
         another = λ _ m. absurd (m e);

@@ -29,11 +29,9 @@ pub fn load(channels: u8, text: &[u8], state: &mut [u8], table: &mut [u8], displ
         return 9;
     }
     let mut read = [0u8; 1472];
-    let f = accepting::accept(text, &mut read);
-    if !f.ok {
+    let Some(b) = accepting::accept(text, &mut read) else {
         return 9;
-    }
-    let b = f.board;
+    };
     encoding::save(b, state);
     memory::copy(table, 0, &read);
     recounting::recount(b, &read, display);

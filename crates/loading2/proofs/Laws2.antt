@@ -19,7 +19,6 @@ use Rattle.image.specs.Image.{Saved}
 use Rattle.image.proofs.Round.{one_image}
 use Rattle.loading.specs.recounting.Recounting.{counted}
 use Rattle.loading.specs.saved.Saved.{FIRST, TextOf}
-use Rattle.loading.specs.accepting.declared.Found.{Found}
 use Rattle.loading.specs.Loading.{Fits, Unmoved, Loaded, Loads}
 use Rattle.accepting2.specs.read_back.ReadBack.{Bytes}
 use Rattle.accepting2.specs.number_lines.NumberLines.{number_lines}
@@ -63,11 +62,11 @@ module _ {w : ℕ} {t st tb dp : List ℕ} where
         loaded = λ _ _ s h. absurd (n s h);
       }
 
-  pub was_saved : {found : Found} {read st' tb' dp' : List ℕ} → Fits st tb dp → T (sized w) → Yes2 w t found read → Saved found.board st' → tb' ≡ read → dp' ≡ counted (state_in found.board read)
+  pub was_saved : {b : Board} {read st' tb' dp' : List ℕ} → Fits st tb dp → T (sized w) → Yes2 w t b read → Saved b st' → tb' ≡ read → dp' ≡ counted (state_in b read)
       → Loads2 w t st tb dp 0 st' tb' dp'
-  was_saved {found} {read} {st'} {tb'} {dp'} f z y a b d =
-      let u = state_in found.board read in
-      let whole : Loaded u 0 st' tb' dp' = record { result = refl; state = subst (λ x. Saved x st') y.held.struct a; table = b ∙ y.held.table; display = d } in
+  was_saved {b} {read} {st'} {tb'} {dp'} f z y a c d =
+      let u = state_in b read in
+      let whole : Loaded u 0 st' tb' dp' = record { result = refl; state = subst (λ x. Saved x st') y.held.struct a; table = c ∙ y.held.table; display = d } in
       record {
         misfit = λ m. absurd (m f);
         another = λ _ m. absurd (m z);

@@ -36,11 +36,9 @@ pub fn load2(
         return 9;
     }
     let mut read = [0u8; 1472];
-    let f = accepting2::accept2(channels, text, &mut read);
-    if !f.ok {
+    let Some(b) = accepting2::accept2(channels, text, &mut read) else {
         return 9;
-    }
-    let b = f.board;
+    };
     encoding::save(b, state);
     memory::copy(table, 0, &read);
     recounting::recount(b, &read, display);

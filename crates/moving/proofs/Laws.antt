@@ -1,25 +1,27 @@
 -- How a text that is moved meets its promise, case by case; no second outcome fits. Assumes nothing.
 use Prim.Native.Nat.{ℕ, ◌≤◌, ◌<◌}
 use mathlib.Core.Path.{◌≡◌, refl, ap, sym, subst, ◌∙◌}
+use mathlib.Core.Bool.{true, false}
 use mathlib.Core.List.{List}
 use native.Mathlib.Omega.{arith}
 use lib.Dec.{leb, leb→le, nleb→lt}
 use lib.ListN.{length, take}
+use Rattle.std.specs.Prelude.{Option, Some, None, is_some}
 use Rattle.machine.specs.State.{State}
 use Rattle.machine.proofs.Tests.{by_test}
 use Rattle.board.specs.Board.{state_in}
 use Rattle.accepting2.specs.hex_lines.HexLines.{Put}
 use Rattle.loading.specs.saved.Saved.{text, TextOf}
-use Rattle.loading.specs.accepting.declared.Found.{Found}
+use Rattle.board.specs.declared.Board.{Board}
 use Rattle.loading.specs.accepting.Accepting.{Yes}
-use Rattle.loading.proofs.accepting.Accepting.{one_spelling, text_or_not}
+use Rattle.loading.proofs.accepting.Accepting.{false_true, one_spelling, text_or_not}
 use Rattle.loading.specs.saving.Saving.{Unwritten}
 use Rattle.loading.proofs.saving.Laws.{page-within}
 use Rattle.accepting2.specs.saved2.Saved2.{text2, TextOf2}
 use Rattle.accepting2.specs.saving2.Saving2.{Fills}
 use Rattle.accepting2.proofs.saving2.Laws2.{taken_front, unwritten_same, fills_same}
 use Rattle.accepting2.proofs.read_back2.ReadBack2.{one_spelling2, one_width}
-use Rattle.accepting2.specs.Accepting2.{Yes2}
+use Rattle.accepting2.specs.Accepting2.{Yes2, Accepts2}
 use Rattle.accepting2.proofs.Accepting2.{saved2_or_not}
 use Rattle.moving.specs.Moving.{MovesNew, MovesOld}
 
@@ -27,13 +29,18 @@ use Rattle.moving.specs.Moving.{MovesNew, MovesOld}
 pub not_both : {s u : State} {t : List ℕ} → TextOf2 4 s t → TextOf2 8 u t → ⊥
 not_both a b = let e = one_width a b in omega arith
 
+-- what the eight-channel board does not take is no text of eight channels
+pub no_eight : (t : List ℕ) (f : Option Board) (read : List ℕ) → Accepts2 8 t f read → is_some f ≡ false → (s : State) → TextOf2 8 s t → ⊥
+no_eight t (Some b) read y e = absurd (false_true (sym e))
+no_eight t None read y e = y.0
+
 -- ---- case by case
 
 module _ {t l : List ℕ} where
   pub no_old_text : ((s : State) → TextOf 4 s t → ⊥) → MovesNew t l 9 0 l
   no_old_text n = record { refused = λ _. record { error = refl; count = refl; room = refl }; moved = λ s h. absurd (n s h) }
 
-  pub moved_new : {f : Found} {read z page l' : List ℕ} {e n k : ℕ} → Yes t f read → Put z 0 (text2 (state_in f.board read)) k page → Fills (take k page) l e n l' → MovesNew t l e n l'
+  pub moved_new : {b : Board} {read z page l' : List ℕ} {e n k : ℕ} → Yes t b read → Put z 0 (text2 (state_in b read)) k page → Fills (take k page) l e n l' → MovesNew t l e n l'
   moved_new {l' = l'} {e = e} {n = n} y p g =
       record {
         refused = λ m. absurd (m _ y.text);
@@ -48,15 +55,16 @@ module _ {t l : List ℕ} where
         moved = λ s h. absurd (n s h);
       }
 
-  pub has_eight : {f : Found} {read : List ℕ} → Yes2 8 t f read → MovesOld t l 10 0 l
-  has_eight y =
+  pub has_eight : (f : Option Board) (read : List ℕ) → Accepts2 8 t f read → is_some f ≡ true → MovesOld t l 10 0 l
+  has_eight (Some b) read y e =
       record {
         refused = λ _ m. absurd (m _ y.text);
         eight = λ _ _. record { error = refl; count = refl; room = refl };
         moved = λ s h. absurd (not_both h y.text);
       }
+  has_eight None read y e = absurd (false_true e)
 
-  pub moved_old : {f : Found} {read z page l' : List ℕ} {e n k : ℕ} → Yes2 4 t f read → Put z 0 (text (state_in f.board read)) k page → Fills (take k page) l e n l' → MovesOld t l e n l'
+  pub moved_old : {b : Board} {read z page l' : List ℕ} {e n k : ℕ} → Yes2 4 t b read → Put z 0 (text (state_in b read)) k page → Fills (take k page) l e n l' → MovesOld t l e n l'
   moved_old {l' = l'} {e = e} {n = n} y p g =
       record {
         refused = λ m _. absurd (m _ y.text);

@@ -17,14 +17,12 @@ pub fn to_new(from: &[u8], text: &mut [u8]) -> Written
     ensures { MovesNew from.now text.old result.error result.written text.new }
 {
     let mut read = [0u8; 1472];
-    let f = accepting::accept(from, &mut read);
-    if !f.ok {
+    let Some(b) = accepting::accept(from, &mut read) else {
         return Written {
             error: 9,
             written: 0,
         };
-    }
-    let b = f.board;
+    };
     let mut page = [0u8; saving2::LONGEST];
     let n = saving2::spell2(b, &read, &mut page);
     saving2::hand_over(&page, n, text)
@@ -36,22 +34,20 @@ pub fn to_old(from: &[u8], text: &mut [u8]) -> Written
     ensures { MovesOld from.now text.old result.error result.written text.new }
 {
     let mut wide = [0u8; 1472];
-    let e = accepting2::accept2(Board::EIGHT, from, &mut wide);
-    if e.ok {
+    let eight = accepting2::accept2(Board::EIGHT, from, &mut wide);
+    if eight.is_some() {
         return Written {
             error: 10,
             written: 0,
         };
     }
     let mut read = [0u8; 1472];
-    let f = accepting2::accept2(Board::FOUR, from, &mut read);
-    if !f.ok {
+    let Some(b) = accepting2::accept2(Board::FOUR, from, &mut read) else {
         return Written {
             error: 9,
             written: 0,
         };
-    }
-    let b = f.board;
+    };
     let mut page = [0u8; saving::LONGEST];
     let n = saving::spell(b, &read, &mut page);
     saving2::hand_over(&page, n, text)

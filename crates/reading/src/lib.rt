@@ -30,6 +30,7 @@ pub fn read(text: &[u8], from: usize, table: &mut [u8]) -> State
     let mut d = Draft { state: s, seen: 0 };
     let mut kept = [0u8; 48];
     let mut at = from;
+    // Walked by hand: a split at LF has one line more, the empty one behind the last LF, which is none of the text's.
     while at < text.len() {
         let e = at + gathering::end_of(&text[at..]);
         let mut f = [0u8; 23];

@@ -41,8 +41,7 @@ fn tell(rt: &HostRuntime, form: u8, text: &[u8]) {
 // A text of the first form.
 fn judge(rt: &HostRuntime, text: &[u8]) {
     let mut table = [0u8; 1472];
-    let f = accepting::accept(text, &mut table);
-    if f.ok {
+    if accepting::accept(text, &mut table).is_some() {
         say(rt, b"accepted\n");
         return;
     }
@@ -54,8 +53,7 @@ fn judge2(rt: &HostRuntime, width: u8, text: &[u8])
     requires { T (sized width) }
 {
     let mut table = [0u8; 1472];
-    let f = accepting2::accept2(width, text, &mut table);
-    if f.ok {
+    if accepting2::accept2(width, text, &mut table).is_some() {
         say(rt, b"accepted\n");
         return;
     }

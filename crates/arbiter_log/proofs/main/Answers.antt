@@ -1,7 +1,6 @@
 -- `main` meets its contract: what it begins with is ready. Assumes nothing.
-use borrow.Author.Tests.{not-false}
 use Rattle.arbiter_log.proofs.Laws.{begun-ready}
 use Rattle.arbiter_log.proofs.main.Goals as goal
 
 pub turns-e-requires : goal.turns-e-requires
-turns-e-requires c = begun-ready c.begin-f.ensures (not-false _ c.if-not-f.false) c.save.ensures c.large_buffer-page.ensures
+turns-e-requires c = begun-ready c.in-Some.ensures c.save.ensures c.large_buffer-page.ensures

@@ -7,7 +7,7 @@ use Rattle.beginning.proofs.begin.Goals as goal
 pub returns-then-not-load : goal.returns-then-not-load
 returns-then-not-load c =
     let s = c.requires in
-    begins-fresh s.0 c.if-not-load.true c.fresh-s.ensures s.1 s.2
+    begins-fresh s.0 c.if-not-load.true c.fresh.ensures s.1 s.2
 
 pub resume2-requires : goal.resume2-requires
 resume2-requires c =
@@ -16,7 +16,7 @@ resume2-requires c =
 
 pub returns-then-second : goal.returns-then-second
 returns-then-second c =
-    begins-loaded2 c.if-not-load.false c.if-second.true c.requires.2 c.resume2.ensures
+    begins-loaded2 _ c.if-not-load.false c.if-second.true c.requires.2 c.resume2.ensures
     (c.resume2.auto.display ∙ ap length c.requires.2)
 
 pub resume-requires : goal.resume-requires
@@ -26,5 +26,5 @@ resume-requires c =
 
 pub returns : goal.returns
 returns c =
-    begins-loaded c.if-not-load.false c.if-second.false c.requires.2 c.resume.ensures
+    begins-loaded _ c.if-not-load.false c.if-second.false c.requires.2 c.resume.ensures
     (c.resume.auto.display ∙ ap length c.requires.2)

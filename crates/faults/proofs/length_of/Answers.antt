@@ -12,7 +12,7 @@ pub returns-in-209 : goal.returns-in-209
 returns-in-209 c = kind_1 _ c.in-209.is
 
 pub returns-else-f-lt7 : goal.returns-else-f-lt7
-returns-else-f-lt7 c = ap (λ (n : ℕ). 7 + n) c.wide.ensures.0 ∙ kind_2 _ c.in-210.is
+returns-else-f-lt7 c = ap (λ (n : ℕ). 7 + n) c.from.ensures ∙ kind_2 _ c.in-210.is
 
 pub returns-in-211 : goal.returns-in-211
 returns-in-211 c = kind_3 _ c.in-211.is

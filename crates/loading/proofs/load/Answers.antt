@@ -1,7 +1,6 @@
 -- `load` meets its contract: the tests say which case of the promise is asked; what was read is the one state of its text. Assumes nothing.
 use mathlib.Core.Path.{sym, ◌∙◌}
 use native.Mathlib.Omega.{arith}
-use borrow.Author.Tests.{not-true, not-false}
 use Rattle.image.proofs.board.Laws.{held_length}
 use Rattle.loading.specs.Loading.{Fits}
 use Rattle.memory.proofs.Splice.{splice_all}
@@ -21,17 +20,19 @@ returns-then-display-ne18 c = does_not_fit (λ f. let l = f.display in absurd (o
 pub returns-then-channels-ne-FOUR : goal.returns-then-channels-ne-FOUR
 returns-then-channels-ne-FOUR c = not_four (record { state = omega arith; table = omega arith; display = omega arith }) (λ e. omega arith)
 
-pub returns-then-not-f : goal.returns-then-not-f
-returns-then-not-f c = not_saved (record { state = omega arith; table = omega arith; display = omega arith }) (omega arith) (c.accept-f.ensures.no (not-true _ c.if-not-f.true))
+pub returns-in_default : goal.returns-in_default
+returns-in_default c =
+    let n = c.in_default.ensures in
+    not_saved (record { state = omega arith; table = omega arith; display = omega arith }) (omega arith) n.0
 
 pub recount-requires : goal.recount-requires
 recount-requires c =
-    let y = c.accept-f.ensures.yes (not-false _ c.if-not-f.false) in
+    let y = c.in-Some.ensures in
     (y.held, search rules)
 
 pub returns : goal.returns
 returns c =
     let a = c.args in
     let f : Fits a.state.now a.table.now a.display.now = record { state = omega arith; table = omega arith; display = omega arith } in
-    let y = c.accept-f.ensures.yes (not-false _ c.if-not-f.false) in
+    let y = c.in-Some.ensures in
     was_saved f (omega arith) y c.save.ensures (c.copy.ensures ∙ splice_all a.table.now _ (held_length y.held ∙ sym f.table)) c.recount.ensures

@@ -23,20 +23,22 @@ returns-then-display-ne18 c = does_not_fit (λ f. let l = f.display in absurd (o
 pub returns-then-not-sized : goal.returns-then-not-sized
 returns-then-not-sized c = no_board (record { state = omega arith; table = omega arith; display = omega arith }) (no_T (sym c.sized.ensures ∙ c.if-not-sized.true))
 
-pub accept2-f-requires : goal.accept2-f-requires
-accept2-f-requires c = ((yes_T _ (sym c.sized.ensures ∙ c.if-not-sized.false)), refl)
+pub accept2-requires : goal.accept2-requires
+accept2-requires c = ((yes_T _ (sym c.sized.ensures ∙ c.if-not-sized.false)), refl)
 
-pub returns-then-not-f : goal.returns-then-not-f
-returns-then-not-f c = not_saved (record { state = omega arith; table = omega arith; display = omega arith }) (yes_T _ (sym c.sized.ensures ∙ c.if-not-sized.false)) (c.accept2-f.ensures.no (not-true _ c.if-not-f.true))
+pub returns-in_default : goal.returns-in_default
+returns-in_default c =
+    let n = c.in_default.ensures in
+    not_saved (record { state = omega arith; table = omega arith; display = omega arith }) (yes_T _ (sym c.sized.ensures ∙ c.if-not-sized.false)) n.0
 
 pub recount-requires : goal.recount-requires
 recount-requires c =
-    let y = c.accept2-f.ensures.yes (not-false _ c.if-not-f.false) in
+    let y = c.in-Some.ensures in
     (y.held, search rules)
 
 pub returns : goal.returns
 returns c =
-    let y = c.accept2-f.ensures.yes (not-false _ c.if-not-f.false) in
+    let y = c.in-Some.ensures in
     let t : length c.args.table.now ≡ 1472 = omega arith in
     was_saved ((record { state = omega arith; table = omega arith; display = omega arith })) (yes_T _ (sym c.sized.ensures ∙ c.if-not-sized.false)) y c.save.ensures
     (c.copy.ensures
