@@ -89,13 +89,11 @@ fn play_all(text: &[u8]) {
         now: s,
         next: 0,
     };
-    let mut left = text.len();
-    while left > 0 {
+    for _ in 0..text.len() {
         if p.next >= text.len() {
             return;
         }
         p = step(p, text);
-        left -= 1;
     }
 }
 

@@ -3,17 +3,7 @@ use image::board::Board;
 
 // From `from` on, two slices have the same bytes.
 pub fn bytes(a: &[u8], b: &[u8], from: usize) -> bool {
-    if a.len() != b.len() {
-        return false;
-    }
-    let mut i = from;
-    while i < a.len() {
-        if a[i] != b[i] {
-            return false;
-        }
-        i += 1;
-    }
-    true
+    a.len() == b.len() && a.iter().skip(from).eq(b.iter().skip(from))
 }
 
 // Two boards are the same where their bytes are.

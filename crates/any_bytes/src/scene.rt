@@ -1,6 +1,4 @@
 // What a call is given beside the request, and the ways to change it. Assumes nothing.
-ghost use Rattle.std.specs.Prelude.{◌≤◌};
-
 use crate::terms::at;
 use crate::{same, terms};
 use arbiter::decoding;
@@ -10,6 +8,7 @@ use image::store::State;
 use open_keys::Keys;
 use queue::Queue;
 use show::answers::Request;
+use std::array;
 
 // A board, the bytes of which the first `lent` are lent as the table, how many bytes of reply list are lent, and how many zeros
 // stand in the place of the frame's combinations, if any do.
@@ -38,22 +37,9 @@ fn ask(w: &[u8]) -> Request {
 
 // ---- a call
 
-// No more than there is.
-fn least(n: usize, most: usize) -> usize
-    ensures { result ≤ most }
-{
-    if n < most { n } else { most }
-}
-
 // A reply list in which no byte is like its neighbours.
 fn pattern() -> [u8; 400] {
-    let mut list = [0u8; 400];
-    let mut i: usize = 0;
-    while i < 400 {
-        list[i] = (i % 251) as u8;
-        i += 1;
-    }
-    list
+    array::from_fn(|i| (i % 251) as u8)
 }
 
 // The call on the board's bytes, and on the first bytes of the table and of the reply list.
@@ -67,8 +53,8 @@ fn cut(
     list: &mut [u8],
     room: usize,
 ) -> Outcome {
-    let k = least(lent, table.len());
-    let m = least(room, list.len());
+    let k = lent.min(table.len());
+    let m = room.min(list.len());
     let r = ask(w);
     let op = handed::op_of(r.command);
     let mut bytes = [0u8; 823];
@@ -119,7 +105,7 @@ fn tell(
     show::text(b", replies ");
     show::count(d.n);
     show::records(list, d.n);
-    let beyond = least(d.n, 66) * 6;
+    let beyond = d.n.min(66) * 6;
     show::moved(
         same::states(s, t),
         same::bytes(before, table, 0),
@@ -131,13 +117,13 @@ fn tell(
 
 // Where byte k of an id's entry stands in the table.
 fn place(id: u8, k: u8) -> usize {
-    terms::large(id) * 23 + terms::large(k)
+    usize::from(id) * 23 + usize::from(k)
 }
 
 // The queue with another count, and another id at a place.
 fn edited(q: Queue, w: &[u8]) -> Queue {
     let mut ids = q.ids;
-    let k = terms::large(at(w, 2));
+    let k = usize::from(at(w, 2));
     if k < 64 {
         ids[k] = at(w, 3);
     }
@@ -147,7 +133,7 @@ fn edited(q: Queue, w: &[u8]) -> Queue {
 // The open keys with another count, and another key at a place.
 fn opened(q: Keys, w: &[u8]) -> Keys {
     let mut keys = q.keys;
-    let k = terms::large(at(w, 1));
+    let k = usize::from(at(w, 1));
     if k < Keys::ROOM {
         keys[k] = terms::pair(at(w, 2), at(w, 3));
     }
@@ -173,7 +159,7 @@ impl Scene {
         if self.zeros == 0 {
             n
         } else {
-            least(self.zeros, 1000000) + 7
+            self.zeros.min(1000000) + 7
         }
     }
 
@@ -263,13 +249,12 @@ impl Scene {
         let locks = s.locks;
         let waiters = s.waiters;
         let waiting = s.waiting;
-        if place < 8 {
-            return writes;
+        match place {
+            0..=7 => writes,
+            8 => locks,
+            9 => waiters,
+            _ => waiting,
         }
-        if place == 8 {
-            return locks;
-        }
-        if place == 9 { waiters } else { waiting }
     }
 
     fn with_queue(self, place: usize, q: Queue) -> Self {
@@ -278,14 +263,10 @@ impl Scene {
             return self.with_channel(place, c.with_writes(q));
         }
         let mut s = self.state();
-        if place == 8 {
-            s.locks = q;
-        }
-        if place == 9 {
-            s.waiters = q;
-        }
-        if place > 9 {
-            s.waiting = q;
+        match place {
+            8 => s.locks = q,
+            9 => s.waiters = q,
+            _ => s.waiting = q,
         }
         self.with_state(s)
     }
@@ -310,14 +291,11 @@ impl Scene {
 
     // The sizes of what is lent.
     fn with_size(mut self, kind: u8, n: usize) -> Self {
-        if kind == b'T' {
-            self.lent = n;
-        }
-        if kind == b'R' {
-            self.room = n;
-        }
-        if kind == b'Z' {
-            self.zeros = n;
+        match kind {
+            b'T' => self.lent = n,
+            b'R' => self.room = n,
+            b'Z' => self.zeros = n,
+            _ => {}
         }
         self
     }
@@ -328,8 +306,8 @@ impl Scene {
         match kind {
             b'N' => Scene::new(first),
             b'B' => self.with_byte(place(first, at(w, 1)), at(w, 2)),
-            b'C' => self.with_numbers(terms::large(first), w),
-            b'W' => self.with_edit(terms::large(first), w),
+            b'C' => self.with_numbers(usize::from(first), w),
+            b'W' => self.with_edit(usize::from(first), w),
             b'O' => self.with_opens(w),
             _ => self.with_size(kind, terms::triple(first, at(w, 1), at(w, 2))),
         }

@@ -1,16 +1,14 @@
 // The words of the input, and the bytes that they spell. Assumes nothing.
-ghost use Rattle.std.specs.Prelude.{◌≤◌, ◌<◌};
+ghost use Rattle.std.specs.Prelude.{◌<◌, IfSome};
 
 // Where a byte next stands, from a place on; the end where it does not.
 pub fn find(text: &[u8], from: usize, b: u8) -> usize {
-    let mut i = from;
-    while i < text.len() {
-        if text[i] == b {
+    for (i, x) in text.iter().enumerate().skip(from) {
+        if *x == b {
             return i;
         }
-        i += 1;
     }
-    i
+    text.len().max(from)
 }
 
 // The place behind a place, or the end.
@@ -34,60 +32,43 @@ pub fn at(text: &[u8], i: usize) -> u8 {
     if i < text.len() { text[i] } else { 0 }
 }
 
-// The value of a digit; 16 for any other byte.
-fn digit(b: u8) -> u8
-    ensures { result ≤ 16 }
+// The value of a digit. `to_digit` would take small letters too.
+fn digit(b: u8) -> Option<u8>
+    ensures { IfSome result (λ d. d < 16) }
 {
-    if b < 48 {
-        return 16;
+    match b {
+        b'0'..=b'9' => Some(b - b'0'),
+        b'A'..=b'F' => Some(b - b'A' + 10),
+        _ => None,
     }
-    if b <= 57 {
-        return b - 48;
-    }
-    if b < 65 {
-        return 16;
-    }
-    if b <= 70 { b - 55 } else { 16 }
+}
+
+// The byte that two digits spell at a place.
+fn spelt(text: &[u8], i: usize) -> Option<u8> {
+    let high = digit(at(text, i))?;
+    let low = digit(at(text, after(text, i)))?;
+    Some(high * 16 + low)
 }
 
 // The bytes spelt from `from` on, put at the front of w, up to what is no digit; how many they are.
 pub fn spell(text: &[u8], from: usize, w: &mut [u8]) -> usize {
-    let mut k: usize = 0;
     let mut i = from;
-    while k < w.len() {
-        let high = digit(at(text, i));
-        let low = digit(at(text, after(text, i)));
-        if high == 16 {
-            return k;
+    for (k, b) in w.iter_mut().enumerate() {
+        match spelt(text, i) {
+            Some(x) => *b = x,
+            None => return k,
         }
-        if low == 16 {
-            return k;
-        }
-        w[k] = high * 16 + low;
-        k += 1;
         i = after(text, after(text, i));
     }
-    k
-}
-
-fn wide(x: u8) -> u16
-    ensures { result < 256 }
-{
-    x as u16
+    w.len()
 }
 
 // Two bytes, high first.
 pub fn pair(high: u8, low: u8) -> u16 {
-    wide(high) * 256 + wide(low)
-}
-
-pub fn large(x: u8) -> usize
-    ensures { result < 256 }
-{
-    x as usize
+    u16::from_be_bytes([high, low])
 }
 
 // Three bytes, high first.
 pub fn triple(high: u8, mid: u8, low: u8) -> usize {
-    large(high) * 65536 + large(mid) * 256 + large(low)
+    u32::from_be_bytes([0, high, mid, low]) as usize
 }

@@ -10,7 +10,8 @@ use answers::{Answer, Request};
 pub use arbiter;
 use arbiter::refusals::Op;
 
-// An answer, and how many replies there are in each half. The board afterwards is in the bytes that were lent.
+// An answer, and how many replies there are in each half (by name, as the promise `Lent` has them). The board afterwards is in the bytes
+// that were lent.
 #[derive(Clone, Copy)]
 pub struct Answered {
     pub answer: Answer,

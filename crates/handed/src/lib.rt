@@ -11,7 +11,8 @@ use answers::Answer;
 pub use refusals;
 use refusals::Op;
 
-// Operations F0 to F4 are OPEN, CLOSE, ABORT and the events; any other number is that of a command.
+// Operations F0 to F4 are OPEN, CLOSE, ABORT and the events; any other number is that of a command. A function and no From: `Op` is of
+// another crate, and only the call in C has numbers.
 pub fn op_of(b: u8) -> Op
     ensures { result ≡ op_for (op_of b) }
 {

@@ -1,7 +1,7 @@
 -- How the list of structs meets its promise, from the bytes of its records; no second list fits; at most 64 are listed. Assumes nothing.
-use Prim.Native.Nat.{ℕ, ◌+◌, ◌≤◌, ◌<◌}
-use mathlib.Core.Path.{◌≡◌, refl, ap, sym, ◌∙◌}
-use mathlib.Core.List.{List, [], ◌∷◌, ◌++◌, append_assoc}
+use Prim.Native.Nat.{ℕ, ◌+◌, ◌≤◌}
+use mathlib.Core.Path.{◌≡◌, ap, sym, ◌∙◌}
+use mathlib.Core.List.{List, ◌++◌, append_assoc}
 use native.Mathlib.Omega.{arith}
 use lib.Dec.{leb, leb→le, nleb→lt}
 use lib.ListN.{length, take, drop}
@@ -11,9 +11,8 @@ use Rattle.display.specs.Display.{records}
 use Rattle.memory.specs.Splice.{splice}
 use Rattle.image.specs.board.Board.{state_in}
 use Rattle.image.specs.Image.{state_of}
-use Rattle.waiting_list.specs.sizes.Sizes.{RECORDS}
 use Rattle.waiting_list.specs.records.Records.{Lists}
-use Rattle.waiting_list.specs.WaitingList.{Sound, Tells as TellsBytes}
+use Rattle.waiting_list.specs.WaitingList.{Tells as TellsBytes}
 use Rattle.waiting_list.proofs.Laws.{sound_or_not, few_listed as few_bytes}
 use Rattle.record_structs.specs.declared.Waiter.{Waiter}
 use Rattle.record_structs.specs.RecordStructs.{written, waiters_from, waiters_in, Unlisted, Full, Tells, Takes, Filled}

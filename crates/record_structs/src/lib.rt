@@ -23,13 +23,6 @@ pub struct Waiter {
     pub desk: u8,
 }
 
-// Who waits, as byte records: the refusal, or 0, with how many they are; the bytes.
-#[derive(Clone, Copy)]
-struct Told {
-    listed: Listed,
-    bytes: [u8; audio::RECORDS_SIZE],
-}
-
 // How many bytes of records a list of so many structs takes: all, or none.
 fn bytes_for(room: usize) -> usize
     ensures { Takes room result }
@@ -37,22 +30,21 @@ fn bytes_for(room: usize) -> usize
     if room < ROOM { 0 } else { audio::RECORDS_SIZE }
 }
 
-// The byte records of who waits, for a list that has room for so many structs.
-fn byte_records(state: &[u8], table: &[u8], room: usize) -> Told
-    ensures { Filled state.now table.now room result.listed.error result.listed.count result.bytes }
+// Who waits, for a list that has room for so many structs: the refusal, or 0, with how many they are; their byte records.
+fn byte_records(state: &[u8], table: &[u8], room: usize) -> (Listed, [u8; audio::RECORDS_SIZE])
+    ensures { Filled state.now table.now room result.0.error result.0.count result.1 }
 {
     let mut bytes = [0u8; audio::RECORDS_SIZE];
     let k = bytes_for(room);
     let listed = waiting_list::waiting(state, table, &mut bytes[..k]);
-    Told { listed, bytes }
+    (listed, bytes)
 }
 
 // Record i.
-fn at(t: Told, i: usize) -> Waiter
+fn at(bytes: &[u8; audio::RECORDS_SIZE], i: usize) -> Waiter
     requires { i < 64 }
-    ensures { result ≡ waiter_at t.bytes i }
+    ensures { result ≡ waiter_at bytes.now i }
 {
-    let bytes = t.bytes;
     let k = i * 4;
     Waiter {
         id: bytes[k],
@@ -67,14 +59,11 @@ fn at(t: Told, i: usize) -> Waiter
 pub fn waiting(state: &[u8], table: &[u8], list: &mut [Waiter]) -> Listed
     ensures { Tells state.now table.now list.old result.error result.count list.new }
 {
-    let t = byte_records(state, table, list.len());
-    let n = t.listed.count;
-    let mut i: usize = 0;
-    while i < n {
-        list[i] = at(t, i);
-        i += 1;
+    let (listed, bytes) = byte_records(state, table, list.len());
+    for i in 0..listed.count {
+        list[i] = at(&bytes, i);
     }
-    t.listed
+    listed
 }
 
 // A list by value, and what `waiting` answered of it.
@@ -84,16 +73,10 @@ pub struct Waiters {
     pub list: [Waiter; ROOM],
 }
 
-fn together(listed: Listed, list: [Waiter; ROOM]) -> Waiters
-    ensures { (result.listed ≡ listed) × (result.list ≡ list) }
-{
-    Waiters { listed, list }
-}
-
 // `waiting`, of a list that comes and goes by value and is lent in between.
 pub fn in_array(state: &[u8], table: &[u8], mut list: [Waiter; ROOM]) -> Waiters
     ensures { Tells state.now table.now list result.listed.error result.listed.count result.list }
 {
     let listed = waiting(state, table, &mut list);
-    together(listed, list)
+    Waiters { listed, list }
 }

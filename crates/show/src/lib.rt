@@ -19,26 +19,26 @@ pub fn count(n: usize) {
 fn digit(n: u8) -> u8
     requires { n < 16 }
 {
-    if n < 10 { 48 + n } else { 55 + n }
+    b"0123456789ABCDEF"[usize::from(n)]
 }
 
+// By hand and not by a format: a macro that prints takes the runtime, which no trial is given.
 fn byte(b: u8) {
     let digits = [digit(b / 16), digit(b % 16)];
     text(&digits);
 }
 
+fn bytes(list: &[u8]) {
+    for b in list {
+        byte(*b);
+    }
+}
+
 // The first n records of a reply list, as far as it goes, each as the log has it.
 pub fn records(list: &[u8], n: usize) {
-    let mut i: usize = 0;
-    while i < list.len() {
-        if i / 6 >= n {
-            return;
-        }
-        if i % 6 == 0 {
-            text(b" C0");
-        }
-        byte(list[i]);
-        i += 1;
+    for record in list.chunks(6).take(n) {
+        text(b" C0");
+        bytes(record);
     }
 }
 
@@ -51,8 +51,7 @@ pub fn answer(a: Answer) {
     byte(kind(a.outstanding));
     byte(a.error);
     byte(a.map);
-    byte((a.key / 256) as u8);
-    byte((a.key % 256) as u8);
+    bytes(&a.key.to_be_bytes());
     byte(a.extra);
 }
 

@@ -1,7 +1,7 @@
 -- Why the maker and the checker agree with the request: a map that meets the wish is below 16, so that it stands in the list of
 -- those wished; and a list in which each of these stands once and nothing else stands has each number as often as it should.
 -- Assumes nothing.
-use Prim.Native.Nat.{ℕ, zero, suc, ◌+◌, ◌-◌, ◌≤◌, ◌<◌}
+use Prim.Native.Nat.{ℕ, zero, suc, ◌≤◌, ◌<◌}
 use mathlib.Core.Path.{◌≡◌, refl, ap, subst, sym, ◌∙◌}
 use mathlib.Core.Bool.{Bool, true, false, not, ◌&&◌, ◌||◌}
 use mathlib.Core.Logic.{◌↔◌}
@@ -9,8 +9,7 @@ use mathlib.Core.List.{List, [], ◌∷◌, ◌++◌, append-nil, map}
 use native.Mathlib.Omega.{arith}
 use lib.Dec.{T, T_not, not_T, eqb, leb, ltb, eqb→eq, eqb_refl, leb→le, nleb→lt, ltb→lt, nltb→le}
 use borrow.Author.Tests.{le-leb}
-use lib.ListN.{length, drop, take, get_or, length-append}
-use Rattle.std.specs.Prelude.{if◌then◌else◌}
+use lib.ListN.{length, length-append}
 use Rattle.machine_laws.specs.machine.Lists.{all, any, keep, among}
 use Rattle.machine_laws.proofs.machine.Tests.{and_left, and_right, and_both, or_map, eqb_flip, test_true, test_false, by_test}
 use Rattle.machine_laws.proofs.Lists.{keep_append, keep_all, among_all, among-append}

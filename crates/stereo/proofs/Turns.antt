@@ -6,71 +6,36 @@ use mathlib.Core.Bool.{Bool, true, false, not, ◌&&◌}
 use mathlib.Core.List.{List, [], ◌∷◌, ◌++◌}
 use native.Mathlib.Omega.{arith}
 use native.Mathlib.Numerals.{add-one}
-use borrow.Author.Tests.{lt-ltb, le-ltb, lt-leb, le-leb, eq-eqb, ne_eqb}
+use borrow.Author.Tests.{lt-ltb, le-ltb, lt-leb, le-leb}
 use lib.Dec.{T, not_T, eqb, eqb→eq}
-use lib.ListN.{length, length-append, drop, drop_of_length-le, get_or, set}
-use lib.Seq.{drop-cons}
+use lib.ListN.{length, length-append, set}
 use Rattle.std.specs.Prelude.{if◌then◌else◌}
+use Rattle.std.specs.List.{filter, list_all}
 use Rattle.machine_laws.specs.machine.Lists.{all, keep}
 use Rattle.machine_laws.proofs.machine.Tests.{test_true, test_false}
 use Rattle.machine_laws.proofs.Lists.{all_append, among_all}
 use Rattle.memory.specs.Splice.{splice}
 use Rattle.memory.proofs.Splice.{splice_none, splice_snoc, length-splice}
 use Rattle.wishes.specs.Wishes.{meets}
-use Rattle.stereo.specs.Stereo.{below, wished, refusal, count, made, Listed, Makes, times, accepts}
-use Rattle.stereo.specs.declared.Made.{Made}
+use Rattle.stereo.specs.Stereo.{below, wished, refusal, count, made, Makes, times, accepts}
 use Rattle.stereo.proofs.Laws.{next_meets, next_misses, room, wished_has}
 
--- ---- times
+-- ---- lists, as the standard library counts and tests them
 
-pub record Counted (b : ℕ) (ms : List ℕ) (i n : ℕ) : Type 0 where
-  pub inside : i ≤ length ms
-  pub few : n ≤ i
-  pub rest : n + times b (drop i ms) ≡ times b ms
+pub counted : (b : ℕ) (ms : List ℕ) → length (filter (λ m. eqb m b) ms) ≡ times b ms
+unfolding times
+counted b [] = refl
+counted b (m ∷ ms) = go (eqb m b) (counted b ms)
+  where
+    go : (t : Bool) → length (filter (λ x. eqb x b) ms) ≡ times b ms
+        → length (if t then m ∷ filter (λ x. eqb x b) ms else filter (λ x. eqb x b) ms) ≡ (if t then suc (times b ms) else times b ms)
+    go true h = ap suc h
+    go false h = h
 
-pub counted_start : (b : ℕ) (ms : List ℕ) → Counted b ms 0 0
-counted_start b ms = record { inside = omega arith; few = omega arith; rest = omega arith }
-
-module _ {b : ℕ} {ms : List ℕ} {i n : ℕ} (t : Counted b ms i n) where
-  pub counted_end : length ms ≤ i → n ≡ times b ms
-  unfolding times
-  counted_end h = let e = rw (drop_of_length-le ms h) at t.rest in omega arith
-
-  module _ (h : i < length ms) where
-    pub counted_hit : get_or ms i 0 ≡ b → Counted b ms (i + 1) (n + 1)
-    unfolding times
-    counted_hit e =
-        let r : n + suc (times b (drop (suc i) ms)) ≡ times b ms = rw (drop-cons ms i 0 h, eq-eqb _ _ e) at t.rest in
-        let f = t.few in
-        record { inside = omega arith; few = omega arith; rest = rw (add-one i) (omega arith) }
-
-    pub counted_miss : (get_or ms i 0 ≡ b → ⊥) → Counted b ms (i + 1) n
-    unfolding times
-    counted_miss e =
-        let f = t.few in
-        record { inside = omega arith; few = omega arith; rest = rw (add-one i) (rw (drop-cons ms i 0 h, ne_eqb _ _ e) at t.rest) }
-
--- ---- nothing_else
-
-pub record Alone (l r : ℕ) (ms : List ℕ) (i : ℕ) : Type 0 where
-  pub rest : all (meets l r) (drop i ms) ≡ all (meets l r) ms
-
-pub alone_start : (l r : ℕ) (ms : List ℕ) → Alone l r ms 0
-alone_start l r ms = record { rest = refl }
-
-module _ {l r : ℕ} {ms : List ℕ} {i : ℕ} (t : Alone l r ms i) where
-  pub alone_end : length ms ≤ i → true ≡ all (meets l r) ms
-  unfolding all
-  alone_end h = rw (drop_of_length-le ms h) at t.rest
-
-  module _ (h : i < length ms) (b : Bool) (m : b ≡ meets l r (get_or ms i 0)) where
-    pub alone_stop : b ≡ false → false ≡ all (meets l r) ms
-    unfolding all
-    alone_stop e = rw (drop-cons ms i 0 h, sym m, e) at t.rest
-
-    pub alone_more : b ≡ true → Alone l r ms (i + 1)
-    unfolding all
-    alone_more e = record { rest = rw (add-one i) (rw (drop-cons ms i 0 h, sym m, e) at t.rest) }
+pub all_tested : (p : ℕ → Bool) (ms : List ℕ) → list_all p ms ≡ all p ms
+unfolding all
+all_tested p [] = refl
+all_tested p (m ∷ ms) = ap (λ (b : Bool). p m && b) (all_tested p ms)
 
 -- ---- fill
 

@@ -10,7 +10,7 @@ ghost use Rattle.stereo.specs.Stereo.{wished, Makes, times as timesOf, accepts a
 
 use wishes::board::Board;
 
-// The refusal, or 0, and how many maps were written.
+// The refusal, or 0, and how many maps were written. Bytes and no Result: the program in C gets both numbers as they stand here.
 #[derive(Clone, Copy)]
 pub struct Made {
     pub error: u8,
@@ -22,14 +22,12 @@ fn fill(left: u8, right: u8, maps: &mut [u8]) -> usize
     requires { (left ≤ 2) × (right ≤ 2) × (4 ≤ length maps.old) }
     ensures { (result ≡ length (wished left right)) × (maps.new ≡ splice maps.old 0 (wished left right)) }
 {
-    let mut n: usize = 0;
-    let mut map: u8 = 0;
-    while map <= Board::TOP {
+    let mut n = 0;
+    for map in 0..=Board::TOP {
         if wishes::meets(left, right, map) {
             maps[n] = map;
             n += 1;
         }
-        map += 1;
     }
     n
 }
@@ -62,43 +60,26 @@ pub fn make(left: u8, right: u8, maps: &mut [u8]) -> Made
 fn times(map: u8, maps: &[u8]) -> usize
     ensures { result ≡ timesOf map maps.now }
 {
-    let mut n: usize = 0;
-    let mut i: usize = 0;
-    while i < maps.len() {
-        if maps[i] == map {
-            n += 1;
-        }
-        i += 1;
-    }
-    n
+    maps.iter().filter(|m| **m == map).count()
 }
 
 // Nothing in the list but maps that meet the wish.
 fn nothing_else(left: u8, right: u8, maps: &[u8]) -> bool
     ensures { result ≡ all (meets_of left right) maps.now }
 {
-    let mut i: usize = 0;
-    while i < maps.len() {
-        if !wishes::meets(left, right, maps[i]) {
-            return false;
-        }
-        i += 1;
-    }
-    true
+    maps.iter().all(|map| wishes::meets(left, right, *map))
 }
 
 // Every map that meets the wish, once.
 fn each_once(left: u8, right: u8, maps: &[u8]) -> bool
     ensures { result ≡ all (λ m. eqb (timesOf m maps.now) 1) (wished left right) }
 {
-    let mut map: u8 = 0;
-    while map <= Board::TOP {
+    for map in 0..=Board::TOP {
         if wishes::meets(left, right, map) {
             if times(map, maps) != 1 {
                 return false;
             }
         }
-        map += 1;
     }
     true
 }

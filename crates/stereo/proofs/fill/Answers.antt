@@ -1,7 +1,6 @@
 -- `fill` meets its contract: after m turns the maps below m that meet the wish stand at the front.
 -- Assumes nothing.
 use native.Mathlib.Omega.{arith}
-use Prim.Native.Nat.{◌-◌}
 use Rattle.stereo.proofs.Turns.{filled_start, filled_hit, filled_miss, filled_room, filled-length, filled_end}
 use borrow.Author.Rules.{rules}
 use Rattle.stereo.proofs.fill.Goals.{else-meets, then-meets}

@@ -1,24 +1,18 @@
--- `times` meets its contract: what was counted, and what is left to count, are the whole.
+-- `times` meets its contract: what is left of the list, where only the number is kept, is counted.
 -- Assumes nothing.
-use Prim.Native.Nat.{◌-◌}
-use Rattle.stereo.proofs.Turns.{counted_start, counted_hit, counted_miss, counted_end}
-use borrow.Author.Rules.{rules}
-use Rattle.stereo.proofs.times.Goals.{else-maps-i, then-maps-i}
+use mathlib.Core.Path.{◌∙◌}
+use lib.Dec.{eqb}
+use Rattle.std.proofs.Common.{rules}
+use borrow.Author.Tests.{tests}
+use Rattle.std.proofs.lemmas.Iterator.{YieldsList-from_slice}
+use Rattle.std.proofs.lemmas.Iterator.Consumers.{YieldsList-at, YieldsList-from_filter, count_from_yields_List}
+use Rattle.stereo.proofs.Turns.{counted}
 use Rattle.stereo.proofs.times.Goals as goal
 
-pub loop-i-init : goal.loop-i-init
-loop-i-init c = counted_start _ _
-
-pub overflow_add-n : goal.overflow_add-n
-overflow_add-n c = let l = c.loop-i in let f = l.invariant.few in search rules
-
-pub loop-i-preserved : goal.loop-i-preserved
-loop-i-preserved c =
-    let l = c.loop-i in
-    elim c.if-maps-i.branch [
-      | then-maps-i w ↦ rw w.n-is (counted_hit l.invariant (search rules) w.if-maps-i.true)
-      | else-maps-i w ↦ rw w.n-is (counted_miss l.invariant (search rules) w.if-maps-i.false)
-    ]
-
 pub returns : goal.returns
-returns c = counted_end c.loop-i.invariant (search rules)
+returns c =
+    let a = c.args in
+    count_from_yields_List _ _ c.count.ensures.ran
+    (YieldsList-from_filter _ (λ m. eqb m a.map) (YieldsList-at c.filter.ensures.source (YieldsList-from_slice a.maps.now cc)) c.filter.ensures.closure
+    (λ x b q k. search (rules, tests)))
+    ∙ counted a.map a.maps.now

@@ -1,21 +1,10 @@
 -- `cut` is safe: no more is lent than there is, and what was saved is whole. Assumes nothing.
 use mathlib.Core.Path.{sym}
-use lib.Seq.{length-take-le}
 use Rattle.image.proofs.Laws.{whole_long}
 use Rattle.any_bytes.proofs.scene.cut.Goals as goal
 
 pub slice_bounds-call-end : goal.slice_bounds-call-end
 slice_bounds-call-end c = sym (whole_long _ c.save.ensures.whole)
-
-pub slice_bounds-call-end-3 : goal.slice_bounds-call-end-3
-slice_bounds-call-end-3 c =
-    sym (length-take-le _ _
-    c.least-k.ensures)
-
-pub slice_bounds-call-end-5 : goal.slice_bounds-call-end-5
-slice_bounds-call-end-5 c =
-    sym (length-take-le _ _
-    c.least-m.ensures)
 
 pub slice_bounds-load-end : goal.slice_bounds-load-end
 slice_bounds-load-end c =
