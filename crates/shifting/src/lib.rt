@@ -9,7 +9,7 @@ ghost use Rattle.shifting.specs.Shifting.{shifted};
 fn shift(b: u8, more: u8, less: u8) -> u8
     ensures { result ≡ shifted b more less }
 {
-    ((b as u16 + more as u16 + 256 - less as u16) % 256) as u8
+    b.wrapping_add(more).wrapping_sub(less)
 }
 
 // The number at place j, so.
