@@ -1,14 +1,17 @@
 -- The lines of a display: how long they are, how they grow by a struct, that they are those that crate `display` says, and that they fit
 -- the memory that is lent. Assumes nothing.
-use Prim.Native.Nat.{ℕ, suc, ◌+◌, ◌-◌, ◌*◌, ◌/◌, ◌%◌, ◌≤◌, ◌<◌}
+use Prim.Native.Nat.{ℕ, suc, ◌+◌, ◌*◌, ◌≤◌, ◌<◌}
 use mathlib.Core.Path.{◌≡◌, refl, ap, sym, ◌∙◌}
+use mathlib.Core.Bool.{Bool, true, false}
 use mathlib.Core.List.{List, [], ◌∷◌, ◌++◌, map, append_assoc, append-nil}
 use native.Mathlib.Omega.{arith}
 use native.Mathlib.Numerals.{add-one}
 use lib.ListN.{length, take, drop, get_or, set, length-append, length-drop, length-map}
 use lib.Seq.{take-suc, length-take-le}
+use mir.Val.{bool_byte}
+use Rattle.std.specs.Prelude.{if◌then◌else◌}
 use Rattle.spelling.specs.memory.Splice.{splice}
-use Rattle.spelling.proofs.memory.Splice.{splice_then, splice_snoc}
+use Rattle.spelling.proofs.memory.Splice.{splice_then}
 use Rattle.spelling.specs.machine.State.{Channel, Request, State}
 use Rattle.spelling.specs.machine.Log.{hex_digit, line}
 use Rattle.spelling.specs.Spelling.{digits}
@@ -47,6 +50,11 @@ unfolding load_of line hex_digit
 load_shown = refl
 
 -- ---- structs one behind the other
+
+-- held or not, as the standard library makes a byte of a truth value
+pub byte_held : (b : Bool) → bool_byte b ≡ (if b then 1 else 0)
+byte_held true = refl
+byte_held false = refl
 
 pub length-record_lines : (ws : List Waiter) → length (record_lines ws) ≡ length ws * 11
 unfolding record_lines

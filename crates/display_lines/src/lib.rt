@@ -2,7 +2,7 @@
 // A line is written at its place and nowhere else. Assumes nothing.
 #![tactic(auto)]
 
-ghost use Rattle.std.specs.Prelude.{◌≡◌, ◌∷◌, ◌+◌, ◌*◌, ◌≤◌, length, take, if◌then◌else◌};
+ghost use Rattle.std.specs.Prelude.{◌≡◌, ◌∷◌, ◌+◌, ◌*◌, ◌≤◌, length, take};
 ghost use Rattle.spelling.specs.memory.Splice.{splice};
 ghost use Rattle.spelling.specs.machine.Log.{line};
 ghost use Rattle.display_lines.specs.DisplayLines.{load_of, four_of, record_lines, Shows};
@@ -34,32 +34,22 @@ fn put_record(out: &mut [u8], at: usize, bs: &[u8])
     out[at + 10] = 10;
 }
 
-// Held or not.
-fn mark(held: bool) -> u8
-    ensures { result ≡ (if held then 1 else 0) }
-{
-    if held { 1 } else { 0 }
-}
-
 // The line of a waiting request.
 fn put_waiter(out: &mut [u8], at: usize, w: Waiter)
     requires { at + 11 ≤ length out.old }
     ensures { out.new ≡ splice out.old at (line (0xE1 ∷ four_of w)) }
 {
-    let held = mark(w.held);
-    let bs = [w.id, w.prec, held, w.desk];
+    let bs = [w.id, w.prec, u8::from(w.held), w.desk];
     put_record(out, at, &bs);
 }
 
-// The lines of the first n structs.
-fn put_records(out: &mut [u8], at: usize, list: [Waiter; ROOM], n: usize)
-    requires { (n ≤ 64) × (at + n * 11 ≤ length out.old) }
-    ensures { out.new ≡ splice out.old at (record_lines (take n list)) }
+// A line for each struct.
+fn put_records(out: &mut [u8], at: usize, list: &[Waiter])
+    requires { at + length list.now * 11 ≤ length out.old }
+    ensures { out.new ≡ splice out.old at (record_lines list.now) }
 {
-    let mut i: usize = 0;
-    while i < n {
-        put_waiter(out, at + i * 11, list[i]);
-        i += 1;
+    for (i, w) in list.iter().enumerate() {
+        put_waiter(out, at + i * 11, *w);
     }
 }
 
@@ -77,6 +67,6 @@ pub fn spell(
     let w = width as usize;
     put_load(out, w, display);
     let k = 7 + 4 * w;
-    put_records(out, k, list, n);
+    put_records(out, k, &list[..n]);
     k + n * 11
 }
