@@ -24,13 +24,6 @@ pub const LAST: usize = 820;
 
 pub const WIDTH: usize = 822;
 
-// A byte, as a place in a list.
-pub fn wide(x: u8) -> usize
-    ensures { result ≡ x }
-{
-    x as usize
-}
-
 // The place of the writes of channel i.
 pub fn writes(i: usize) -> usize
     requires { i < 8 }
@@ -66,13 +59,8 @@ pub fn fresh(state: &mut [u8], width: u8)
     ensures { PutFresh width state.new }
 {
     memory::clear(state, 0, audio::STATE_SIZE);
-    state[2] = 128;
-    state[72] = 128;
-    state[142] = 128;
-    state[212] = 128;
-    state[282] = 128;
-    state[352] = 128;
-    state[422] = 128;
-    state[492] = 128;
+    for i in 0..8 {
+        state[i * audio::CHANNEL_SIZE + audio::CHANNEL_PRECEDENCE] = 128;
+    }
     state[WIDTH] = width;
 }

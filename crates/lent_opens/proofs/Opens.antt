@@ -7,14 +7,17 @@ use native.Mathlib.Nat.{div-add-mod'}
 use lib.Dec.{T}
 use lib.ListN.{length, get_or, take, drop, set, replicate, length-append, length-take, length-drop, replicate-append-replicate}
 use lib.Seq.{drop-cons, length-take-le, take-append_seam, drop-append_seam, drop-append-add, take_at, drop_at, drop-append-le, drop-drop, get_or-take}
+use Rattle.std.specs.declared.option.Option.{Option}
+use Rattle.std.specs.declared.option.Option.TheVariants.{Some, None}
 use Rattle.memory.specs.Splice.{splice}
 use Rattle.memory.proofs.Splice.{length-splice}
 use Rattle.machine.specs.Commands.{closed}
 use Rattle.machine.specs.InBytes.{two_bytes}
 use Rattle.queue.specs.Queue.{remove_at}
+use Rattle.queue.proofs.Laws.{found, missing}
 use Rattle.open_keys.specs.declared.Keys.{Keys}
-use Rattle.open_keys.specs.OpenKeys.{pad, keys_of, keys_in, Tidy, index_of}
-use Rattle.open_keys.proofs.Laws.{length-pad, index_closed, index_absent}
+use Rattle.open_keys.specs.OpenKeys.{pad, keys_of, keys_in, Tidy, index_of, place_of}
+use Rattle.open_keys.proofs.Laws.{length-pad, index_closed, index_absent, place_is}
 use Rattle.image.specs.Image.{keys_bytes, open_bytes, key_at, keys_from, open_at, queue_at, state_of, all_marks}
 use Rattle.image.proofs.Round.{keys_part}
 use Rattle.lent_queues.specs.lent.Lent.{with_opens, PutOpens}
@@ -90,6 +93,17 @@ open_long l h = length-take-le (get_or l 755 0) (keys_from 32 l 756) (omega (ari
 pub open_key : (l : List ℕ) (i : ℕ) → i < get_or l 755 0 → i < 32 → get_or (keys_in (open_at l 755)) i 0 ≡ key_at l (756 + 2 * i)
 unfolding open_at
 open_key l i h g = get_or-take (get_or l 755 0) (keys_from 32 l 756) i 0 h ∙ keys_at l 32 i 756 g
+
+-- what the search answers
+module _ (l : List ℕ) (key : ℕ) (h : get_or l 755 0 ≤ 32) {o : Option ℕ} (e : o ≡ place_of key (keys_in (open_at l 755))) where
+  abbrev ks : List ℕ
+  ks = keys_in (open_at l 755)
+
+  pub placed : {k : ℕ} → o ≡ Some k → (k ≡ index_of key ks) × (k < get_or l 755 0)
+  placed s = let f = found (index_of key ks) (length ks) (e ∙ place_is key ks) s in (f.0, omega (arith, f.1, open_long l h))
+
+  pub unplaced : o ≡ None → get_or l 755 0 ≤ index_of key ks
+  unplaced s = omega (arith, missing (index_of key ks) (length ks) (e ∙ place_is key ks) s, open_long l h)
 
 pub open_there : (l : List ℕ) → (state_of l).state.opens ≡ open_at l 755
 unfolding state_of

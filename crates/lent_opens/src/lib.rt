@@ -5,36 +5,33 @@
 ghost use Rattle.std.specs.Prelude.{◌≡◌, [], ◌∷◌, ◌++◌, ◌≤◌, ◌<◌, length, get_or};
 ghost use Rattle.machine.specs.Lists.{among};
 ghost use Rattle.machine.specs.Commands.{closed};
-ghost use Rattle.open_keys.specs.OpenKeys.{keys_of, keys_in, Tidy as TidyKeys, index_of as key_place};
+ghost use Rattle.open_keys.specs.OpenKeys.{keys_of, keys_in, Tidy as TidyKeys, place_of};
 ghost use Rattle.image.specs.Image.{open_at, state_of};
 ghost use Rattle.lent_queues.specs.lent.Lent.{PutOpens};
 
 use lent_queues::close_up;
-use lent_queues::lent::{OPEN_KEYS, OPENS, wide};
+use lent_queues::lent::{OPEN_KEYS, OPENS};
 
-// Where a key first stands among the open ones; their number where it stands nowhere.
-fn open_place(state: &[u8], key: u16) -> usize
+// Where a key first stands among the open ones, if it is one of them.
+fn open_place(state: &[u8], key: u16) -> Option<usize>
     requires { (length state.now ≡ 823) × (get_or state.now 755 0 ≤ 32) }
-    ensures { result ≡ key_place key (keys_in (open_at state.now 755)) }
+    ensures { result ≡ place_of key (keys_in (open_at state.now 755)) }
 {
-    let n = wide(state[OPENS]);
-    let mut i: usize = 0;
-    while i < n {
+    let n = usize::from(state[OPENS]);
+    for i in 0..n {
         let k = memory::key_at(state, OPEN_KEYS + 2 * i);
         if k == key {
-            return i;
+            return Some(i);
         }
-        i += 1;
     }
-    i
+    None
 }
 
 pub fn has_open(state: &[u8], key: u16) -> bool
     requires { (length state.now ≡ 823) × ((state_of state.now).state.opens.n ≤ 32) }
     ensures { result ≡ among key (keys_in (state_of state.now).state.opens) }
 {
-    let n = wide(state[OPENS]);
-    open_place(state, key) < n
+    open_place(state, key).is_some()
 }
 
 // One more open key, behind the others.
@@ -44,7 +41,7 @@ pub fn add_open(state: &mut [u8], key: u16)
     ensures { PutOpens state.old (λ q. keys_of (keys_in q ++ key ∷ [])) state.new }
 {
     let n = state[OPENS];
-    memory::put_key(state, OPEN_KEYS + 2 * wide(n), key);
+    memory::put_key(state, OPEN_KEYS + 2 * usize::from(n), key);
     state[OPENS] = n + 1;
 }
 
@@ -54,12 +51,15 @@ pub fn close_open(state: &mut [u8], key: u16)
         × ((state_of state.old).state.opens.n ≤ 32) }
     ensures { PutOpens state.old (λ q. keys_of (closed key (keys_in q))) state.new }
 {
-    let n = state[OPENS];
-    let k = open_place(state, key);
-    let m = wide(n);
-    if k < m {
-        close_up(state, OPEN_KEYS + 2 * k, OPEN_KEYS + 2 * m);
-        close_up(state, OPEN_KEYS + 2 * k, OPEN_KEYS + 2 * m);
-        state[OPENS] = n - 1;
+    match open_place(state, key) {
+        Some(k) => {
+            let n = state[OPENS];
+            let lo = OPEN_KEYS + 2 * k;
+            let hi = OPEN_KEYS + 2 * usize::from(n);
+            close_up(state, lo, hi);
+            close_up(state, lo, hi);
+            state[OPENS] = n - 1;
+        }
+        None => {}
     }
 }

@@ -1,55 +1,23 @@
 -- Bytes moved one place, and the queue that they leave where zeros stand behind its ids. Assumes nothing.
-use Prim.Native.Nat.{ℕ, zero, suc, ◌+◌, ◌-◌, ◌≤◌, ◌<◌}
+use Prim.Native.Nat.{ℕ, suc, ◌+◌, ◌-◌, ◌≤◌, ◌<◌}
 use mathlib.Core.Path.{◌≡◌, refl, ap, ap₂, sym, subst, ◌∙◌}
 use mathlib.Core.Bool.{Bool, cond}
 use mathlib.Core.List.{List, [], ◌∷◌, ◌++◌, append_assoc}
 use native.Mathlib.Omega.{arith}
-use native.Mathlib.Numerals.{add-one}
 use lib.ListN.{drop_of_length-le, length, get_or, take, drop, set, replicate, length-append, length-take, length-drop, length-set, take-append-drop, replicate-append-replicate}
-use lib.Seq.{take-take, get_or-set_same, set-append_seam, take-set-lt, drop-set-lt, get_or-take, take-append-add, drop-append-add, take-append-le, drop-append-le, take-append_seam, drop-append_seam, take_at, set_at, drop-drop, drop-cons, length-take-le, set_split, set-append_left, take-set-le, drop-set-add}
+use lib.Seq.{take-take, get_or-set_same, set-append_seam, drop-set-lt, take-append-add, drop-append-add, take-append-le, drop-append-le, take-append_seam, drop-append_seam, take_at, set_at, drop-drop, drop-cons, length-take-le, set-append_left, take-set-le}
 use borrow.Author.Tests.{lt-ltb, le-ltb}
 use borrow.Rule.Slice.PartMut.{put_mid}
 use Rattle.memory.specs.Splice.{splice}
 use Rattle.memory.proofs.Splice.{drop-take}
 use Rattle.queue.specs.declared.Queue.{Queue}
 use Rattle.queue.specs.Queue.{pad, queue_of, list_of, insert_at, remove_at, pushed, inserted, removed, index_of}
-use Rattle.queue.proofs.Laws.{shift_turn, shift_end, opened, open_turn, open_end, removed_of, inserted_of}
+use Rattle.queue.proofs.Laws.{removed_of, inserted_of}
 use Rattle.image.specs.Image.{queue_bytes, queue_at, Filled}
 use Rattle.lent.specs.Lent.{Tidy, without, PutQueue}
 use Rattle.lent_queues.specs.Moves.{shut, spread}
 use Rattle.lent.proofs.Bytes.{Bytes, bytes_more, bytes-append, bytes_take, bytes_drop, bytes-set, bytes-zeros}
 use Rattle.lent.proofs.Puts.{filled_at, put-queue}
-
--- ---- turns of the loops
-
--- what is left to do gives the same
-pub shut_turn : (l : List ℕ) (i hi : ℕ) → i + 1 < hi → hi ≤ length l → shut (set l i (get_or l (i + 1) 0)) (i + 1) hi ≡ shut l i hi
-unfolding shut
-shut_turn l i hi h g =
-    let v = get_or l (i + 1) 0 in
-    let e : take hi (set l i v) ≡ set (take hi l) i v = take-set-lt hi l i v (omega arith) in
-    let w : v ≡ get_or (take hi l) (i + 1) 0 = sym (get_or-take hi l (i + 1) 0 h) in
-    let n : length (take hi l) ≡ hi = length-take-le hi l g in
-    ap₂ (λ (x y : List ℕ). remove_at x (i + 1) ++ y) (e ∙ ap (set (take hi l) i) w) (drop-set-lt hi l i v (omega arith))
-    ∙ ap (λ (x : List ℕ). x ++ drop hi l) (shift_turn (take hi l) i (omega arith))
-
-pub shut_end : (l : List ℕ) (i hi : ℕ) → suc i ≡ hi → hi ≤ length l → set l i 0 ≡ shut l i hi
-unfolding shut
-shut_end l i hi h g =
-    let n : length (take hi l) ≡ hi = length-take-le hi l g in
-    sym (take-append-drop hi (set l i 0))
-    ∙ (ap₂ (λ (x y : List ℕ). x ++ y) (take-set-lt hi l i 0 (omega arith)) (drop-set-lt hi l i 0 (omega arith))
-    ∙ ap (λ (x : List ℕ). x ++ drop hi l) (shift_end (take hi l) i (omega arith)))
-
-spread-opened : (l : List ℕ) (lo id hi : ℕ) → spread l lo id hi ≡ opened l lo id hi
-unfolding spread opened
-spread-opened l lo id hi = refl
-
-pub spread_turn : (l : List ℕ) (lo id i j : ℕ) → i ≡ suc j → lo ≤ j → i < length l → spread (set l i (get_or l j 0)) lo id j ≡ spread l lo id i
-spread_turn l lo id i j e h g = spread-opened (set l i (get_or l j 0)) lo id j ∙ (open_turn l lo id i j e h g ∙ sym (spread-opened l lo id i))
-
-pub spread_end : (l : List ℕ) (lo id : ℕ) → lo < length l → set l lo id ≡ spread l lo id lo
-spread_end l lo id h = open_end l lo id h ∙ sym (spread-opened l lo id lo)
 
 -- ---- by a turn of the bytes between two places
 
@@ -299,11 +267,3 @@ module _ (l : List ℕ) (at : ℕ) (h : at + 65 ≤ length l) where
       put-queue l at (λ q. without id q) h (ap (λ (q : Queue). length q.ids) (sym w) ∙ filled_at l at h)
       (sym same_bytes ∙ ap (λ (q : Queue). splice l at (queue_bytes q)) w)
       (λ y. subst (λ (q : Queue). Bytes (queue_bytes q)) w (bytes_more p.n p.ids (omega arith) (ids-bytes l at y)))
-
-pub spread-long : (l : List ℕ) (lo id hi : ℕ) → lo ≤ hi → hi < length l → length (spread l lo id hi) ≡ length l
-unfolding spread
-spread-long l lo id hi h g = simp (length-append, length-take, length-drop) (omega arith)
-
-pub shut-long : (l : List ℕ) (lo hi : ℕ) → lo < hi → hi ≤ length l → length (shut l lo hi) ≡ length l
-unfolding shut
-shut-long l lo hi h g = simp (length-append, length-take, length-drop) (omega arith)

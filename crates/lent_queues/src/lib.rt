@@ -3,20 +3,19 @@
 #![tactic(auto)]
 
 ghost use Rattle.std.specs.Prelude.{◌≡◌, [], ◌+◌, ◌≤◌, ◌<◌, length, get_or};
-ghost use Rattle.queue.specs.Queue.{queue_of, list_of, pushed, inserted, removed, index_of};
+ghost use Rattle.queue.specs.Queue.{queue_of, list_of, pushed, inserted, removed, place_of};
 ghost use Rattle.image.specs.Image.{queue_at};
 ghost use Rattle.lent.specs.Lent.{Tidy, without, PutQueue};
 ghost use Rattle.lent_queues.specs.Moves.{shut, spread};
 
 pub use lent;
-use lent::wide;
 
 // How many ids the queue at `at` has.
 pub fn count(state: &[u8], at: usize) -> usize
     requires { at < length state.now }
     ensures { result ≡ (queue_at state.now at).n }
 {
-    wide(state[at])
+    usize::from(state[at])
 }
 
 // Its id at place k.
@@ -27,20 +26,20 @@ pub fn id_at(state: &[u8], at: usize, k: usize) -> u8
     state[at + 1 + k]
 }
 
-// Where an id first stands in it; its number where it stands nowhere.
-pub fn find(state: &[u8], at: usize, id: u8) -> usize
+// Its ids, front first.
+fn ids(state: &[u8], at: usize) -> &[u8]
     requires { (at + 65 ≤ length state.now) × (get_or state.now at 0 ≤ 64) }
-    ensures { result ≡ index_of id (list_of (queue_at state.now at)) }
+    ensures { result.now ≡ list_of (queue_at state.now at) }
 {
-    let n = wide(state[at]);
-    let mut i: usize = 0;
-    while i < n {
-        if state[at + 1 + i] == id {
-            return i;
-        }
-        i += 1;
-    }
-    i
+    &state[at + 1..at + 1 + usize::from(state[at])]
+}
+
+// Where an id first stands in it, if it is among them.
+pub fn find(state: &[u8], at: usize, id: u8) -> Option<usize>
+    requires { (at + 65 ≤ length state.now) × (get_or state.now at 0 ≤ 64) }
+    ensures { result ≡ place_of id (list_of (queue_at state.now at)) }
+{
+    ids(state, at).iter().position(|x| *x == id)
 }
 
 pub fn empty(state: &mut [u8], at: usize)
@@ -56,7 +55,7 @@ pub fn push(state: &mut [u8], at: usize, id: u8)
     ensures { PutQueue state.old at (λ q. pushed q id) state.new }
 {
     let n = state[at];
-    let k = at + 1 + wide(n);
+    let k = at + 1 + usize::from(n);
     state[k] = id;
     state[at] = n + 1;
 }
@@ -87,7 +86,7 @@ pub fn insert(state: &mut [u8], at: usize, k: usize, id: u8)
 {
     let n = state[at];
     let first = at + 1;
-    make_room(state, first + k, first + wide(n), id);
+    make_room(state, first + k, first + usize::from(n), id);
     state[at] = n + 1;
 }
 
@@ -99,7 +98,7 @@ pub fn remove(state: &mut [u8], at: usize, k: usize)
 {
     let n = state[at];
     let first = at + 1;
-    close_up(state, first + k, first + wide(n));
+    close_up(state, first + k, first + usize::from(n));
     state[at] = n - 1;
 }
 
@@ -108,9 +107,8 @@ pub fn strike(state: &mut [u8], at: usize, id: u8)
     requires { (at + 65 ≤ length state.old) × Tidy (queue_at state.old at) × (get_or state.old at 0 ≤ 64) }
     ensures { PutQueue state.old at (λ q. without id q) state.new }
 {
-    let k = find(state, at, id);
-    let n = wide(state[at]);
-    if k < n {
-        remove(state, at, k);
+    match find(state, at, id) {
+        Some(k) => remove(state, at, k),
+        None => {}
     }
 }

@@ -1,38 +1,17 @@
 -- `fresh` meets its contract: zeros, the eight precedences, the number of channels. Assumes nothing.
-use mathlib.Core.Path.{sym, ◌∙◌}
+use Prim.Native.Nat.{ℕ}
+use mathlib.Core.Path.{◌≡◌, ap, sym, subst, ◌∙◌}
+use mathlib.Core.List.{List}
 use native.Mathlib.Omega.{arith}
-use lib.ListN.{length-set}
-use Rattle.lent.proofs.Anew.{fresh-long, put-fresh}
+use lib.ListN.{set}
+use Rattle.lent.specs.Lent.{PutFresh}
+use Rattle.lent.proofs.Anew.{precs, put-fresh}
 use Rattle.lent.proofs.fresh.Goals as goal
-
-pub bounds-state-72 : goal.bounds-state-72
-bounds-state-72 c = let e = fresh-long c.args.state.now _ c.requires c.clear.ensures in simp length-set (omega arith)
-
-pub bounds-state-142 : goal.bounds-state-142
-bounds-state-142 c = let e = fresh-long c.args.state.now _ c.requires c.clear.ensures in simp length-set (omega arith)
-
-pub bounds-state-212 : goal.bounds-state-212
-bounds-state-212 c = let e = fresh-long c.args.state.now _ c.requires c.clear.ensures in simp length-set (omega arith)
-
-pub bounds-state-282 : goal.bounds-state-282
-bounds-state-282 c = let e = fresh-long c.args.state.now _ c.requires c.clear.ensures in simp length-set (omega arith)
-
-pub bounds-state-352 : goal.bounds-state-352
-bounds-state-352 c = let e = fresh-long c.args.state.now _ c.requires c.clear.ensures in simp length-set (omega arith)
-
-pub bounds-state-422 : goal.bounds-state-422
-bounds-state-422 c = let e = fresh-long c.args.state.now _ c.requires c.clear.ensures in simp length-set (omega arith)
-
-pub bounds-state-492 : goal.bounds-state-492
-bounds-state-492 c = let e = fresh-long c.args.state.now _ c.requires c.clear.ensures in simp length-set (omega arith)
-
-pub bounds-state-822 : goal.bounds-state-822
-bounds-state-822 c = let e = fresh-long c.args.state.now _ c.requires c.clear.ensures in simp length-set (omega arith)
 
 pub returns : goal.returns
 returns c =
-    put-fresh c.args.state.now _ c.args.width c.requires
-    c.ranges.width.fits c.clear.ensures
-
-pub shape_of-state : goal.shape_of-state
-shape_of-state c = (returns c).long ∙ sym c.requires
+    let a = c.args in
+    let l = c.loop-i in
+    let eight : l.i ≡ 8 = omega arith in
+    subst (λ (x : List ℕ). PutFresh a.width (set x 822 a.width)) (sym (l.invariant ∙ ap (λ (i : ℕ). precs i c.clear.new.list) eight))
+    (put-fresh a.state.now _ a.width c.requires c.ranges.width.fits c.clear.ensures)

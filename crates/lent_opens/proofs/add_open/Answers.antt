@@ -9,22 +9,22 @@ use Rattle.lent_opens.proofs.Opens.{put_added}
 use borrow.Author.Rules.{rules}
 use Rattle.lent_opens.proofs.add_open.Goals as goal
 
-pub overflow_mul-wide : goal.overflow_mul-wide
+pub overflow_mul-from : goal.overflow_mul-from
 unfolding state_of open_at
-overflow_mul-wide c = let w = c.wide.ensures in let p = c.requires.2 in omega (arith, p)
+overflow_mul-from c = let w = c.from.ensures in let p = c.requires.2 in omega (arith, p)
 
-pub overflow_add-wide : goal.overflow_add-wide
+pub overflow_add-from : goal.overflow_add-from
 unfolding state_of open_at
-overflow_add-wide c = let w = c.wide.ensures in let p = c.requires.2 in omega (arith, p)
+overflow_add-from c = let w = c.from.ensures in let p = c.requires.2 in omega (arith, p)
 
 pub put_key-requires : goal.put_key-requires
 unfolding state_of open_at
-put_key-requires c = let w = c.wide.ensures in let p = c.requires.2 in omega (arith, p)
+put_key-requires c = let w = c.from.ensures in let p = c.requires.2 in omega (arith, p)
 
 pub overflow_add-state : goal.overflow_add-state
 unfolding state_of open_at
 overflow_add-state c =
-    let w = c.wide.ensures in
+    let w = c.from.ensures in
     let p = c.requires.2 in omega (arith, p)
 
 pub returns : goal.returns
@@ -34,7 +34,7 @@ returns c =
     put_added l (λ i. search rules) c.requires.0 c.requires.1
     c.args.key c.requires.2 c.ranges.key.fits
     (c.put_key.ensures
-    ∙ ap (λ (x : ℕ). splice l (756 + 2 * x) (two_bytes c.args.key)) c.wide.ensures)
+    ∙ ap (λ (x : ℕ). splice l (756 + 2 * x) (two_bytes c.args.key)) c.from.ensures)
 
 pub shape_of-state : goal.shape_of-state
 shape_of-state c = (returns c).long

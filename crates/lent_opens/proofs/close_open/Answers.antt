@@ -1,121 +1,71 @@
 -- `close_open` meets its contract: two bytes go from the place of the key, and their number is stored. Assumes nothing.
+use mathlib.Core.Path.{refl}
 use native.Mathlib.Omega.{arith}
 use Rattle.image.specs.Image.{state_of, open_at}
-use Rattle.lent_opens.proofs.Opens.{put-closed, put_same}
+use Rattle.lent_opens.proofs.Opens.{put-closed, put_same, placed, unplaced}
 use borrow.Author.Rules.{rules}
 use Rattle.lent_opens.proofs.close_open.Goals as goal
 
-pub open_place-k-requires : goal.open_place-k-requires
+pub open_place-requires : goal.open_place-requires
 unfolding state_of open_at
-open_place-k-requires c = let p = c.requires in (p.0, p.2)
+open_place-requires c = (c.requires.0, c.requires.2)
 
-pub overflow_mul-k : goal.overflow_mul-k
+pub overflow_mul-lo : goal.overflow_mul-lo
 unfolding state_of open_at
-overflow_mul-k c =
-    let w = c.wide-m.ensures in
-    let p = c.requires.2 in
-    let n = c.requires.0 in
-    let t = c.if-k-m.true in
-    omega (arith, p, w, t)
+overflow_mul-lo c =
+    let a = c.args in
+    let few = c.requires.2 in
+    let f = placed a.state.now a.key few c.open_place.ensures c.in-Some.is in
+    omega (arith, few, f.1)
 
-pub overflow_add-k : goal.overflow_add-k
+pub overflow_add-lo : goal.overflow_add-lo
 unfolding state_of open_at
-overflow_add-k c =
-    let w = c.wide-m.ensures in
-    let p = c.requires.2 in
-    let n = c.requires.0 in
-    let t = c.if-k-m.true in
-    omega (arith, p, w, t)
+overflow_add-lo c =
+    let a = c.args in
+    let few = c.requires.2 in
+    let f = placed a.state.now a.key few c.open_place.ensures c.in-Some.is in
+    omega (arith, few, f.1)
 
-pub overflow_mul-m : goal.overflow_mul-m
+pub overflow_sub-state : goal.overflow_sub-state
 unfolding state_of open_at
-overflow_mul-m c =
-    let w = c.wide-m.ensures in
-    let p = c.requires.2 in
-    let n = c.requires.0 in
-    let t = c.if-k-m.true in
-    omega (arith, p, w, t)
-
-pub overflow_add-m : goal.overflow_add-m
-unfolding state_of open_at
-overflow_add-m c =
-    let w = c.wide-m.ensures in
-    let p = c.requires.2 in
-    let n = c.requires.0 in
-    let t = c.if-k-m.true in
-    omega (arith, p, w, t)
+overflow_sub-state c =
+    let a = c.args in
+    let few = c.requires.2 in
+    let f = placed a.state.now a.key few c.open_place.ensures c.in-Some.is in
+    omega (arith, f.1)
 
 pub close_up-requires : goal.close_up-requires
 unfolding state_of open_at
 close_up-requires c =
-    let w = c.wide-m.ensures in
-    let p = c.requires.2 in
-    let n = c.requires.0 in
-    let t = c.if-k-m.true in
-    (omega (arith, t), omega (arith, p, w, t, n))
+    let a = c.args in
+    let few = c.requires.2 in
+    let f = placed a.state.now a.key few c.open_place.ensures c.in-Some.is in
+    let many = c.from.ensures in
+    let size = c.requires.0 in
+    (omega (arith, f.1, many), omega (arith, few, many, size))
 
-pub overflow_mul-k-then-k-m : goal.overflow_mul-k-then-k-m
+pub close_up-requires-in-Some : goal.close_up-requires-in-Some
 unfolding state_of open_at
-overflow_mul-k-then-k-m c =
-    let w = c.wide-m.ensures in
-    let p = c.requires.2 in
-    let n = c.requires.0 in
-    let t = c.if-k-m.true in
-    omega (arith, p, w, t)
+close_up-requires-in-Some c =
+    let a = c.args in
+    let few = c.requires.2 in
+    let f = placed a.state.now a.key few c.open_place.ensures c.in-Some.is in
+    let many = c.from.ensures in
+    let size = c.requires.0 in
+    (omega (arith, f.1, many), omega (arith, few, many, size))
 
-pub overflow_add-k-then-k-m : goal.overflow_add-k-then-k-m
+pub returns-in-Some : goal.returns-in-Some
 unfolding state_of open_at
-overflow_add-k-then-k-m c =
-    let w = c.wide-m.ensures in
-    let p = c.requires.2 in
-    let n = c.requires.0 in
-    let t = c.if-k-m.true in
-    omega (arith, p, w, t)
+returns-in-Some c =
+    let a = c.args in
+    let few = c.requires.2 in
+    let f = placed a.state.now a.key few c.open_place.ensures c.in-Some.is in
+    put-closed a.state.now (λ i. search rules) c.requires.0 c.requires.1 a.key _ few f.0 f.1
+    c.from.result c.from.ensures c.close_up.ensures c.close_up-in-Some.ensures
 
-pub overflow_mul-m-then-k-m : goal.overflow_mul-m-then-k-m
+pub returns-in-None : goal.returns-in-None
 unfolding state_of open_at
-overflow_mul-m-then-k-m c =
-    let w = c.wide-m.ensures in
-    let p = c.requires.2 in
-    let n = c.requires.0 in
-    let t = c.if-k-m.true in
-    omega (arith, p, w, t)
-
-pub overflow_add-m-then-k-m : goal.overflow_add-m-then-k-m
-unfolding state_of open_at
-overflow_add-m-then-k-m c =
-    let w = c.wide-m.ensures in
-    let p = c.requires.2 in
-    let n = c.requires.0 in
-    let t = c.if-k-m.true in
-    omega (arith, p, w, t)
-
-pub close_up-requires-then-k-m : goal.close_up-requires-then-k-m
-unfolding state_of open_at
-close_up-requires-then-k-m c =
-    let w = c.wide-m.ensures in
-    let p = c.requires.2 in
-    let n = c.requires.0 in
-    let t = c.if-k-m.true in
-    (omega (arith, t), omega (arith, p, w, t, n))
-
-pub returns-then-k-m : goal.returns-then-k-m
-unfolding state_of open_at
-returns-then-k-m c =
-    let l = c.args.state.now in
-    let w = c.wide-m.ensures in
-    let k = c.open_place-k.result in
-    put-closed l (λ i. search rules) c.requires.0 c.requires.1 c.args.key k c.requires.2
-    c.open_place-k.ensures (omega (arith, w, c.if-k-m.true))
-    c.wide-m.result w c.close_up.ensures c.close_up-then-k-m.ensures
-
-pub returns-else-k-m : goal.returns-else-k-m
-unfolding state_of open_at
-returns-else-k-m c =
-    let w = c.wide-m.ensures in
-    put_same c.args.state.now (λ i. search rules) c.requires.0 c.requires.1
-    c.args.key c.open_place-k.result c.requires.2 c.open_place-k.ensures
-    (omega (arith, w, c.if-k-m.false))
-
-pub shape_of-state-then-k-m : goal.shape_of-state-then-k-m
-shape_of-state-then-k-m c = (returns-then-k-m c).long
+returns-in-None c =
+    let a = c.args in
+    put_same a.state.now (λ i. search rules) c.requires.0 c.requires.1 a.key _ c.requires.2 refl
+    (unplaced a.state.now a.key c.requires.2 c.open_place.ensures c.in-None.is)

@@ -1,5 +1,5 @@
 -- `open_place` meets its contract: the first i keys are others. Assumes nothing.
-use Prim.Native.Nat.{◌≤◌, ◌-◌, ◌+◌}
+use Prim.Native.Nat.{◌+◌}
 use mathlib.Core.Path.{◌≡◌}
 use lib.ListN.{get_or, drop}
 use Rattle.open_keys.specs.OpenKeys.{index_of, keys_in}
@@ -7,8 +7,5 @@ use Rattle.image.specs.Image.{open_at}
 use Rattle.lent_opens.proofs.open_place.Given as goal
 
 abbrev pub invariant-loop-i : goal.invariant-loop-i
-invariant-loop-i l = (l.i ≤ l.n) × (l.n ≡ get_or l.state 755 0)
+invariant-loop-i l = (l.n ≡ get_or l.state 755 0)
     × (l.i + index_of l.key (drop l.i (keys_in (open_at l.state 755))) ≡ index_of l.key (keys_in (open_at l.state 755)))
-
-abbrev pub decreases-loop-i : goal.decreases-loop-i
-decreases-loop-i l = l.n - l.i

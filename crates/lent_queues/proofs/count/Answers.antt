@@ -4,4 +4,4 @@ use Rattle.lent_queues.proofs.count.Goals as goal
 
 pub returns : goal.returns
 unfolding queue_at
-returns c = c.wide.ensures
+returns c = c.from.ensures

@@ -18,7 +18,7 @@ returns c =
     let n = get_or l at 0 in
     put_insert l at c.requires.0 k id c.requires.1 c.requires.2 c.requires.3 c.ranges.id.fits
     (ap (λ (x : List ℕ). set x at (n + 1)) (c.make_room.ensures
-    ∙ ap (λ (x : ℕ). spread l (at + 1 + k) id (at + 1 + x)) c.wide.ensures))
+    ∙ ap (λ (x : ℕ). spread l (at + 1 + k) id (at + 1 + x)) c.from.ensures))
 
 pub shape_of-state : goal.shape_of-state
 shape_of-state c = (returns c).long

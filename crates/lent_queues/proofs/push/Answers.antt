@@ -17,4 +17,4 @@ returns c =
     let at = c.args.at in
     let id = c.args.id in
     put_push l at c.requires.0 id c.requires.1 c.ranges.id.fits
-    (ap (λ (x : ℕ). set (set l (at + 1 + x) id) at (get_or l at 0 + 1)) c.wide.ensures)
+    (ap (λ (x : ℕ). set (set l (at + 1 + x) id) at (get_or l at 0 + 1)) c.from.ensures)

@@ -17,7 +17,7 @@ returns c =
     let n = get_or l at 0 in
     put_remove l at c.requires.0 k c.requires.1 c.requires.2 c.requires.3
     (ap (λ (x : List ℕ). set x at (n - 1)) (c.close_up.ensures
-    ∙ ap (λ (x : ℕ). shut l (at + 1 + k) (at + 1 + x)) c.wide.ensures))
+    ∙ ap (λ (x : ℕ). shut l (at + 1 + k) (at + 1 + x)) c.from.ensures))
 
 pub shape_of-state : goal.shape_of-state
 shape_of-state c = (returns c).long
