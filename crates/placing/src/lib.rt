@@ -56,22 +56,17 @@ fn place(
     requires { (q.n ≤ 64) × (length table.now ≡ 1472) }
     ensures { result ≡ placed (kind_test kind cs table.now) seen (list_of q) }
 {
-    let ids = q.ids;
-    let n = q.n as usize;
     let mut marks = seen;
-    let mut k: usize = 0;
-    while k < n {
-        let id = ids[k];
-        if id >= State::REQUESTS {
+    for id in &q.ids[..q.n as usize] {
+        if *id >= State::REQUESTS {
             return None;
         }
-        let at = id as usize;
+        let at = *id as usize;
         let mark = marks[at];
-        if !fits(cs, table, kind, mark, id) {
+        if !fits(cs, table, kind, mark, *id) {
             return None;
         }
         marks[at] = 1;
-        k += 1;
     }
     Some(marks)
 }
@@ -82,14 +77,11 @@ fn place_writes(cs: [Channel; 8], table: &[u8]) -> Option<[u8; Queue::ROOM]>
     ensures { result ≡ placed_writes table.now (replicate 64 0) cs }
 {
     let mut marks = [0u8; Queue::ROOM];
-    let mut i: usize = 0;
-    while i < 8 {
-        let c = cs[i];
+    for c in &cs {
         let q = c.writes;
         if q.n > 0 {
             marks = place(cs, table, Kind::Write(c.key, q.at(0)), marks, q)?;
         }
-        i += 1;
     }
     Some(marks)
 }

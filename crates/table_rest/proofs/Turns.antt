@@ -9,7 +9,7 @@ use borrow.Author.Tests.{ne_eqb, lt-leb, le-leb}
 use lib.Bits.{bit_or}
 use lib.Dec.{T, eqb, leb, eqb→eq, leb→le}
 use lib.ListN.{length, take, drop, get_or, replicate, length-take, length-drop, drop_of_length-le}
-use lib.Seq.{get_or-drop}
+use lib.Seq.{drop-cons, get_or-drop}
 use Rattle.machine.proofs.Tests.{and_left, and_right}
 use Rattle.words.specs.Words.{number, zeros}
 use Rattle.words.proofs.Laws.{or_none, number_none, zeros_then}
@@ -17,29 +17,26 @@ use Rattle.table.specs.memory.Splice.{block}
 use Rattle.table.specs.Entry.{idle}
 use Rattle.placing.specs.store.Store.{request_in}
 use Rattle.placing.specs.entries.Entries.{same}
-use Rattle.placing.proofs.Turns.{front}
 use Rattle.table_rest.specs.TableRest.{falling, rest_idle}
 
 -- ---- precedences
 
-pub record Fell (tb ids : List ℕ) (n last k : ℕ) : Type 0 where
-  pub rest : falling tb last (drop k (take n ids)) ≡ falling tb 255 (take n ids)
+pub record Fell (tb ids : List ℕ) (last k : ℕ) : Type 0 where
+  pub rest : falling tb last (drop k ids) ≡ falling tb 255 ids
 
-module _ {tb ids : List ℕ} {n last k : ℕ} (t : Fell tb ids n last k) where
-  pub fell_end : n ≤ k → true ≡ falling tb 255 (take n ids)
+module _ {tb ids : List ℕ} {last k : ℕ} (t : Fell tb ids last k) where
+  pub fell_end : length ids ≤ k → true ≡ falling tb 255 ids
   unfolding falling
-  fell_end h =
-      let l : length (take n ids) ≤ k = simp length-take (omega arith) in
-      rw (drop_of_length-le (take n ids) l) at t.rest
+  fell_end h = rw (drop_of_length-le ids h) at t.rest
 
-  module _ (h : k < n) (g : n ≤ length ids) (p : ℕ) (w : p ≡ (request_in tb (get_or ids k 0)).prec) where
-    pub fell_stop : last < p → false ≡ falling tb 255 (take n ids)
+  module _ (h : k < length ids) (p : ℕ) (w : p ≡ (request_in tb (get_or ids k 0)).prec) where
+    pub fell_stop : last < p → false ≡ falling tb 255 ids
     unfolding falling
-    fell_stop e = rw (front ids n k h g, ← w, lt-leb _ _ e) at t.rest
+    fell_stop e = rw (drop-cons ids k 0 h, ← w, lt-leb _ _ e) at t.rest
 
-    pub fell_more : p ≤ last → Fell tb ids n p (k + 1)
+    pub fell_more : p ≤ last → Fell tb ids p (k + 1)
     unfolding falling
-    fell_more e = record { rest = rw (add-one k) (rw (front ids n k h g, ← w, le-leb _ _ e) at t.rest) }
+    fell_more e = record { rest = rw (add-one k) (rw (drop-cons ids k 0 h, ← w, le-leb _ _ e) at t.rest) }
 
 -- ---- idle ids, from the last to the first
 

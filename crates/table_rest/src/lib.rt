@@ -19,17 +19,13 @@ pub fn falling(table: &[u8], q: Queue) -> bool
     requires { (q.n ≤ 64) × (length table.now ≡ 1472) × T (all (λ i. ltb i 64) (list_of q)) }
     ensures { result ≡ falling_m table.now 255 (list_of q) }
 {
-    let ids = q.ids;
-    let n = q.n as usize;
     let mut last: u8 = 255;
-    let mut k: usize = 0;
-    while k < n {
-        let p = table::prec(table, ids[k]);
+    for id in &q.ids[..q.n as usize] {
+        let p = table::prec(table, *id);
         if p > last {
             return false;
         }
         last = p;
-        k += 1;
     }
     true
 }
@@ -61,6 +57,7 @@ pub fn rest_idle(table: &[u8], seen: [u8; Queue::ROOM]) -> bool
     ensures { result ≡ rest_idle table.now seen 64 }
 {
     let mut i: usize = 64;
+    // Counted down by hand: a step is one id or eight.
     while i > 0 {
         if seen[i - 1] != 0 {
             i -= 1;
