@@ -2,10 +2,12 @@
 // frame that is none of its kind, or that has no place, is passed over. Assumes nothing.
 #![tactic(auto)]
 
-ghost use Rattle.std.specs.Prelude.{◌≡◌, [], ◌*◌, ◌<◌, length, get_or};
+ghost use Rattle.std.specs.Prelude.{◌≡◌, [], ◌*◌, ◌<◌, T, length, get_or, MatchOption};
+ghost use Rattle.queue.specs.Queue.{pushed};
 ghost use Rattle.table.specs.memory.Splice.{splice};
-ghost use Rattle.sheet.specs.Sheet.{sheet, span_of, lock_taken, waiter_taken, Took};
+ghost use Rattle.sheet.specs.Sheet.{sheet, has_span, span_of, lock_taken, waiter_taken, Took};
 
+use queue::Queue;
 pub use store;
 use store::State;
 pub use table;
@@ -27,26 +29,29 @@ fn put_span(command: u8, f: &[u8], table: &mut [u8])
     table::put(table, f[1], h);
 }
 
+// The ids with that of a frame behind them, its entry put into the table. None, and the table as it was, where the frame is no span or has
+// no place.
+fn take_span(command: u8, q: Queue, f: &[u8], table: &mut [u8]) -> Option<Queue>
+    requires { length table.old ≡ 1472 }
+    ensures { MatchOption result ((T (has_span f.now q) → ⊥) × (table.new ≡ table.old))
+        (λ more. T (has_span f.now q) × (more ≡ pushed q (get_or f.now 1 0)) × (table.new ≡ splice table.old (get_or f.now 1 0 * 23) (span_of command f.now))) }
+{
+    if f.len() != 5 || f[1] >= State::REQUESTS || q.n >= State::REQUESTS {
+        return None;
+    }
+    put_span(command, f, table);
+    Some(q.push(f[1]))
+}
+
 // D3: a lock, behind the others.
 pub fn take_lock(s: State, f: &[u8], table: &mut [u8]) -> State
     requires { length table.old ≡ 1472 }
     ensures { Took (lock_taken f.now (sheet s 0 table.old [])) result table.new }
 {
-    if f.len() != 5 {
+    let Some(locks) = take_span(13, s.locks, f, table) else {
         return s;
-    }
-    let q = s.locks;
-    if f[1] >= State::REQUESTS {
-        return s;
-    }
-    if q.n >= State::REQUESTS {
-        return s;
-    }
-    put_span(13, f, table);
-    let more = q.push(f[1]);
-    let mut t = s;
-    t.locks = more;
-    t
+    };
+    State { locks, ..s }
 }
 
 // D4: a WAITCYCLE, behind the others.
@@ -54,19 +59,8 @@ pub fn take_waiter(s: State, f: &[u8], table: &mut [u8]) -> State
     requires { length table.old ≡ 1472 }
     ensures { Took (waiter_taken f.now (sheet s 0 table.old [])) result table.new }
 {
-    if f.len() != 5 {
+    let Some(waiters) = take_span(14, s.waiters, f, table) else {
         return s;
-    }
-    let q = s.waiters;
-    if f[1] >= State::REQUESTS {
-        return s;
-    }
-    if q.n >= State::REQUESTS {
-        return s;
-    }
-    put_span(14, f, table);
-    let more = q.push(f[1]);
-    let mut t = s;
-    t.waiters = more;
-    t
+    };
+    State { waiters, ..s }
 }
