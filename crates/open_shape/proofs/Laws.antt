@@ -2,10 +2,10 @@
 -- Assumes nothing.
 use Prim.Native.Nat.{ℕ, zero, suc, ◌-◌, ◌≤◌}
 use mathlib.Core.Path.{◌≡◌, refl, ap, ap₂, sym, subst, ◌∙◌}
-use mathlib.Core.Bool.{Bool, true, false, ◌&&◌}
+use mathlib.Core.Bool.{Bool, true, false, not, ◌&&◌}
 use mathlib.Core.List.{List, [], ◌∷◌, ◌++◌}
 use native.Mathlib.Omega.{arith}
-use borrow.Author.Tests.{le-leb}
+use borrow.Author.Tests.{le-leb, ne_eqb}
 use lib.Dec.{T, eqb, eqb→eq, eqb_refl, leb, leb→le, le→leb}
 use lib.ListN.{length, take, drop, replicate, length-take, length-drop, take-append-drop}
 use lib.Seq.{length-take-le, drop-append_seam}
@@ -18,14 +18,10 @@ use Rattle.open_keys.specs.OpenKeys.{pad, keys_of, keys_in, Tidy}
 use Rattle.open_keys.proofs.Laws.{length-pad}
 use Rattle.open_shape.specs.OpenShape.{is_key, is_none, sound_keys}
 
-pub key_none : {k : ℕ} → k ≡ 0 → is_key k ≡ false
+pub key_is : (k : ℕ) → k ≤ KEYS → not (eqb k 0) ≡ is_key k
 unfolding is_key
-key_none e = rw e
-
-pub key_some : (k : ℕ) → (k ≡ 0 → ⊥) → k ≤ KEYS → is_key k ≡ true
-unfolding is_key
-key_some zero e h = absurd (e refl)
-key_some (suc k) e h = let a : 1 ≤ suc k = omega arith in rw (le-leb 1 (suc k) a, le-leb (suc k) KEYS h)
+key_is zero h = refl
+key_is (suc k) h = let a : 1 ≤ suc k = omega arith in rw (ne_eqb (suc k) 0 (λ e. omega arith), le-leb 1 (suc k) a, le-leb (suc k) KEYS h)
 
 nones_are : (l : List ℕ) → T (all is_none l) → l ≡ replicate (length l) 0
 unfolding all is_none

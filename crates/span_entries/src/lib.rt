@@ -40,15 +40,10 @@ fn owned(c: Channel, key: u16) -> bool
 fn locked(cs: [Channel; 8], key: u16, map: u8) -> bool
     ensures { (f : ℕ → Write) → result ≡ named (λ c. c.locked && eqb c.key key) map (each (channel_in f) cs) }
 {
-    let mut i: usize = 0;
-    while i < 8 {
-        if channel::names(map, i) {
-            let c = cs[i];
-            if !owned(c, key) {
-                return false;
-            }
+    for (i, c) in cs.iter().enumerate() {
+        if channel::names(map, i) && !owned(*c, key) {
+            return false;
         }
-        i += 1;
     }
     true
 }
@@ -60,6 +55,7 @@ pub fn is_sound_lock(cs: [Channel; 8], table: &[u8], id: u8) -> bool
 {
     let key = table::key(table, id);
     let map = table::map(table, id);
+    // Returns one by one: joined by &&, each test is a value of two cases in the proof, which is then longer.
     if map == 0 {
         return false;
     }
@@ -73,11 +69,8 @@ pub fn is_sound_lock(cs: [Channel; 8], table: &[u8], id: u8) -> bool
 fn writes_for(c: Channel, key: u16) -> bool
     ensures { result ≡ (eqb c.key key && not (eqb (length (list_of c.writes)) 0)) }
 {
-    if c.key != key {
-        return false;
-    }
     let q = c.writes;
-    q.n != 0
+    c.key == key && q.n != 0
 }
 
 // A WAITCYCLE names one channel, which has its key and a write.
@@ -88,6 +81,7 @@ pub fn is_sound_waiter(cs: [Channel; 8], table: &[u8], id: u8) -> bool
     let key = table::key(table, id);
     let map = table::map(table, id);
     let i = channel::lowest(map);
+    // Returns one by one: the second test and the channel stand only for a place below 8.
     if 8 <= i {
         return false;
     }

@@ -1,31 +1,25 @@
--- `spare` meets its contract: the test of the channels left is the test of all from the board's number on. Assumes nothing.
-use Prim.Native.Nat.{ℕ, ◌≤◌, ◌<◌}
-use mathlib.Core.Path.{◌≡◌}
-use mathlib.Core.Bool.{true, false}
-use lib.Dec.{eqb}
-use native.Mathlib.Omega.{arith}
+-- `spare` meets its contract: each channel behind the board's own is tested, or one with a key is found. Assumes nothing.
+use Rattle.std.proofs.Common.{rules, ◌≡◌, ℕ, ◌-◌, ◌<◌, true, false, [], length, take, drop, get_or}
+use Rattle.std.proofs.iter.runs.Made.{chains}
+use mathlib.Core.Path.{ap, sym, ◌∙◌}
+use lib.ListN.{length-drop}
+use lib.Seq.{take-length}
 use borrow.Author.Tests.{eq-eqb, ne_eqb}
+use Rattle.channel.specs.declared.Channel.{Channel}
+use Rattle.store.specs.machine.Lists.{all}
 use Rattle.shapes.specs.Shapes.{vacant}
-use Rattle.open_shape.proofs.Turns.{passed_start, passed_stop, passed_more, passed_end}
-use borrow.Author.Rules.{rules}
+use Rattle.open_shape.proofs.Turns.{all_tested}
 use Rattle.shapes.proofs.spare.Goals as goal
 
-owned : (n : ℕ) → 0 < n → eqb n 0 ≡ false
-owned n h = ne_eqb n 0 (λ e. omega arith)
-
-unowned : (n : ℕ) → n ≤ 0 → eqb n 0 ≡ true
-unowned n h = eq-eqb n 0 (omega arith)
-
-pub loop-at-init : goal.loop-at-init
-loop-at-init c = (search rules, passed_start _ _ _)
-
-pub returns-then-c-gt0 : goal.returns-then-c-gt0
-unfolding vacant
-returns-then-c-gt0 c = passed_stop c.loop-at.invariant.1 _ (search rules) (owned _ c.if-c-gt0.true)
-
-pub loop-at-preserved : goal.loop-at-preserved
-unfolding vacant
-loop-at-preserved c = (search rules, passed_more c.loop-at.invariant.1 _ (search rules) (unowned _ c.if-c-gt0.false))
-
 pub returns : goal.returns
-returns c = passed_end c.loop-at.invariant.1 (search rules)
+unfolding vacant
+returns c =
+    let w = c.args.width in
+    let cs = c.args.cs in
+    let z : length cs ≡ 8 = search rules in
+    let ns = take (8 - w) (drop w cs) in
+    let l : ns ≡ drop w cs = ap (λ (m : ℕ). take m (drop w cs)) (sym (rw z at (length-drop w cs))) ∙ take-length (drop w cs) in
+    let d : Channel = record { key = 0; prec = 0; locked = false; stopped = false; writes = record { n = 0; ids = [] } } in
+    let none : c.all.result ≡ true → (i : ℕ) → i < length ns → (get_or ns i d).key ≡ 0 = search (rules, chains) in
+    let some : c.all.result ≡ false → (i : ℕ) × (i < length ns) × ((get_or ns i d).key ≡ 0 → ⊥) = search (rules, chains) in
+    all_tested vacant d ns c.all.result (λ e i h. eq-eqb _ _ (none e i h)) (λ e. let (i, h, g) = some e in (i, h, ne_eqb _ _ g)) ∙ ap (all vacant) l
