@@ -8,25 +8,25 @@ use Rattle.channel.proofs.Turns.{lowest_here, lowest_turn}
 use Rattle.channel.proofs.lowest.Goals as goal
 
 pub loop-i-init : goal.loop-i-init
-loop-i-init c = (omega arith, rw div-one (omega arith))
+loop-i-init c = rw div-one (omega arith)
 
 pub returns-then-names : goal.returns-then-names
 returns-then-names c =
     let l = c.loop-i in
     let a = c.args in
     let e = lowest_here 8 a.map l.i (omega arith) (sym c.names.ensures ∙ c.if-names.true) in
-    omega (arith, l.invariant.1)
+    omega (arith, l.invariant)
 
 pub loop-i-preserved : goal.loop-i-preserved
 loop-i-preserved c =
     let l = c.loop-i in
     let a = c.args in
     let e = lowest_turn 8 a.map l.i (omega arith) (sym c.names.ensures ∙ c.if-names.false) in
-    (omega arith, omega (arith, l.invariant.1))
+    omega (arith, l.invariant)
 
 pub returns : goal.returns
 unfolding lowest_from
 returns c =
     let l = c.loop-i in
     let e : l.i ≡ 8 = omega arith in
-    omega (arith, rw e at l.invariant.1)
+    omega (arith, rw e at l.invariant)

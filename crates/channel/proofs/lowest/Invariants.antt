@@ -1,11 +1,8 @@
 -- `lowest` meets its contract: i places passed and the lowest place of the rest make the lowest place. Assumes nothing.
-use Prim.Native.Nat.{◌≤◌, ◌-◌, ◌+◌, ◌/◌, ◌^◌}
+use Prim.Native.Nat.{◌-◌, ◌+◌, ◌/◌, ◌^◌}
 use mathlib.Core.Path.{◌≡◌}
 use Rattle.channel.specs.Channel.{lowest_from}
 use Rattle.channel.proofs.lowest.Given as goal
 
 abbrev pub invariant-loop-i : goal.invariant-loop-i
-invariant-loop-i l = (l.i ≤ 8) × (l.i + lowest_from (8 - l.i) (l.map / 2 ^ l.i) ≡ lowest_from 8 l.map)
-
-abbrev pub decreases-loop-i : goal.decreases-loop-i
-decreases-loop-i l = 8 - l.i
+invariant-loop-i l = l.i + lowest_from (8 - l.i) (l.map / 2 ^ l.i) ≡ lowest_from 8 l.map
