@@ -57,8 +57,8 @@ pub fn abort_named(
 }
 
 // Every write of the channels that a map names is aborted, and those who wait for a cycle there are told after them: the one function
-// through which a front write ends otherwise than at a cycle's end. The WAITCYCLEs that are left are in its result. Where the front writes alone end, the channels are lent with those
-// alone.
+// through which a front write ends otherwise than at a cycle's end. The WAITCYCLEs that are left are in its result. Where the front writes
+// alone end, the channels are lent with those alone.
 pub fn drop_named(
     table: &mut [u8],
     replies: &mut [u8],

@@ -12,7 +12,7 @@ use store::State;
 pub use store::reply;
 
 // What happens to the channels that a lock or a WAITCYCLE names: they are freed, a held request wants them; the front write is cut,
-// its event comes.
+// its event comes. An enum and no closure: a promise names each (`ends_at`, `map_at`, `error_of`).
 #[derive(Clone, Copy)]
 pub enum End {
     Freed,

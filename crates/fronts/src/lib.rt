@@ -7,7 +7,7 @@ ghost use Rattle.fronts.specs.Fronts.{on_air, leads_at, passes as passes_m, name
 
 use channel::Channel;
 
-// What is asked of a channel's front write: that it is in progress, or that it is an id's.
+// What is asked of a channel's front write: that it is in progress, or that it is an id's. An enum and no closure: a promise names each (`named`).
 #[derive(Clone, Copy)]
 pub enum Front {
     Plays,

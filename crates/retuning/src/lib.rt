@@ -8,7 +8,7 @@ pub use cycles;
 use table::Head;
 
 // What is done to a write: its period and volume are set, or remembered for its cycle's end; or its finish is; or a cycle of it ended and it
-// goes on.
+// goes on. An enum and no closure: a promise names each.
 #[derive(Clone, Copy)]
 pub enum Tune {
     Set,

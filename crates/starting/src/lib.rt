@@ -6,7 +6,8 @@ ghost use Rattle.starting.specs.Starting.{Started};
 use image::board::Board;
 pub use sizes;
 
-// A fresh device of four or eight channels: 0. Another number of channels, or memory of another size: 1, and nothing moves.
+// A fresh device of four or eight channels: 0. Another number of channels, or memory of another size: 1, and nothing moves. A number and no Result: it is
+// what C is handed.
 #[tactic(auto, using(crate::proofs::Laws::not_sized, crate::proofs::Laws::other_state, crate::proofs::Laws::other_table, crate::proofs::Laws::other_display))]
 pub fn fresh(channels: u8, state: &mut [u8], table: &mut [u8], display: &mut [u8]) -> u8
     ensures { Started channels state.old table.old display.old
