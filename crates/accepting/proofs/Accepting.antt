@@ -1,15 +1,13 @@
 -- A text of a sound state reads back to that state, so it is its only state; and the test of what was read tells whether there is one.
 -- Assumes nothing.
-use Prim.Native.Nat.{ℕ, ◌+◌, ◌≤◌, ◌<◌}
+use Prim.Native.Nat.{ℕ}
 use mathlib.Core.Path.{◌≡◌, refl, ap, ap₂, sym, subst, ◌∙◌}
 use mathlib.Core.Bool.{Bool, true, false}
 use mathlib.Core.List.{List, [], ◌∷◌}
 use native.Mathlib.Omega.{arith}
-use native.Mathlib.Numerals.{add-one}
-use lib.Dec.{T, T_not, eqb, eqb→eq, eqb_refl, leb, leb→le, nleb→lt}
+use lib.Dec.{T, T_not, eqb, eqb→eq, eqb_refl}
 use lib.ListN.{length, get_or, take, drop, replicate}
-use lib.Seq.{take-suc, take_all}
-use Rattle.std.specs.Prelude.{Option, Some, None, is_some}
+use Rattle.std.specs.Prelude.{Option, Some, None, is_some, MatchOption}
 use Rattle.machine_laws.specs.machine.State.{State}
 use Rattle.machine_laws.specs.machine.Log.{line, hex_digit}
 use Rattle.machine_laws.proofs.machine.Tests.{by_test}
@@ -18,7 +16,7 @@ use Rattle.board.specs.store.declared.State.{State as Struct}
 use Rattle.board.specs.store.Store.{table_of}
 use Rattle.board.specs.declared.Board.{Board}
 use Rattle.memory.specs.Splice.{splice}
-use Rattle.board.specs.Board.{sized, fresh_board, struct_of, state_in, Held}
+use Rattle.board.specs.Board.{sized, struct_of, state_in, Held}
 use Rattle.board.proofs.Laws.{held_of, held_width, one_state, state_in_of}
 use Rattle.saving.specs.sound.Sound.{Decides, board_test}
 use Rattle.saving.proofs.sound.Own.{decides}
@@ -28,7 +26,7 @@ use Rattle.read_back.specs.reading.Reading.{read_from}
 use Rattle.read_back.proofs.WholeText.{text_read}
 use Rattle.read_back.specs.hex_lines.HexLines.{Put}
 use Rattle.saving.proofs.Laws.{front}
-use Rattle.accepting.specs.Accepting.{opening, Yes, No, Finds, Accepts}
+use Rattle.accepting.specs.Accepting.{opening, Yes, No, Cleared, Accepts}
 
 pub false_true : false ≡ true → ⊥
 false_true e = subst (λ (b : Bool). T b) (sym e) tt
@@ -105,13 +103,15 @@ module _ {t : List ℕ} {st : Struct} {tb : List ℕ} {z page : List ℕ} {n : �
 
 -- ---- what is handed back
 
-pub emptied : (t : List ℕ) (f : Option Board) (tb : List ℕ) {tb' : List ℕ} → Finds t f tb → is_some f ≡ false → tb' ≡ replicate 1472 0 → Accepts t f tb'
-emptied t (Some b) tb x e z = absurd (false_true (sym e))
-emptied t None tb x e z = (x, z)
+pub cleared : (f : Option Board) (tb : List ℕ) {tb' : List ℕ} → is_some f ≡ false → tb' ≡ replicate 1472 0 → Cleared f tb tb'
+cleared (Some b) tb e z = absurd (false_true (sym e))
+cleared None tb e z = z
 
-pub kept : (t : List ℕ) (f : Option Board) (tb : List ℕ) → Finds t f tb → is_some f ≡ true → Accepts t f tb
-kept t (Some b) tb x e = x
-kept t None tb x e = absurd (false_true e)
+-- of either form: N says that the text was saved of no state, Y that it was saved of what the board and the table hold
+pub settled : (N : Type 0) (Y : Board → List ℕ → Type 0) (f : Option Board) (tb tb' : List ℕ) → MatchOption f N (λ b. Y b tb) → Cleared f tb tb'
+    → MatchOption f (N × (tb' ≡ replicate 1472 0)) (λ b. Y b tb')
+settled N Y (Some b) tb tb' y e = subst (Y b) (sym e) y
+settled N Y None tb tb' n z = (n, z)
 
 -- ---- no second outcome fits
 
@@ -120,11 +120,23 @@ pub held_once : {b b₂ : Board} {tb tb₂ : List ℕ} → Held b tb → Held b�
     → (b ≡ b₂) × (tb ≡ tb₂)
 held_once h g e = (h.struct ∙ ap struct_of e ∙ sym g.struct, h.table ∙ ap table_of e ∙ sym g.table)
 
+-- of either form: P s says that the text was saved of the state s
+pub one_found : (P : State → Type 0) (Y : Board → List ℕ → Type 0) → ((b : Board) (tb : List ℕ) → Y b tb → Held b tb × P (state_in b tb))
+    → ((s u : State) → P s → P u → s ≡ u) → (f g : Option Board) (tb tb₂ : List ℕ)
+    → MatchOption f (((s : State) → P s → ⊥) × (tb ≡ replicate 1472 0)) (λ b. Y b tb)
+    → MatchOption g (((s : State) → P s → ⊥) × (tb₂ ≡ replicate 1472 0)) (λ b. Y b tb₂)
+    → (f ≡ g) × (tb ≡ tb₂)
+one_found P Y has one (Some b) (Some c) tb tb₂ x y =
+    let p = has _ _ x in
+    let q = has _ _ y in
+    let h = held_once p.0 q.0 (one _ _ p.1 q.1) in
+    (ap Some h.0, h.1)
+one_found P Y has one (Some b) None tb tb₂ x y = absurd (y.0 _ (has _ _ x).1)
+one_found P Y has one None (Some c) tb tb₂ x y = absurd (x.0 _ (has _ _ y).1)
+one_found P Y has one None None tb tb₂ x y = (refl, x.1 ∙ sym y.1)
+
 pub one_accepting : (t : List ℕ) (f g : Option Board) {tb tb₂ : List ℕ} → Accepts t f tb → Accepts t g tb₂ → (f ≡ g) × (tb ≡ tb₂)
-one_accepting t (Some b) (Some c) x y = let h = held_once x.held y.held (one_spelling x.text y.text) in (ap Some h.0, h.1)
-one_accepting t (Some b) None x y = absurd (y.0 _ x.text)
-one_accepting t None (Some c) x y = absurd (x.0 _ y.text)
-one_accepting t None None x y = (refl, x.1 ∙ sym y.1)
+one_accepting t f g x y = one_found (λ s. TextOf 4 s t) (Yes t) (λ b tb y. (y.held, y.text)) (λ s u. one_spelling) f g _ _ x y
 
 -- ---- whether there is one
 

@@ -27,5 +27,8 @@ No t = (s : State) → TextOf 4 s t → ⊥
 abbrev pub Finds : List ℕ → Option Board → List ℕ → Type 0
 Finds t f tb' = MatchOption f (No t) (λ b. Yes t b tb')
 
+abbrev pub Cleared : Option Board → List ℕ → List ℕ → Type 0
+Cleared f tb tb' = MatchOption f (tb' ≡ replicate 1472 0) (λ _. tb' ≡ tb)
+
 abbrev pub Accepts : List ℕ → Option Board → List ℕ → Type 0
 Accepts t f tb' = MatchOption f (No t × (tb' ≡ replicate 1472 0)) (λ b. Yes t b tb')

@@ -2,8 +2,8 @@
 // they hold a sound state whose text is the one handed in, to the last byte (specs/Accepting.antt). Assumes nothing.
 #![tactic(auto)]
 
-ghost use Rattle.std.specs.Prelude.{◌≡◌, replicate};
-ghost use Rattle.accepting.specs.Accepting.{Finds, Accepts};
+ghost use Rattle.std.specs.Prelude.{◌≡◌, length, replicate};
+ghost use Rattle.accepting.specs.Accepting.{Finds, Cleared, Accepts};
 
 use board::Board;
 use read_back::reading;
@@ -12,6 +12,7 @@ pub use saving;
 pub use saving::{decoding, saved_lines, sizes, sound, waiting_list};
 
 // The board that the text's lines were read to, where the text is what is saved of it.
+// Kept beside `compare2` of the second form: a trait over both, its two impls and one function had 74 lines, where the two have 44.
 fn compare(text: &[u8], table: &mut [u8]) -> Option<Board>
     requires { table.old ≡ replicate 1472 0 }
     ensures { Finds text.now result table.new }
@@ -35,14 +36,22 @@ fn compare(text: &[u8], table: &mut [u8]) -> Option<Board>
     Some(b)
 }
 
+// What was found, in either form. Where nothing was, the table is cleared.
+pub fn or_cleared(found: Option<Board>, table: &mut [u8]) -> Option<Board>
+    requires { length table.old ≡ 1472 }
+    ensures { (result ≡ found) × Cleared found table.old table.new }
+{
+    if found.is_none() {
+        table.fill(0);
+    }
+    found
+}
+
 // The board that a text of four channels holds, and its table. Where the text is none, the table is cleared.
 pub fn accept(text: &[u8], table: &mut [u8]) -> Option<Board>
     requires { table.old ≡ replicate 1472 0 }
     ensures { Accepts text.now result table.new }
 {
     let found = compare(text, table);
-    if found.is_none() {
-        table.fill(0);
-    }
-    found
+    or_cleared(found, table)
 }

@@ -6,7 +6,7 @@ use mathlib.Core.List.{List, [], ◌∷◌}
 use native.Mathlib.Omega.{arith}
 use lib.Dec.{T, T_not, eqb}
 use lib.ListN.{length, take, drop, replicate}
-use Rattle.std.specs.Prelude.{Option, Some, None, is_some}
+use Rattle.std.specs.Prelude.{Option}
 use Rattle.machine_laws.specs.machine.State.{State}
 use Rattle.machine_laws.specs.machine.Sound.{sound}
 use Rattle.machine_laws.specs.machine.Log.{line, hex_digit}
@@ -23,12 +23,12 @@ use Rattle.saving2.proofs.sound.Own.{decides}
 use Rattle.read_back2.specs.sheet.Sheet.{Sheet, Took}
 use Rattle.read_back2.specs.reading.Reading.{read_from}
 use Rattle.read_back2.specs.hex_lines.HexLines.{Put}
-use Rattle.saving2.proofs.accepting.Accepting.{false_true, same_or_not, held_once}
+use Rattle.saving2.proofs.accepting.Accepting.{false_true, same_or_not, one_found}
 use Rattle.read_back2.specs.saved2.Saved2.{text2, TextOf2}
 use Rattle.read_back2.proofs.saved2.Lengths2.{text2-length}
 use Rattle.saving2.proofs.Laws2.{taken_front}
 use Rattle.read_back2.proofs.ReadBack2.{zeros, text2_read, one_spelling2}
-use Rattle.accepting2.specs.Accepting2.{Yes2, No2, Finds2, Accepts2}
+use Rattle.accepting2.specs.Accepting2.{Yes2, No2, Accepts2}
 
 -- ---- what was read
 
@@ -62,9 +62,6 @@ text2-opens : (s : State) → take 5 (text2 s) ≡ 68 ∷ 48 ∷ 48 ∷ 50 ∷ 1
 unfolding text2 spelt line hex_digit
 text2-opens s = refl
 
-pub took_from : (t : List ℕ) {x tb tb' : List ℕ} {st : Struct} → tb ≡ x → Took (read_from t tb) st tb' → Took (read_from t x) st tb'
-took_from t {tb' = tb'} {st = st} e r = subst (λ z. Took (read_from t z) st tb') e r
-
 -- ---- case by case
 
 module _ {w : ℕ} {t : List ℕ} where
@@ -85,23 +82,10 @@ module _ {w : ℕ} {t : List ℕ} where
     pub differs : (t ≡ take n page → ⊥) → No2 w t
     differs d s q = d (q.saved ∙ (ap text2 (sym (read_state q r)) ∙ sym (taken_front p)))
 
--- ---- what is handed back
-
-pub emptied : (w : ℕ) (t : List ℕ) (f : Option Board) (tb : List ℕ) {tb' : List ℕ} → Finds2 w t f tb → is_some f ≡ false → tb' ≡ replicate 1472 0 → Accepts2 w t f tb'
-emptied w t (Some b) tb x e z = absurd (false_true (sym e))
-emptied w t None tb x e z = (x, z)
-
-pub kept : (w : ℕ) (t : List ℕ) (f : Option Board) (tb : List ℕ) → Finds2 w t f tb → is_some f ≡ true → Accepts2 w t f tb
-kept w t (Some b) tb x e = x
-kept w t None tb x e = absurd (false_true e)
-
 -- ---- no second outcome fits
 
 pub one_accepting2 : (w : ℕ) (t : List ℕ) (f g : Option Board) {tb tb₂ : List ℕ} → Accepts2 w t f tb → Accepts2 w t g tb₂ → (f ≡ g) × (tb ≡ tb₂)
-one_accepting2 w t (Some b) (Some c) x y = let h = held_once x.held y.held (one_spelling2 x.text y.text) in (ap Some h.0, h.1)
-one_accepting2 w t (Some b) None x y = absurd (y.0 _ x.text)
-one_accepting2 w t None (Some c) x y = absurd (x.0 _ y.text)
-one_accepting2 w t None None x y = (refl, x.1 ∙ sym y.1)
+one_accepting2 w t f g x y = one_found (λ s. TextOf2 w s t) (Yes2 w t) (λ b tb y. (y.held, y.text)) (λ s u. one_spelling2) f g _ _ x y
 
 -- ---- a text is one of a board's, or it is not
 

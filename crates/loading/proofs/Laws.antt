@@ -1,13 +1,11 @@
 -- How a loaded text meets its promise, case by case; no second outcome fits. Assumes nothing.
 use Prim.Native.Nat.{ℕ}
-use mathlib.Core.Path.{◌≡◌, refl, subst, ◌∙◌}
+use mathlib.Core.Path.{◌≡◌, refl, subst}
 use mathlib.Core.List.{List}
 use Rattle.machine.specs.State.{State}
 use Rattle.image.specs.board.declared.Board.{Board}
 use Rattle.image.specs.board.Board.{state_in}
-use Rattle.image.specs.Image.{Saved}
 use Rattle.accepting.specs.saved.Saved.{TextOf}
-use Rattle.recounting.specs.Recounting.{counted}
 use Rattle.accepting.specs.Accepting.{Yes}
 use Rattle.accepting.proofs.Accepting.{one_spelling}
 use Rattle.loading.specs.Loading.{Fits, Loaded, Loads}
@@ -42,14 +40,11 @@ module _ {w : ℕ} {t st tb dp : List ℕ} where
         loaded = λ _ _ s h. absurd (n s h);
       }
 
-  pub was_saved : {b : Board} {read st' tb' dp' : List ℕ} → Fits st tb dp → w ≡ 4 → Yes t b read → Saved b st' → tb' ≡ read → dp' ≡ counted (state_in b read)
-      → Loads w t st tb dp 0 st' tb' dp'
-  was_saved {b} {read} {st'} {tb'} {dp'} f e y a c d =
-      let u = state_in b read in
-      let whole : Loaded u 0 st' tb' dp' = record { result = refl; state = subst (λ x. Saved x st') y.held.struct a; table = c ∙ y.held.table; display = d } in
+  pub was_saved : {b : Board} {read st' tb' dp' : List ℕ} → Fits st tb dp → w ≡ 4 → Yes t b read → Loaded (state_in b read) 0 st' tb' dp' → Loads w t st tb dp 0 st' tb' dp'
+  was_saved {st' = st'} {tb' = tb'} {dp' = dp'} f e y whole =
       record {
         misfit = λ m. absurd (m f);
         another = λ _ m. absurd (m e);
-        refused = λ _ n. absurd (n u y.text);
+        refused = λ _ n. absurd (n _ y.text);
         loaded = λ _ _ s h. subst (λ x. Loaded x 0 st' tb' dp') (one_spelling y.text h) whole;
       }

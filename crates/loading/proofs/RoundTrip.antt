@@ -27,30 +27,29 @@ use Rattle.loading.specs.Loading.{Fits, Unmoved, Loaded, Loads}
 
 -- ---- no second outcome
 
-loaded_same : {s : State} {r r₂ : ℕ} {st₁ st₂ tb₁ tb₂ dp₁ dp₂ : List ℕ} → Loaded s r st₁ tb₁ dp₁ → Loaded s r₂ st₂ tb₂ dp₂ → (r ≡ r₂) × (st₁ ≡ st₂) × (tb₁ ≡ tb₂) × (dp₁ ≡ dp₂)
-loaded_same a b = (a.result ∙ sym b.result, one_image a.state b.state, a.table ∙ sym b.table, a.display ∙ sym b.display)
+pub fits_or_not {ℓ} : {R : Type ℓ} (st tb dp : List ℕ) → (Fits st tb dp → R) → ((Fits st tb dp → ⊥) → R) → R
+fits_or_not st tb dp y n =
+    by_test (eqb (length st) STATE)
+    (λ a. by_test (eqb (length tb) TABLE)
+    (λ b. by_test (eqb (length dp) DISPLAY)
+    (λ c. y (record { state = eqb→eq (length st) STATE a; table = eqb→eq (length tb) TABLE b; display = eqb→eq (length dp) DISPLAY c }))
+    (λ c. n (λ f. T_not (eqb (length dp) DISPLAY) c (rw f.display tt))))
+    (λ b. n (λ f. T_not (eqb (length tb) TABLE) b (rw f.table tt))))
+    (λ a. n (λ f. T_not (eqb (length st) STATE) a (rw f.state tt)))
 
-module _ {st tb dp : List ℕ} {r r₂ : ℕ} {st₁ st₂ tb₁ tb₂ dp₁ dp₂ : List ℕ} where
-  unmoved_same : {c : ℕ} → Unmoved c st tb dp r st₁ tb₁ dp₁ → Unmoved c st tb dp r₂ st₂ tb₂ dp₂ → (r ≡ r₂) × (st₁ ≡ st₂) × (tb₁ ≡ tb₂) × (dp₁ ≡ dp₂)
+module _ {r r₂ : ℕ} {st₁ st₂ tb₁ tb₂ dp₁ dp₂ : List ℕ} where
+  pub unmoved_same : {c : ℕ} {st tb dp : List ℕ} → Unmoved c st tb dp r st₁ tb₁ dp₁ → Unmoved c st tb dp r₂ st₂ tb₂ dp₂ → (r ≡ r₂) × (st₁ ≡ st₂) × (tb₁ ≡ tb₂) × (dp₁ ≡ dp₂)
   unmoved_same a b = (a.result ∙ sym b.result, a.state ∙ sym b.state, a.table ∙ sym b.table, a.display ∙ sym b.display)
 
-  pub one_loading : {w : ℕ} {t : List ℕ} → Loads w t st tb dp r st₁ tb₁ dp₁ → Loads w t st tb dp r₂ st₂ tb₂ dp₂ → (r ≡ r₂) × (st₁ ≡ st₂) × (tb₁ ≡ tb₂) × (dp₁ ≡ dp₂)
-  one_loading {w} {t} a b =
-      fits_or_not
+  pub loaded_same : {s : State} → Loaded s r st₁ tb₁ dp₁ → Loaded s r₂ st₂ tb₂ dp₂ → (r ≡ r₂) × (st₁ ≡ st₂) × (tb₁ ≡ tb₂) × (dp₁ ≡ dp₂)
+  loaded_same a b = (a.result ∙ sym b.result, one_image a.state b.state, a.table ∙ sym b.table, a.display ∙ sym b.display)
+
+  pub one_loading : {w : ℕ} {t st tb dp : List ℕ} → Loads w t st tb dp r st₁ tb₁ dp₁ → Loads w t st tb dp r₂ st₂ tb₂ dp₂ → (r ≡ r₂) × (st₁ ≡ st₂) × (tb₁ ≡ tb₂) × (dp₁ ≡ dp₂)
+  one_loading {w} {t} {st} {tb} {dp} a b =
+      fits_or_not st tb dp
       (λ f. four_or_not w (λ e. text_or_not t (λ s h. loaded_same (a.loaded f e s h) (b.loaded f e s h)) (λ n. unmoved_same (a.refused f n) (b.refused f n)))
       (λ n. unmoved_same (a.another f n) (b.another f n)))
       (λ n. unmoved_same (a.misfit n) (b.misfit n))
-    where
-      is_or_not : {R : Type 0} (m n : ℕ) → (m ≡ n → R) → ((m ≡ n → ⊥) → R) → R
-      is_or_not m n y z = by_test (eqb m n) (λ t. y (eqb→eq m n t)) (λ t. z (λ e. T_not (eqb m n) t (subst (λ x. T (eqb m x)) e (lib.Dec.eqb_refl m))))
-
-      fits_or_not : {R : Type 0} → (Fits st tb dp → R) → ((Fits st tb dp → ⊥) → R) → R
-      fits_or_not y z =
-          is_or_not (length st) STATE
-          (λ a. is_or_not (length tb) TABLE
-          (λ b. is_or_not (length dp) DISPLAY (λ d. y (record { state = a; table = b; display = d })) (λ n. z (λ f. n f.display)))
-          (λ n. z (λ f. n f.table)))
-          (λ n. z (λ f. n f.state))
 
 -- ---- round trips
 

@@ -1,25 +1,22 @@
 -- How a loaded text of the second form meets its promise, case by case; no second outcome fits; what neither loader takes.
 -- Assumes nothing.
-use Prim.Native.Nat.{ℕ, ◌+◌, ◌≤◌, ◌<◌}
+use Prim.Native.Nat.{ℕ}
 use mathlib.Core.Path.{◌≡◌, refl, ap, sym, subst, ◌∙◌}
-use mathlib.Core.Bool.{Bool, true, false, ◌||◌}
-use mathlib.Core.List.{List, [], ◌∷◌}
+use mathlib.Core.Bool.{Bool, false}
+use mathlib.Core.List.{List}
 use native.Mathlib.Omega.{arith}
-use lib.Dec.{T, T_not, eqb, eqb→eq}
+use lib.Dec.{T, T_not}
 use lib.ListN.{length, get_or, take}
 use lib.Seq.{get_or-take}
 use Rattle.machine_laws.specs.machine.State.{State}
 use Rattle.machine_laws.specs.machine.Sound.{sound}
 use Rattle.machine_laws.specs.machine.Log.{line, hex_digit}
 use Rattle.machine_laws.proofs.machine.Tests.{by_test}
-use Rattle.image.specs.store.Store.{table_of}
 use Rattle.image.specs.board.declared.Board.{Board}
-use Rattle.image.specs.board.Board.{sized, struct_of, state_in, Held}
-use Rattle.image.specs.Image.{Saved}
-use Rattle.image.proofs.Round.{one_image}
-use Rattle.loading.specs.recounting.Recounting.{counted}
-use Rattle.loading.specs.saved.Saved.{FIRST, TextOf}
+use Rattle.image.specs.board.Board.{sized, state_in}
+use Rattle.loading.specs.saved.Saved.{FIRST}
 use Rattle.loading.specs.Loading.{Fits, Unmoved, Loaded, Loads}
+use Rattle.loading.proofs.RoundTrip.{fits_or_not, unmoved_same, loaded_same}
 use Rattle.accepting2.specs.read_back.ReadBack.{Bytes}
 use Rattle.accepting2.specs.number_lines.NumberLines.{number_lines}
 use Rattle.accepting2.specs.saved2.Saved2.{SECOND, number_frames, TextOf2}
@@ -33,6 +30,7 @@ pub no_T : {b : Bool} → b ≡ false → T b → ⊥
 no_T e t = subst (λ x. T x) e t
 
 -- ---- case by case
+-- Kept beside those of `Loads`: the clauses of the two promises are records of their own, each with its edits.
 
 module _ {w : ℕ} {t st tb dp : List ℕ} where
   pub does_not_fit : (Fits st tb dp → ⊥) → Loads2 w t st tb dp 1 st tb dp
@@ -62,37 +60,18 @@ module _ {w : ℕ} {t st tb dp : List ℕ} where
         loaded = λ _ _ s h. absurd (n s h);
       }
 
-  pub was_saved : {b : Board} {read st' tb' dp' : List ℕ} → Fits st tb dp → T (sized w) → Yes2 w t b read → Saved b st' → tb' ≡ read → dp' ≡ counted (state_in b read)
-      → Loads2 w t st tb dp 0 st' tb' dp'
-  was_saved {b} {read} {st'} {tb'} {dp'} f z y a c d =
-      let u = state_in b read in
-      let whole : Loaded u 0 st' tb' dp' = record { result = refl; state = subst (λ x. Saved x st') y.held.struct a; table = c ∙ y.held.table; display = d } in
+  pub was_saved : {b : Board} {read st' tb' dp' : List ℕ} → Fits st tb dp → T (sized w) → Yes2 w t b read → Loaded (state_in b read) 0 st' tb' dp' → Loads2 w t st tb dp 0 st' tb' dp'
+  was_saved {st' = st'} {tb' = tb'} {dp' = dp'} f z y whole =
       record {
         misfit = λ m. absurd (m f);
         another = λ _ m. absurd (m z);
-        refused = λ _ n. absurd (n u y.text);
+        refused = λ _ n. absurd (n _ y.text);
         loaded = λ _ _ s h. subst (λ x. Loaded x 0 st' tb' dp') (one_spelling2 y.text h) whole;
       }
 
 -- ---- no second outcome fits
 
-fits_or_not {ℓ} : {R : Type ℓ} (st tb dp : List ℕ) → (Fits st tb dp → R) → ((Fits st tb dp → ⊥) → R) → R
-fits_or_not st tb dp y n =
-    by_test (eqb (length st) 823)
-    (λ a. by_test (eqb (length tb) 1472)
-    (λ b. by_test (eqb (length dp) 18)
-    (λ c. y (record { state = eqb→eq (length st) 823 a; table = eqb→eq (length tb) 1472 b; display = eqb→eq (length dp) 18 c }))
-    (λ c. n (λ f. T_not (eqb (length dp) 18) c (rw f.display tt))))
-    (λ b. n (λ f. T_not (eqb (length tb) 1472) b (rw f.table tt))))
-    (λ a. n (λ f. T_not (eqb (length st) 823) a (rw f.state tt)))
-
 module _ {r r₂ : ℕ} {st₁ st₂ tb₁ tb₂ dp₁ dp₂ : List ℕ} where
-  unmoved_same : {c : ℕ} {st tb dp : List ℕ} → Unmoved c st tb dp r st₁ tb₁ dp₁ → Unmoved c st tb dp r₂ st₂ tb₂ dp₂ → (r ≡ r₂) × (st₁ ≡ st₂) × (tb₁ ≡ tb₂) × (dp₁ ≡ dp₂)
-  unmoved_same a b = (a.result ∙ sym b.result, a.state ∙ sym b.state, a.table ∙ sym b.table, a.display ∙ sym b.display)
-
-  loaded_same : {s : State} → Loaded s r st₁ tb₁ dp₁ → Loaded s r₂ st₂ tb₂ dp₂ → (r ≡ r₂) × (st₁ ≡ st₂) × (tb₁ ≡ tb₂) × (dp₁ ≡ dp₂)
-  loaded_same a b = (a.result ∙ sym b.result, one_image a.state b.state, a.table ∙ sym b.table, a.display ∙ sym b.display)
-
   pub one_loading2 : {w : ℕ} {t st tb dp : List ℕ} → Loads2 w t st tb dp r st₁ tb₁ dp₁ → Loads2 w t st tb dp r₂ st₂ tb₂ dp₂ → (r ≡ r₂) × (st₁ ≡ st₂) × (tb₁ ≡ tb₂) × (dp₁ ≡ dp₂)
   one_loading2 {w} {t} {st} {tb} {dp} a b =
       fits_or_not st tb dp

@@ -1,15 +1,13 @@
 -- What was saved in the second form is there again after loading, and what was loaded is saved as the same text. Assumes nothing.
-use Prim.Native.Nat.{ℕ, ◌+◌, ◌≤◌}
+use Prim.Native.Nat.{ℕ, ◌≤◌}
 use mathlib.Core.Path.{◌≡◌, refl, ap, ap₂, sym, subst, ◌∙◌}
-use mathlib.Core.Bool.{◌||◌}
 use mathlib.Core.List.{List}
 use native.Mathlib.Omega.{arith}
-use lib.Dec.{T, eqb}
-use lib.ListN.{length, take}
+use lib.Dec.{T}
+use lib.ListN.{length}
 use Rattle.memory.specs.Splice.{splice}
 use Rattle.machine_laws.specs.machine.State.{State}
 use Rattle.machine_laws.proofs.Sound.{parts}
-use Rattle.image.specs.board.declared.Board.{Board}
 use Rattle.image.specs.board.Board.{sized, struct_of, state_in, Held}
 use Rattle.image.proofs.board.Laws.{held_of, held_width, held_sized, state_in_of}
 use Rattle.image.specs.Image.{state_of, image_of}

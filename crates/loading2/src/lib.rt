@@ -8,7 +8,6 @@ pub use accepting2::saving2;
 pub use image;
 use image::board::Board;
 pub use loading;
-use loading::{encoding, recounting};
 pub use loading::{saving, waiting_list};
 
 // The state of a saved text, its table, and its display counted once: 0. Memory of another size: 1. A text that was not saved of a sound
@@ -23,13 +22,7 @@ pub fn load2(
     ensures { Loads2 channels text.now state.old table.old display.old
         result state.new table.new display.new }
 {
-    if state.len() != 823 {
-        return 1;
-    }
-    if table.len() != 1472 {
-        return 1;
-    }
-    if display.len() != 18 {
+    if !loading::fits(state, table, display) {
         return 1;
     }
     if !Board::sized(channels) {
@@ -39,8 +32,6 @@ pub fn load2(
     let Some(b) = accepting2::accept2(channels, text, &mut read) else {
         return 9;
     };
-    encoding::save(b, state);
-    memory::copy(table, 0, &read);
-    recounting::recount(b, &read, display);
+    loading::restore(b, &read, state, table, display);
     0
 }

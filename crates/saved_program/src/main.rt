@@ -3,7 +3,10 @@
 // to say; what is read and written is the C library's.
 #![tactic(auto)]
 
-use moving::{saving, saving2};
+ghost use Rattle.std.specs.Prelude.{◌≤◌, length};
+
+use moving::saving::Written;
+use moving::saving2;
 use std::io::{ErrorKind, Write};
 
 const STDIN: i32 = 0;
@@ -17,47 +20,30 @@ fn say(rt: &HostRuntime, line: &[u8]) {
     }
 }
 
-fn refuse(rt: &HostRuntime, error: u8) {
-    if error == 12 {
-        say(rt, b"refused 12\n");
-    } else if error == 10 {
-        say(rt, b"refused 10\n");
-    } else {
-        say(rt, b"refused 9\n");
+// The text that stands in front of the page, or the refusal.
+fn tell(rt: &HostRuntime, page: &[u8], w: Written)
+    requires { w.written ≤ length page.now }
+{
+    match w.error {
+        0 => say(rt, &page[..w.written]),
+        12 => say(rt, b"refused 12\n"),
+        10 => say(rt, b"refused 10\n"),
+        _ => say(rt, b"refused 9\n"),
     }
 }
 
-fn to_new(rt: &HostRuntime, text: &[u8]) {
-    let mut out = [0u8; saving2::LONGEST];
-    let w = moving::to_new(text, &mut out);
-    if w.error != 0 {
-        refuse(rt, w.error);
-        return;
-    }
-    let n = w.written;
-    say(rt, &out[..n]);
-}
-
-fn to_old(rt: &HostRuntime, text: &[u8]) {
-    let mut out = [0u8; saving::LONGEST];
-    let w = moving::to_old(text, &mut out);
-    if w.error != 0 {
-        refuse(rt, w.error);
-        return;
-    }
-    let n = w.written;
-    say(rt, &out[..n]);
-}
-
+// The longer room takes both forms.
 fn main(rt: HostRuntime) {
     let mut text = io::large_buffer();
     let n = io::read_full(STDIN, &mut text);
     if n < 1 {
         return;
     }
-    if text[0] == b'o' {
-        to_old(&rt, &text[1..n]);
+    let mut page = [0u8; saving2::LONGEST];
+    let w = if text[0] == b'o' {
+        moving::to_old(&text[1..n], &mut page)
     } else {
-        to_new(&rt, &text[1..n]);
-    }
+        moving::to_new(&text[1..n], &mut page)
+    };
+    tell(&rt, &page, w);
 }

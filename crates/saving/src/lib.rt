@@ -13,7 +13,7 @@ pub use saved_lines;
 pub use waiting_list;
 pub use waiting_list::{decoding, sizes, sound};
 
-// The refusal, or 0; how long the text is.
+// The refusal, or 0; how long the text is. No Result: `qamhudeer` hands both numbers to C, after a refusal too.
 #[derive(Clone, Copy)]
 pub struct Written {
     pub error: u8,

@@ -1,13 +1,14 @@
 -- `accept` meets its contract: what is found is handed back, and of a text that is none a table of zeros. Assumes nothing.
 use mathlib.Core.Path.{ap, ◌∙◌}
-use lib.ListN.{length, replicate}
-use Rattle.accepting.proofs.Accepting.{emptied, kept}
+use lib.ListN.{length}
+use Rattle.accepting.specs.Accepting.{Yes, No}
+use Rattle.accepting.proofs.Accepting.{settled}
 use Rattle.accepting.proofs.accept.Goals as goal
 
-pub returns-then-is_none : goal.returns-then-is_none
-returns-then-is_none c =
-    emptied c.args.text.now c.compare-found.result _ c.compare-found.ensures c.if-is_none.ensures
-    (c.fill.ensures.after (λ y h. h) ∙ ap (λ n. replicate n 0) (c.compare-found.auto.table ∙ ap length c.requires))
+pub or_cleared-requires : goal.or_cleared-requires
+or_cleared-requires c = c.compare-found.auto.table ∙ ap length c.requires
 
-pub returns-else-is_none : goal.returns-else-is_none
-returns-else-is_none c = kept c.args.text.now c.compare-found.result _ c.compare-found.ensures c.if-is_none.ensures
+pub returns : goal.returns
+returns c =
+    let t = c.args.text.now in
+    rw c.or_cleared.ensures.0 (settled (No t) (Yes t) c.compare-found.result _ _ c.compare-found.ensures c.or_cleared.ensures.1)

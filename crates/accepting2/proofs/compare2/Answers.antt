@@ -9,8 +9,8 @@ use Rattle.std.proofs.lemmas.Bool.Decides.{Decides-eqb}
 use Rattle.std.proofs.lemmas.Slice.Eq.{slice_eq-Decides}
 use Rattle.saving2.proofs.saving.Laws.{page-within}
 use Rattle.saving2.proofs.Laws2.{text2_fits}
-use Rattle.saving2.proofs.accepting.Accepting.{false_true}
-use Rattle.accepting2.proofs.Accepting2.{took_from, too_short, unopened, unsound, compared, differs}
+use Rattle.saving2.proofs.accepting.Accepting.{false_true, took_from}
+use Rattle.accepting2.proofs.Accepting2.{too_short, unopened, unsound, compared, differs}
 use Rattle.accepting2.proofs.compare2.Goals as goal
 
 pub returns-then-text-lt10 : goal.returns-then-text-lt10

@@ -1,8 +1,8 @@
 -- `take_span` meets its contract: a frame that is no span, or has no place, is passed over; any other puts its entry and its id. Assumes nothing.
+use mathlib.Core.Path.{refl}
 use native.Mathlib.Omega.{arith}
 use Rattle.sheet.proofs.Taking.{has_span_lem, span_has}
 use Rattle.span_frames.proofs.take_span.Goals.{then-f-ne5-via-then-f-ne5, then-f-ne5-via-else-f-ne5+then-f-ge-REQUESTS, then-f-ne5-via-else-f-ne5+else-f-ge-REQUESTS+then-q-ge-REQUESTS}
-use mathlib.Core.Path.{refl}
 use Rattle.span_frames.proofs.take_span.Goals as goal
 
 pub returns-then-f-ne5 : goal.returns-then-f-ne5
