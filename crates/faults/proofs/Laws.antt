@@ -1,5 +1,5 @@
 -- The tests of a frame are those of its kind; a text's fault is that of its first line, or of what is left behind it. Assumes nothing.
-use Prim.Native.Nat.{ℕ, ◌+◌, ◌-◌, ◌≤◌, ◌<◌}
+use Prim.Native.Nat.{ℕ, zero, suc, ◌+◌, ◌-◌, ◌≤◌, ◌<◌}
 use mathlib.Core.Path.{◌≡◌, refl, ap, sym, ◌∙◌}
 use mathlib.Core.Bool.{Bool, true, false}
 use mathlib.Core.List.{List, [], ◌∷◌, ◌++◌, append_assoc, append-nil}
@@ -8,14 +8,31 @@ use borrow.Author.Tests.{eq-eqb, ne_eqb, lt-ltb}
 use lib.Dec.{T, eqb, ltb}
 use lib.ListN.{length, get_or, take, drop, length-drop, drop_of_length-le, get_or-eq_default}
 use lib.Seq.{drop-drop}
-use Rattle.std.specs.Prelude.{if◌then◌else◌}
+use Rattle.std.specs.Option.{option_eq}
+use Rattle.std.specs.Prelude.{Some, None, if◌then◌else◌}
 use Rattle.machine.specs.Log.{LF}
 use Rattle.machine.proofs.Tests.{by_test, test_true, test_false}
 use Rattle.reading.specs.gathering.Lumps.{front, ended, used}
 use Rattle.reading.proofs.gathering.Lumps.{front_open, front_used, used-within}
 use Rattle.reading.specs.hex_lines.HexLines.{octets_of}
 use Rattle.reading.proofs.sheet.Taking.{rest_is_drop}
-use Rattle.faults.specs.Faults.{length_of, length_in, frame_of, lacking, fault_from, fault}
+use Rattle.faults.specs.Faults.{told, length_of, length_in, frame_of, lacking, fault_from, fault}
+
+-- ---- numbers that are told
+
+pub told_some : {n m : ℕ} → 0 < n → n ≡ m → Some n ≡ told m
+unfolding told
+told_some {n = zero} h e = absurd (omega arith)
+told_some {n = suc n} h e = rw (sym e)
+
+pub told_none : {m : ℕ} → 0 ≡ m → None ≡ told m
+unfolding told
+told_none e = rw (sym e)
+
+pub told_eq : {n : ℕ} (m : ℕ) → 0 < n → option_eq eqb (Some n) (told m) ≡ eqb n m
+unfolding told
+told_eq {n = n} zero h = sym (ne_eqb n 0 (λ e. absurd (omega arith)))
+told_eq (suc m) h = refl
 
 -- ---- kinds
 

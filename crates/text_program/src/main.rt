@@ -17,7 +17,8 @@ const STDIN: i32 = 0;
 
 const STDOUT: i32 = 1;
 
-// That whoever reads has gone is no failure to be told.
+// That whoever reads has gone is no failure to be told. Two other programs have these lines too: a crate of their own would have this
+// function alone, and no contract can say what is written.
 fn say(rt: &HostRuntime, line: &[u8]) {
     if let Err(e) = rt.stdout().write_all(line) {
         if e.kind() != ErrorKind::BrokenPipe {
@@ -28,14 +29,14 @@ fn say(rt: &HostRuntime, line: &[u8]) {
 
 // Why the text is refused.
 fn tell(rt: &HostRuntime, form: u8, text: &[u8]) {
-    let k = faults::fault(form, text);
-    if k == 0 {
-        say(rt, b"no sound state\n");
-        return;
+    match faults::fault(form, text) {
+        None => say(rt, b"no sound state\n"),
+        Some(k) => {
+            say(rt, b"line ");
+            io::print_decimal(STDOUT, k as u64);
+            say(rt, b"\n");
+        }
     }
-    say(rt, b"line ");
-    io::print_decimal(STDOUT, k as u64);
-    say(rt, b"\n");
 }
 
 // A text of the first form.
@@ -65,15 +66,9 @@ fn main(rt: HostRuntime) {
     let w = rt.arg(1, &mut word).unwrap_or(0);
     let mut text = io::large_buffer();
     let n = io::read_full(STDIN, &mut text);
-    if w == 1 {
-        if word[0] == b'4' {
-            judge2(&rt, Board::FOUR, &text[..n]);
-            return;
-        }
-        if word[0] == b'8' {
-            judge2(&rt, Board::EIGHT, &text[..n]);
-            return;
-        }
+    match word {
+        [b'4', _] if w == 1 => judge2(&rt, Board::FOUR, &text[..n]),
+        [b'8', _] if w == 1 => judge2(&rt, Board::EIGHT, &text[..n]),
+        _ => judge(&rt, &text[..n]),
     }
-    judge(&rt, &text[..n]);
 }
