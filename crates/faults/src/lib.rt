@@ -49,13 +49,8 @@ fn frame_of(form: u8, k: usize, f: &[u8]) -> bool
     ensures { result ≡ frame_of form k f.now }
 {
     if k == 0 {
-        if f.len() != 2 {
-            return false;
-        }
-        if f[0] != 0xD0 {
-            return false;
-        }
-        return f[1] == form;
+        let opening: &[u8] = &[0xD0, form];
+        return f == opening;
     }
     if f.len() == 0 {
         return false;
