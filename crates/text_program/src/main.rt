@@ -27,8 +27,12 @@ fn say(rt: &HostRuntime, line: &[u8]) {
     }
 }
 
-// Why the text is refused.
-fn tell(rt: &HostRuntime, form: u8, text: &[u8]) {
+// That a text of this form is accepted, or why it is not.
+fn tell(rt: &HostRuntime, form: u8, text: &[u8], accepted: bool) {
+    if accepted {
+        say(rt, b"accepted\n");
+        return;
+    }
     match faults::fault(form, text) {
         None => say(rt, b"no sound state\n"),
         Some(k) => {
@@ -39,36 +43,29 @@ fn tell(rt: &HostRuntime, form: u8, text: &[u8]) {
     }
 }
 
-// A text of the first form.
-fn judge(rt: &HostRuntime, text: &[u8]) {
+// Whether a text of the first form is accepted.
+fn first(text: &[u8]) -> bool {
     let mut table = [0u8; 1472];
-    if accepting::accept(text, &mut table).is_some() {
-        say(rt, b"accepted\n");
-        return;
-    }
-    tell(rt, 1, text);
+    accepting::accept(text, &mut table).is_some()
 }
 
-// One of the second form, of a board with so many channels.
-fn judge2(rt: &HostRuntime, width: u8, text: &[u8])
+// The same of the second form, of a board with so many channels.
+fn second(width: u8, text: &[u8]) -> bool
     requires { T (sized width) }
 {
     let mut table = [0u8; 1472];
-    if accepting2::accept2(width, text, &mut table).is_some() {
-        say(rt, b"accepted\n");
-        return;
-    }
-    tell(rt, 2, text);
+    accepting2::accept2(width, text, &mut table).is_some()
 }
 
 fn main(rt: HostRuntime) {
     let mut word = [0u8; 2];
     let w = rt.arg(1, &mut word).unwrap_or(0);
-    let mut text = io::large_buffer();
-    let n = io::read_full(STDIN, &mut text);
+    let mut page = io::large_buffer();
+    let n = io::read_full(STDIN, &mut page);
+    let text = &page[..n];
     match word {
-        [b'4', _] if w == 1 => judge2(&rt, Board::FOUR, &text[..n]),
-        [b'8', _] if w == 1 => judge2(&rt, Board::EIGHT, &text[..n]),
-        _ => judge(&rt, &text[..n]),
+        [b'4', _] if w == 1 => tell(&rt, 2, text, second(Board::FOUR, text)),
+        [b'8', _] if w == 1 => tell(&rt, 2, text, second(Board::EIGHT, text)),
+        _ => tell(&rt, 1, text, first(text)),
     }
 }
