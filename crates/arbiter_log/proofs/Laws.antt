@@ -1,12 +1,11 @@
 -- What the program begins with is ready, and a call of `fill` or `finish` leaves it so. Assumes nothing.
-use Prim.Native.Nat.{ℕ, ◌+◌, ◌-◌, ◌≤◌, ◌<◌}
-use mathlib.Core.Path.{◌≡◌, ap, subst}
+use Prim.Native.Nat.{ℕ, ◌+◌, ◌≤◌, ◌<◌}
+use mathlib.Core.Path.{◌≡◌, subst}
 use mathlib.Core.Bool.{Bool, true, false}
 use mathlib.Core.List.{List}
 use native.Mathlib.Nat.{zero-add}
 use native.Mathlib.Omega.{arith}
-use lib.ListN.{length, take, drop, length-drop}
-use lib.Seq.{take_all}
+use lib.ListN.{length}
 use Rattle.std.specs.Prelude.{Some, if◌then◌else◌}
 use Rattle.beginning.specs.taking.declared.Show.{Show}
 use Rattle.beginning.specs.taking.Desk.{Taken, desk_of, needed, filled, finished}
@@ -17,7 +16,6 @@ use Rattle.image.proofs.Round.{saved-state}
 use Rattle.beginning.specs.paging.Paging.{Fills}
 use Rattle.beginning.specs.finishing.Finishing.{Finishes}
 use Rattle.beginning.proofs.whole_log.Progress.{Went, desk_good, fills-went, fills_on, finished-went, left_held, left_shown, left_within, left_inside, left_size, left_used}
-use Rattle.arbiter_log.specs.declared.Desk.{Desk}
 use Rattle.beginning.specs.Beginning.{Begins}
 use Rattle.arbiter_log.specs.Desk.{Ready}
 
@@ -32,15 +30,15 @@ enough show {k} h = go show.channels show.display
     go false false = omega arith
 
 -- a call of `fill` on an empty page
-module _ {show : Show} {d : Desk} {st tb dp l page bs : List ℕ} {t : Taken} {l' tb' dp' page' : List ℕ}
-    (r : Ready d st tb dp page)
-    (w : Fills show (state_of st) tb dp l d.line bs page 0 t l' tb' dp' page') where
-  went : Went (desk_of (state_of st) tb dp l d.line page 0) (length bs) (filled show (desk_of (state_of st) tb dp l d.line page 0) bs)
+module _ {show : Show} {n : ℕ} {st tb dp l page bs : List ℕ} {t : Taken} {l' tb' dp' page' : List ℕ}
+    (r : Ready n st tb dp page)
+    (w : Fills show (state_of st) tb dp l n bs page 0 t l' tb' dp' page') where
+  went : Went (desk_of (state_of st) tb dp l n page 0) (length bs) (filled show (desk_of (state_of st) tb dp l n page 0) bs)
   went = fills-went w r.held r.shown r.within (omega arith)
 
-  pub fill_ready : (st' : List ℕ) → Whole st' → t.state ≡ state_of st' → (ok : Bool)
-      → Ready (record { line = t.line; ok = ok }) st' tb' dp' page'
-  fill_ready st' f q ok =
+  pub fill_ready : (st' : List ℕ) → Whole st' → t.state ≡ state_of st'
+      → Ready t.line st' tb' dp' page'
+  fill_ready st' f q =
       let e = left_size went w.leaves in
       let m = r.room in
       record {
@@ -55,35 +53,24 @@ module _ {show : Show} {d : Desk} {st tb dp l page bs : List ℕ} {t : Taken} {l
   pub fill_inside : t.at ≤ length page'
   fill_inside = left_inside went w.leaves
 
-  fill_most : t.used ≤ length bs
+  pub fill_most : t.used ≤ length bs
   fill_most = let a = left_used went w.leaves in omega arith
 
-  fill_some : 0 < length bs → 0 < t.used
+  pub fill_some : 0 < length bs → 0 < t.used
   fill_some h = fills_on w r.held r.shown r.within (enough show r.room) h
 
--- on the rest of a lump: some of it is used, and no more than there is
-pub fill_on : {show : Show} {d : Desk} {st tb dp l page : List ℕ} {t : Taken} {l' tb' dp' page' : List ℕ} (input : List ℕ)
-    (from : ℕ) → Ready d st tb dp page → from < length input
-    → Fills show (state_of st) tb dp l d.line (take (length input - from) (drop from input)) page 0 t l' tb' dp' page'
-    → (from + t.used ≤ length input) × (from < from + t.used)
-fill_on input from r h w =
-    let e = length-drop from input in
-    let c = ap length (take_all (length input - from) (drop from input) (omega arith)) in
-    let a = fill_most r w in
-    let b = fill_some r w (omega arith) in
-    (omega arith, omega arith)
-
-module _ {show : Show} {d : Desk} {st tb dp l page : List ℕ} {t : Taken} {tb' dp' page' : List ℕ} (r : Ready d st tb dp page)
-    (w : Finishes show (state_of st) tb dp l d.line page 0 t tb' dp' page') where
-  ended : Went (desk_of (state_of st) tb dp l d.line page 0) 0 (finished show (desk_of (state_of st) tb dp l d.line page 0))
-  ended = finished-went show (desk_of (state_of st) tb dp l d.line page 0) (desk_good l r.held r.shown r.within (omega arith))
+-- a call of `finish` on an empty page
+module _ {show : Show} {n : ℕ} {st tb dp l page : List ℕ} {t : Taken} {tb' dp' page' : List ℕ} (r : Ready n st tb dp page)
+    (w : Finishes show (state_of st) tb dp l n page 0 t tb' dp' page') where
+  ended : Went (desk_of (state_of st) tb dp l n page 0) 0 (finished show (desk_of (state_of st) tb dp l n page 0))
+  ended = finished-went show (desk_of (state_of st) tb dp l n page 0) (desk_good l r.held r.shown r.within (omega arith))
 
   pub finish-inside : t.at ≤ length page'
   finish-inside = left_inside ended w.leaves
 
-  pub finish-ready : (st' : List ℕ) → Whole st' → t.state ≡ state_of st' → (ok : Bool)
-      → Ready (record { line = t.line; ok = ok }) st' tb' dp' page'
-  finish-ready st' f q ok =
+  pub finish-ready : (st' : List ℕ) → Whole st' → t.state ≡ state_of st'
+      → Ready t.line st' tb' dp' page'
+  finish-ready st' f q =
       let e = left_size ended w.leaves in
       let m = r.room in
       record {
@@ -98,9 +85,9 @@ module _ {show : Show} {d : Desk} {st tb dp l page : List ℕ} {t : Taken} {tb' 
 -- where the program begins
 
 module _ {load second : Bool} {w : ℕ} {tb dp : List ℕ} where
-  pub begun-ready : {b : Board} {ok : Bool} {st page : List ℕ} → Begins load second w (Some b) tb dp
+  pub begun-ready : {b : Board} {st page : List ℕ} → Begins load second w (Some b) tb dp
       → Saved b st → 65536 ≡ length page
-      → Ready (record { line = 0; ok = ok }) st tb dp page
+      → Ready 0 st tb dp page
   begun-ready e v n = record {
     whole = v.whole;
     held = rw (← saved-state v)

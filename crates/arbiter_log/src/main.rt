@@ -6,8 +6,8 @@
 // each page is passed to `write` as it was handed back stands in `lump` and `last` to be read.
 #![tactic(auto)]
 
-ghost use Rattle.std.specs.Prelude.{T, ◌≤◌, length};
-ghost use Rattle.image.specs.board.Board.{sized, Held};
+ghost use Rattle.std.specs.Prelude.{T, ◌≤◌, length, IfOk};
+ghost use Rattle.image.specs.board.Board.{sized};
 ghost use Rattle.arbiter_log.specs.Desk.{Ready};
 
 use beginning::taking::Show;
@@ -35,186 +35,122 @@ struct Asked {
     second: bool,
 }
 
-// What is kept from lump to lump of input, beside the state in its bytes. `line` is how much of a line stands that has not ended; `ok` is
-// whether all was read and written so far.
+// Why the log ends early: whoever reads the output has gone, which is no failure to be told; or reading or writing failed, and that is
+// told.
 #[derive(Clone, Copy)]
-struct Desk {
-    line: usize,
-    ok: bool,
+enum Stopped {
+    Gone,
+    Failed,
 }
 
-// The desk after a read, and whether to read again. The desk stands in either case, so an Option would say no more.
+// What is kept from lump to lump of input: the state in its bytes, its table and its display; the line that has not ended, of which
+// `started` bytes stand; and the page that the output is put on.
 #[derive(Drop)]
-struct Turned {
-    desk: Desk,
-    more: bool,
-}
-
-// The first n bytes of the page. Whether they were written. That whoever reads has gone is no failure to be told.
-fn write(rt: &HostRuntime, gone: &mut bool, page: &[u8], n: usize) -> bool
-    requires { n ≤ length page.now }
-{
-    match rt.stdout().write_all(&page[..n]) {
-        Ok(()) => true,
-        Err(e) => {
-            if e.kind() == ErrorKind::BrokenPipe {
-                *gone = true;
-            } else {
-                let _ = eprintln!(rt; "write: {e}");
-            }
-            false
-        }
-    }
-}
-
-// All of a lump, page by page.
-fn lump(
-    rt: &HostRuntime,
-    gone: &mut bool,
+struct Desk {
     show: Show,
-    desk: Desk,
-    state: &mut [u8],
-    line: &mut [u8; audio::LINE_SIZE],
-    input: &[u8],
-    table: &mut [u8],
-    display: &mut [u8; audio::DISPLAY_SIZE],
-    page: &mut [u8],
-) -> Desk
-    requires { Ready desk state.old table.old display.old page.old }
-    ensures { Ready result state.new table.new display.new page.new }
-{
-    let mut d = desk;
-    let mut from: usize = 0;
-    while from < input.len() {
-        let n = d.line;
-        let t = paging::fill(
-            show,
-            state,
-            line,
-            n,
-            &input[from..],
-            table,
-            display,
-            page,
-            0,
-        );
-        let ok = write(rt, gone, page, t.at);
-        d = Desk { line: t.line, ok };
-        if !ok {
-            return d;
-        }
-        from += t.used;
-    }
-    d
+    state: [u8; audio::STATE_SIZE],
+    table: [u8; audio::TABLE_SIZE],
+    display: [u8; audio::DISPLAY_SIZE],
+    line: [u8; audio::LINE_SIZE],
+    started: usize,
+    page: [u8; 65536],
+    ghost ready: { Ready started state table display page },
 }
 
-// Reads once, and writes all that comes of it.
-fn turn(
-    rt: &HostRuntime,
-    gone: &mut bool,
-    show: Show,
-    d: Desk,
-    state: &mut [u8],
-    line: &mut [u8; audio::LINE_SIZE],
-    input: &mut [u8],
-    table: &mut [u8],
-    display: &mut [u8; audio::DISPLAY_SIZE],
-    page: &mut [u8],
-) -> Turned
-    requires { Ready d state.old table.old display.old page.old }
-    ensures { Ready result.desk state.new table.new display.new page.new }
+// To the output, all of it.
+fn write(rt: &HostRuntime, text: &[u8]) -> Result<(), Stopped> {
+    if let Err(e) = rt.stdout().write_all(text) {
+        if e.kind() == ErrorKind::BrokenPipe {
+            return Err(Stopped::Gone);
+        }
+        let _ = eprintln!(rt; "write: {e}");
+        return Err(Stopped::Failed);
+    }
+    Ok(())
+}
+
+// A part of the input, and how long it is. No bytes are the end of the log; an error is not, so what stands of a line is not answered.
+fn read(rt: &HostRuntime, input: &mut [u8]) -> Result<usize, Stopped>
+    ensures { IfOk result (λ n. n ≤ length input.new) }
 {
-    // no bytes are the end of the log; an error is not, so what stands of a line is not answered
-    let k = match rt.stdin().read(input) {
-        Ok(k) => k,
+    match rt.stdin().read(input) {
+        Ok(n) => Ok(n),
         Err(e) => {
             let _ = eprintln!(rt; "read: {e}");
-            let failed = Desk {
-                line: d.line,
-                ok: false,
-            };
-            return Turned {
-                desk: failed,
-                more: false,
-            };
+            Err(Stopped::Failed)
         }
-    };
-    if k == 0 {
-        return Turned {
-            desk: d,
-            more: false,
+    }
+}
+
+impl Desk {
+    // All of a lump, page by page.
+    fn lump(&mut self, rt: &HostRuntime, input: &[u8]) -> Result<(), Stopped> {
+        let mut rest = input;
+        while !rest.is_empty() {
+            let left = paging::fill(
+                self.show,
+                &mut self.state,
+                &mut self.line,
+                self.started,
+                rest,
+                &mut self.table,
+                &mut self.display,
+                &mut self.page,
+                0,
+            );
+            self.started = left.line;
+            write(rt, &self.page[..left.at])?;
+            rest = &rest[left.used..];
+        }
+        Ok(())
+    }
+
+    // The log, to its end. A proved loop has to end, and nothing says that an input does: so there is a last turn, which no run reaches.
+    fn lumps(&mut self, rt: &HostRuntime) -> Result<(), Stopped> {
+        let mut input = io::large_buffer();
+        for _ in 0..u64::MAX {
+            let n = read(rt, &mut input)?;
+            if n == 0 {
+                break;
+            }
+            self.lump(rt, &input[..n])?;
+        }
+        Ok(())
+    }
+
+    // The log has ended: what stands of a last line is answered.
+    fn last(&mut self, rt: &HostRuntime) -> Result<(), Stopped> {
+        let left = finishing::finish(
+            self.show,
+            &mut self.state,
+            &self.line,
+            self.started,
+            &mut self.table,
+            &mut self.display,
+            &mut self.page,
+            0,
+        );
+        self.started = left.line;
+        write(rt, &self.page[..left.at])
+    }
+
+    // The log, and what stands of a last line.
+    fn play(&mut self, rt: &HostRuntime) -> Result<(), Stopped> {
+        self.lumps(rt)?;
+        self.last(rt)
+    }
+
+    // The text of the state at the end, in the form that was asked for. Eight channels have none of the first.
+    fn keep(&self, second: bool) {
+        let board = decoding::load(&self.state);
+        let mut page = [0u8; saving2::LONGEST];
+        let n = if second {
+            saving2::spell2(board, &self.table, &mut page)
+        } else {
+            keeping::first_form(board, &self.table, &mut page[..saving::LONGEST])
         };
+        saved(&page[..n]);
     }
-    let e = lump(
-        rt,
-        gone,
-        show,
-        d,
-        state,
-        line,
-        &input[..k],
-        table,
-        display,
-        page,
-    );
-    Turned {
-        desk: e,
-        more: e.ok,
-    }
-}
-
-// A proved loop has to end, and nothing says that an input does. So the turns are counted down, from a number that no run uses up.
-fn turns(
-    rt: &HostRuntime,
-    gone: &mut bool,
-    show: Show,
-    desk: Desk,
-    state: &mut [u8],
-    line: &mut [u8; audio::LINE_SIZE],
-    input: &mut [u8],
-    table: &mut [u8],
-    display: &mut [u8; audio::DISPLAY_SIZE],
-    page: &mut [u8],
-) -> Desk
-    requires { Ready desk state.old table.old display.old page.old }
-    ensures { Ready result state.new table.new display.new page.new }
-{
-    let mut d = desk;
-    let mut left = u64::MAX;
-    while left > 0 {
-        let t = turn(rt, gone, show, d, state, line, input, table, display, page);
-        let e = t.desk;
-        d = e;
-        if !t.more {
-            break;
-        }
-        left -= 1;
-    }
-    d
-}
-
-// The log has ended: what stands of a last line is answered.
-fn last(
-    rt: &HostRuntime,
-    gone: &mut bool,
-    show: Show,
-    d: Desk,
-    state: &mut [u8],
-    line: &[u8; audio::LINE_SIZE],
-    table: &mut [u8],
-    display: &mut [u8; audio::DISPLAY_SIZE],
-    page: &mut [u8],
-) -> Desk
-    requires { Ready d state.old table.old display.old page.old }
-    ensures { Ready result state.new table.new display.new page.new }
-{
-    if !d.ok {
-        return d;
-    }
-    let n = d.line;
-    let t = finishing::finish(show, state, line, n, table, display, page, 0);
-    let ok = write(rt, gone, page, t.at);
-    Desk { line: t.line, ok }
 }
 
 // A text, to where it is saved.
@@ -225,37 +161,15 @@ fn saved(text: &[u8]) {
     }
 }
 
-// The text of the state at the end, in the first form. Eight channels have none.
-fn keep(b: Board, table: &[u8])
-    requires { Held b table.now }
-{
-    let mut page = [0u8; saving::LONGEST];
-    let n = keeping::first_form(b, table, &mut page);
-    saved(&page[..n]);
-}
-
-// The same in the second form.
-fn keep2(b: Board, table: &[u8])
-    requires { Held b table.now }
-{
-    let mut page = [0u8; saving2::LONGEST];
-    let n = saving2::spell2(b, table, &mut page);
-    saved(&page[..n]);
-}
-
 // How many channels the board has.
 fn width(rt: &HostRuntime) -> u8
     ensures { T (sized result) }
 {
     let mut word = [0u8; 2];
-    let n = rt.arg(1, &mut word).unwrap_or(0);
-    if n != 1 {
-        return Board::FOUR;
+    match rt.arg(1, &mut word) {
+        Ok(1) if word[0] == b'8' => Board::EIGHT,
+        _ => Board::FOUR,
     }
-    if word[0] == b'8' {
-        return Board::EIGHT;
-    }
-    Board::FOUR
 }
 
 // What the second word asks for.
@@ -276,57 +190,38 @@ fn words(rt: &HostRuntime) -> Asked {
 }
 
 fn main(rt: HostRuntime) -> ExitCode {
-    let a = words(&rt);
-    let w = width(&rt);
+    let asked = words(&rt);
     let mut table = [0u8; audio::TABLE_SIZE];
     let mut display = [0u8; audio::DISPLAY_SIZE];
-    let Some(s) = beginning::begin(a.load, a.second, w, &mut table, &mut display) else {
+    let Some(board) = beginning::begin(
+        asked.load,
+        asked.second,
+        width(&rt),
+        &mut table,
+        &mut display,
+    ) else {
         io::write_all(STDERR, b"the text is refused\n");
         return ExitCode::SUCCESS;
     };
     let mut state = [0u8; audio::STATE_SIZE];
-    encoding::save(s, &mut state);
-    let d = Desk { line: 0, ok: true };
-    let show = a.show;
-    let mut line = [0u8; audio::LINE_SIZE];
-    let mut input = io::large_buffer();
-    let mut page = io::large_buffer();
-    let mut gone = false;
-    let e = turns(
-        &rt,
-        &mut gone,
-        show,
-        d,
-        &mut state,
-        &mut line,
-        &mut input,
-        &mut table,
-        &mut display,
-        &mut page,
-    );
-    let z = last(
-        &rt,
-        &mut gone,
-        show,
-        e,
-        &mut state,
-        &line,
-        &mut table,
-        &mut display,
-        &mut page,
-    );
-    if a.save {
-        if z.ok {
-            let b = decoding::load(&state);
-            if a.second {
-                keep2(b, &table);
-            } else {
-                keep(b, &table);
+    encoding::save(board, &mut state);
+    let mut desk = Desk {
+        show: asked.show,
+        state,
+        table,
+        display,
+        line: [0u8; audio::LINE_SIZE],
+        started: 0,
+        page: io::large_buffer(),
+    };
+    match desk.play(&rt) {
+        Ok(()) => {
+            if asked.save {
+                desk.keep(asked.second);
             }
+            ExitCode::SUCCESS
         }
+        Err(Stopped::Gone) => ExitCode::from(GONE),
+        Err(Stopped::Failed) => ExitCode::SUCCESS,
     }
-    if gone {
-        return ExitCode::from(GONE);
-    }
-    ExitCode::SUCCESS
 }

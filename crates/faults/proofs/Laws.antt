@@ -1,21 +1,39 @@
 -- The tests of a frame are those of its kind; a text's fault is that of its first line, or of what is left behind it. Assumes nothing.
-use Prim.Native.Nat.{ℕ, ◌+◌, ◌-◌, ◌≤◌, ◌<◌}
+use Prim.Native.Nat.{ℕ, zero, suc, ◌+◌, ◌-◌, ◌≤◌, ◌<◌}
 use mathlib.Core.Path.{◌≡◌, refl, ap, sym, ◌∙◌}
-use mathlib.Core.Bool.{Bool, true, false}
+use mathlib.Core.Bool.{Bool, true, false, ◌&&◌}
 use mathlib.Core.List.{List, [], ◌∷◌, ◌++◌, append_assoc, append-nil}
 use native.Mathlib.Omega.{arith}
 use borrow.Author.Tests.{eq-eqb, ne_eqb, lt-ltb}
 use lib.Dec.{T, eqb, ltb}
 use lib.ListN.{length, get_or, take, drop, length-drop, drop_of_length-le, get_or-eq_default}
+use lib.Pointwise.{pointwise}
 use lib.Seq.{drop-drop}
-use Rattle.std.specs.Prelude.{if◌then◌else◌}
+use Rattle.std.specs.Option.{option_eq}
+use Rattle.std.specs.Prelude.{Some, None, if◌then◌else◌}
 use Rattle.machine.specs.Log.{LF}
 use Rattle.machine.proofs.Tests.{by_test, test_true, test_false}
 use Rattle.reading.specs.gathering.Lumps.{front, ended, used}
 use Rattle.reading.proofs.gathering.Lumps.{front_open, front_used, used-within}
 use Rattle.reading.specs.hex_lines.HexLines.{octets_of}
 use Rattle.reading.proofs.sheet.Taking.{rest_is_drop}
-use Rattle.faults.specs.Faults.{length_of, length_in, frame_of, lacking, fault_from, fault}
+use Rattle.faults.specs.Faults.{told, length_of, length_in, frame_of, lacking, fault_from, fault}
+
+-- ---- numbers that are told
+
+pub told_some : {n m : ℕ} → 0 < n → n ≡ m → Some n ≡ told m
+unfolding told
+told_some {n = zero} h e = absurd (omega arith)
+told_some {n = suc n} h e = rw (sym e)
+
+pub told_none : {m : ℕ} → 0 ≡ m → None ≡ told m
+unfolding told
+told_none e = rw (sym e)
+
+pub told_eq : {n : ℕ} (m : ℕ) → 0 < n → option_eq eqb (Some n) (told m) ≡ eqb n m
+unfolding told
+told_eq {n = n} zero h = sym (ne_eqb n 0 (λ e. absurd (omega arith)))
+told_eq (suc m) h = refl
 
 -- ---- kinds
 
@@ -75,18 +93,27 @@ module _ (f : List ℕ) where
 
 -- ---- frames
 
+opening : (v : ℕ) (f : List ℕ) → pointwise eqb f (0xD0 ∷ v ∷ []) ≡ (eqb (length f) 2 && (eqb (get_or f 0 0) 0xD0 && eqb (get_or f 1 0) v))
+opening v [] = refl
+opening v (a ∷ []) = by_test (eqb a 0xD0) (λ y. rw (test_true (eqb a 0xD0) y)) (λ y. rw (test_false (eqb a 0xD0) y))
+opening v (a ∷ b ∷ []) =
+    by_test (eqb a 0xD0)
+    (λ y. by_test (eqb b v)
+    (λ x. rw (test_true (eqb a 0xD0) y, test_true (eqb b v) x))
+    (λ x. rw (test_true (eqb a 0xD0) y, test_false (eqb b v) x)))
+    (λ y. rw (test_false (eqb a 0xD0) y))
+opening v (a ∷ b ∷ c ∷ t) =
+    let n : eqb (length (a ∷ b ∷ c ∷ t)) 2 ≡ false = ne_eqb (length (a ∷ b ∷ c ∷ t)) 2 (λ e. absurd (omega arith)) in
+    by_test (eqb a 0xD0)
+    (λ y. by_test (eqb b v)
+    (λ x. rw (n, test_true (eqb a 0xD0) y, test_true (eqb b v) x))
+    (λ x. rw (n, test_true (eqb a 0xD0) y, test_false (eqb b v) x)))
+    (λ y. rw (n, test_false (eqb a 0xD0) y))
+
 module _ (v k : ℕ) (f : List ℕ) where
-  pub first_long : k ≡ 0 → (length f ≡ 2 → ⊥) → false ≡ frame_of v k f
+  pub first : k ≡ 0 → pointwise eqb f (0xD0 ∷ v ∷ []) ≡ frame_of v k f
   unfolding frame_of
-  first_long z h = rw (z, ne_eqb (length f) 2 h)
-
-  pub first_other : k ≡ 0 → length f ≡ 2 → (get_or f 0 0 ≡ 0xD0 → ⊥) → false ≡ frame_of v k f
-  unfolding frame_of
-  first_other z e h = rw (z, eq-eqb (length f) 2 e, ne_eqb (get_or f 0 0) 0xD0 h)
-
-  pub first_form : k ≡ 0 → length f ≡ 2 → get_or f 0 0 ≡ 0xD0 → eqb (get_or f 1 0) v ≡ frame_of v k f
-  unfolding frame_of
-  first_form z e h = rw (z, eq-eqb (length f) 2 e, eq-eqb (get_or f 0 0) 0xD0 h)
+  first z = rw z (opening v f)
 
   pub later_none : (k ≡ 0 → ⊥) → length f ≡ 0 → false ≡ frame_of v k f
   unfolding frame_of

@@ -2,6 +2,7 @@
 -- accepted is not decided by this.
 -- Assumes nothing.
 --
+--   told n              a number of these, as the code hands it back: 0 is none
 --   length_of f         how many bytes a frame of this kind has, by its first byte, of the kinds that both forms have; a waiting request says
 --                      itself how many combinations it has. 0: there is no such kind
 --   length_in v f       the same in a text of the form v: the second has the board's line and those of the numbers
@@ -10,9 +11,13 @@
 --   fault_from v k p t  the number of the first line that is none, in a text t whose line behind k lines has begun with the bytes p; 0: there
 --                      is none. A line without LF is none
 --   fault v t          the same of a whole text; a text of no bytes lacks its first line
-use Rattle.std.specs.Prelude.{ℕ, ◌+◌, Bool, ◌&&◌, List, [], ◌∷◌, ◌++◌, eqb, ltb, length, get_or, if◌then◌else◌}
+use Rattle.std.specs.Prelude.{ℕ, zero, suc, ◌+◌, Bool, ◌&&◌, List, [], ◌∷◌, ◌++◌, eqb, ltb, length, get_or, Option, Some, None, if◌then◌else◌}
 use Rattle.machine.specs.Log.{LF}
 use Rattle.reading.specs.hex_lines.HexLines.{octets_of}
+
+unfoldable pub told : ℕ → Option ℕ
+told zero = None
+told (suc n) = Some (suc n)
 
 unfoldable pub length_of : List ℕ → ℕ
 length_of f =

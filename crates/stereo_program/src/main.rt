@@ -27,7 +27,8 @@ fn pair(high: u8, low: u8) -> u8 {
     (digit(high) % 16) * 16 + digit(low) % 16
 }
 
-// That whoever reads has gone is no failure to be told.
+// That whoever reads has gone is no failure to be told. Two other programs have these lines too: a crate of their own would have this
+// function alone, and no contract can say what is written.
 fn say(rt: &HostRuntime, line: &[u8]) {
     if let Err(e) = rt.stdout().write_all(line) {
         if e.kind() != ErrorKind::BrokenPipe {

@@ -17,7 +17,8 @@ const STDIN: i32 = 0;
 
 const STDOUT: i32 = 1;
 
-// That whoever reads has gone is no failure to be told.
+// That whoever reads has gone is no failure to be told. Two other programs have these lines too: a crate of their own would have this
+// function alone, and no contract can say what is written.
 fn say(rt: &HostRuntime, line: &[u8]) {
     if let Err(e) = rt.stdout().write_all(line) {
         if e.kind() != ErrorKind::BrokenPipe {
@@ -26,54 +27,45 @@ fn say(rt: &HostRuntime, line: &[u8]) {
     }
 }
 
-// Why the text is refused.
-fn tell(rt: &HostRuntime, form: u8, text: &[u8]) {
-    let k = faults::fault(form, text);
-    if k == 0 {
-        say(rt, b"no sound state\n");
-        return;
-    }
-    say(rt, b"line ");
-    io::print_decimal(STDOUT, k as u64);
-    say(rt, b"\n");
-}
-
-// A text of the first form.
-fn judge(rt: &HostRuntime, text: &[u8]) {
-    let mut table = [0u8; 1472];
-    if accepting::accept(text, &mut table).is_some() {
+// That a text of this form is accepted, or why it is not.
+fn tell(rt: &HostRuntime, form: u8, text: &[u8], accepted: bool) {
+    if accepted {
         say(rt, b"accepted\n");
         return;
     }
-    tell(rt, 1, text);
+    match faults::fault(form, text) {
+        None => say(rt, b"no sound state\n"),
+        Some(k) => {
+            say(rt, b"line ");
+            io::print_decimal(STDOUT, k as u64);
+            say(rt, b"\n");
+        }
+    }
 }
 
-// One of the second form, of a board with so many channels.
-fn judge2(rt: &HostRuntime, width: u8, text: &[u8])
+// Whether a text of the first form is accepted.
+fn first(text: &[u8]) -> bool {
+    let mut table = [0u8; 1472];
+    accepting::accept(text, &mut table).is_some()
+}
+
+// The same of the second form, of a board with so many channels.
+fn second(width: u8, text: &[u8]) -> bool
     requires { T (sized width) }
 {
     let mut table = [0u8; 1472];
-    if accepting2::accept2(width, text, &mut table).is_some() {
-        say(rt, b"accepted\n");
-        return;
-    }
-    tell(rt, 2, text);
+    accepting2::accept2(width, text, &mut table).is_some()
 }
 
 fn main(rt: HostRuntime) {
     let mut word = [0u8; 2];
     let w = rt.arg(1, &mut word).unwrap_or(0);
-    let mut text = io::large_buffer();
-    let n = io::read_full(STDIN, &mut text);
-    if w == 1 {
-        if word[0] == b'4' {
-            judge2(&rt, Board::FOUR, &text[..n]);
-            return;
-        }
-        if word[0] == b'8' {
-            judge2(&rt, Board::EIGHT, &text[..n]);
-            return;
-        }
+    let mut page = io::large_buffer();
+    let n = io::read_full(STDIN, &mut page);
+    let text = &page[..n];
+    match word {
+        [b'4', _] if w == 1 => tell(&rt, 2, text, second(Board::FOUR, text)),
+        [b'8', _] if w == 1 => tell(&rt, 2, text, second(Board::EIGHT, text)),
+        _ => tell(&rt, 1, text, first(text)),
     }
-    judge(&rt, &text[..n]);
 }

@@ -2,5 +2,5 @@
 use Rattle.arbiter_log.proofs.Laws.{begun-ready}
 use Rattle.arbiter_log.proofs.main.Goals as goal
 
-pub turns-e-requires : goal.turns-e-requires
-turns-e-requires c = begun-ready c.in-Some.ensures c.save.ensures c.large_buffer-page.ensures
+pub invariant_of-desk : goal.invariant_of-desk
+invariant_of-desk c = record { ready = begun-ready c.in-Some.ensures c.save.ensures c.large_buffer.ensures }

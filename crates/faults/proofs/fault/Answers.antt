@@ -7,11 +7,11 @@ use Rattle.reading.specs.gathering.Lumps.{front}
 use Rattle.reading.specs.hex_lines.HexLines.{octets_of}
 use Rattle.reading.proofs.Turns.{end_within, line_is_front}
 use Rattle.faults.specs.Faults.{frame_of}
-use Rattle.faults.proofs.Laws.{without_end, good_line, bad_line, no_bytes, some_bytes, all_passed}
+use Rattle.faults.proofs.Laws.{told_some, told_none, without_end, good_line, bad_line, no_bytes, some_bytes, all_passed}
 use Rattle.faults.proofs.fault.Goals as goal
 
 pub returns-then-text-eq0 : goal.returns-then-text-eq0
-returns-then-text-eq0 c = no_bytes _ _ c.if-text-eq0.true
+returns-then-text-eq0 c = told_some (omega arith) (no_bytes _ _ c.if-text-eq0.true)
 
 pub loop-at-init : goal.loop-at-init
 loop-at-init c = (omega arith, omega arith, some_bytes _ _ c.if-text-eq0.false)
@@ -41,7 +41,7 @@ returns-then-e-text c =
     let h : l.at < length text = c.loop-at-test.true in
     let n = c.end_of in
     let w = end_within text l.at n.result h n.ensures in
-    sym (without_end _ text l.k l.at n.result h n.ensures c.if-e-text.true) ∙ l.invariant.2
+    told_some (omega arith) (sym (without_end _ text l.k l.at n.result h n.ensures c.if-e-text.true) ∙ l.invariant.2)
 
 pub returns-then-not-line_of : goal.returns-then-not-line_of
 returns-then-not-line_of c =
@@ -52,7 +52,7 @@ returns-then-not-line_of c =
     let w = end_within text l.at n.result h n.ensures in
     let f : c.line_of.result ≡ frame_of c.args.form l.k (octets_of (front (drop l.at text))) =
     c.line_of.ensures ∙ ap (λ x. frame_of c.args.form l.k (octets_of x)) (line_is_front text l.at n.result (l.at + n.result) n.ensures refl) in
-    sym (bad_line _ text l.k l.at n.result h n.ensures c.if-e-text.false (sym f ∙ c.if-not-line_of.true)) ∙ l.invariant.2
+    told_some (omega arith) (sym (bad_line _ text l.k l.at n.result h n.ensures c.if-e-text.false (sym f ∙ c.if-not-line_of.true)) ∙ l.invariant.2)
 
 pub overflow_add-at : goal.overflow_add-at
 overflow_add-at c =
@@ -100,4 +100,4 @@ loop-at-preserved c =
     )
 
 pub returns : goal.returns
-returns c = let l = c.loop-at in all_passed _ _ l.k l.at (let z : length c.args.text.now ≤ l.at = omega arith in z) l.invariant.2
+returns c = let l = c.loop-at in told_none (all_passed _ _ l.k l.at (let z : length c.args.text.now ≤ l.at = omega arith in z) l.invariant.2)

@@ -1,19 +1,23 @@
 -- `frame_of` meets its contract: its tests are those of the definition, in order. Assumes nothing.
-use Rattle.faults.proofs.Laws.{first_long, first_other, first_form, later_none, later_some}
+use Prim.Native.Nat.{◌<◌}
+use mathlib.Core.Path.{refl, ap, ◌∙◌}
+use lib.Dec.{eqb}
+use lib.ListN.{length}
+use Rattle.std.specs.Option.{option_eq}
+use Rattle.std.specs.Prelude.{Some}
+use Rattle.faults.proofs.Laws.{told_eq, first, later_none, later_some}
 use borrow.Author.Rules.{rules}
 use Rattle.faults.proofs.frame_of.Goals as goal
 
-pub returns-then-f-ne2 : goal.returns-then-f-ne2
-returns-then-f-ne2 c = first_long _ _ _ c.if-k-eq0.true c.if-f-ne2.true
-
-pub returns-then-f : goal.returns-then-f
-returns-then-f c = first_other _ _ _ c.if-k-eq0.true c.if-f-ne2.false c.if-f.true
-
 pub returns-then-k-eq0 : goal.returns-then-k-eq0
-returns-then-k-eq0 c = first_form _ _ _ c.if-k-eq0.true c.if-f-ne2.false c.if-f.false
+returns-then-k-eq0 c = c.eq.ensures ∙ first _ _ _ c.if-k-eq0.true
 
 pub returns-then-f-eq0 : goal.returns-then-f-eq0
 returns-then-f-eq0 c = later_none _ _ _ c.if-k-eq0.false c.if-f-eq0.true
 
 pub returns : goal.returns
-returns c = later_some _ _ _ c.if-k-eq0.false (search rules) c.length_in.ensures
+returns c =
+    let some : 0 < length c.args.f.now = search rules in
+    c.eq-2.ensures
+    ∙ (ap (option_eq eqb (Some (length c.args.f.now))) c.length_in.ensures
+    ∙ (told_eq _ some ∙ later_some _ _ _ c.if-k-eq0.false some refl))
