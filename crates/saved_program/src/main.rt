@@ -11,7 +11,8 @@ use std::io::{ErrorKind, Write};
 
 const STDIN: i32 = 0;
 
-// That whoever reads has gone is no failure to be told.
+// That whoever reads has gone is no failure to be told. Two other programs have these lines too: a crate of their own would have this
+// function alone, and no contract can say what is written.
 fn say(rt: &HostRuntime, line: &[u8]) {
     if let Err(e) = rt.stdout().write_all(line) {
         if e.kind() != ErrorKind::BrokenPipe {
