@@ -379,7 +379,8 @@ function takes_address(i,    symbol, p, part) {
 
 # ---- Jump tables
 
-# Each address of code that stands in data belongs to a table, and each table to the one function that names it.
+# Each address of code that stands in data belongs to a table, and each table to the one function that names it. Plain constants may be
+# named by several.
 function find_tables(    i, symbol, p, k, best) {
     for (i = 1; i <= instructions; i++) {
         if (op[i] != "lea" || !(i in relocation))
@@ -388,7 +389,7 @@ function find_tables(    i, symbol, p, k, best) {
         symbol = referred(symbol_text[i])
         p = place_of(symbol, addend + 4)
         if (p in table_of && table_of[p] != of[i])
-            refuse("two functions read one table: " where(i))
+            shared[p] = i
         table_of[p] = of[i]
     }
     for (k = 1; k <= entries; k++) {
@@ -406,6 +407,8 @@ function find_tables(    i, symbol, p, k, best) {
         if (best < 0 || data_type[k] != "R_X86_64_PC32" || p == "")
             refuse("an address of code in data: " data_section[k] ", " data_value[k])
         best = member "|" data_section[k] "|" best
+        if (best in shared)
+            refuse("two functions read one table: " where(shared[best]))
         p = moved(p, best_offset(best) - data_offset[k])
         if (!(p in at) || of[at[p]] != table_of[best])
             refuse("a jump table of " name[table_of[best]] " leads out of it, to " data_value[k])
