@@ -598,7 +598,8 @@ function ordered(    symbol, n, k, t) {
 
 BEGIN {
     RED_ZONE = 128
-    allowance["memcpy"] = allowance["memmove"] = allowance["memset"] = allowance["memcmp"] = 128
+    # The two that include/qamhudeer.h names. A library that calls another is refused.
+    allowance["memcpy"] = allowance["memset"] = 128
 }
 
 END {

@@ -97,6 +97,7 @@ pieces_counted() {
 
 pieces_refused() {
     refused "a function that calls itself" recursion frames f nop
+    refused "a function of the C library that the header does not name" memmove frames memmove nop
     refused "two that call each other" recursion frames g nop 'push %rax; call f; pop %rax; ret'
     refused "a call through a register" 'indirect call' frames '*%rax' nop
     refused "a call through memory" 'indirect call' frames '*8(%rdi)' nop

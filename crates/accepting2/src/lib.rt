@@ -34,7 +34,7 @@ fn compare2(width: u8, text: &[u8], table: &mut [u8]) -> Option<Board>
     }
     let mut page = [0u8; saving2::LONGEST];
     let n = saving2::spell2(b, table, &mut page);
-    if text != &page[..n] {
+    if !accepting::same(text, &page[..n]) {
         return None;
     }
     Some(b)

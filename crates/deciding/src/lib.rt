@@ -9,13 +9,11 @@ ghost use Rattle.display.specs.Looks.{looked_by};
 ghost use Rattle.answers.specs.store.Store.{state_in as wide_in};
 ghost use Rattle.answers.specs.Answers.{Told as WideTold};
 ghost use Rattle.operations.specs.refusals.Refusals.{asked_of};
-ghost use Rattle.operations.specs.steps.Steps.{number_in};
 ghost use Rattle.deciding.specs.Deciding.{rests_at, decision_of, waits_in, wait_word, gone_by, joined_by, Moved, Decided};
 
 use answers::store::State;
 use answers::{Answer, Request};
 use operations::refusals::Op;
-use operations::steps::Refusal;
 pub use operations::{refusals, steps};
 pub use refusing;
 pub use settling::lanes;
@@ -74,11 +72,11 @@ pub struct Done {
     pub joined: u64,
 }
 
-// What is done once the refusal is decided: `verdict` is Ok for none; `looks` are those of the last settling. On the state of eight
-// channels, whatever the board's.
+// What is done once the refusal is decided: `e` is its number, 0 for none; `looks` are those of the last settling. On the state of
+// eight channels, whatever the board's. A number and no Result: a narrower type would ask more of callers.
 pub fn decided(
     op: Op,
-    verdict: Result<(), Refusal>,
+    e: u8,
     r: Request,
     s: State,
     combos: &[u8],
@@ -86,15 +84,15 @@ pub fn decided(
     replies: &mut [u8],
     looks: usize,
 ) -> Done
-    requires { Decided op (number_in verdict) r s combos.now table.old replies.old }
-    ensures { WideTold (answering (decision_of (number_in verdict)) (asked_of op r combos.now (length replies.old)) (wide_in s table.old))
+    requires { Decided op e r s combos.now table.old replies.old }
+    ensures { WideTold (answering (decision_of e) (asked_of op r combos.now (length replies.old)) (wide_in s table.old))
         replies.old result.outcome table.new replies.new
-        × (result.looks ≡ looked_by (decision_of (number_in verdict)) (asked_of op r combos.now (length replies.old))
+        × (result.looks ≡ looked_by (decision_of e) (asked_of op r combos.now (length replies.old))
         (wide_in s table.old) looks)
-        × Moved (decision_of (number_in verdict)) (asked_of op r combos.now (length replies.old)) (wide_in s table.old)
+        × Moved (decision_of e) (asked_of op r combos.now (length replies.old)) (wide_in s table.old)
         result.left result.joined }
 {
-    if let Err(e) = verdict {
+    if e != 0 {
         let refused = refusing::refuse(op, e, r, s, replies);
         return Done {
             outcome: refused,

@@ -2,12 +2,12 @@
 -- Assumes nothing.
 --
 --   spare seen i       the table has the id, and it was not seen
---   Marks, marks_in m  the ids seen by a walk that found all in order, 1 at each; none where it did not
+--   Marks, marks_in m  the ids seen by a walk, 1 at each: Ok where it found all in order, Err where it did not
 --   placed p seen is   a walk over ids: each is spare and passes p, and is seen from then on; where one is not, the walk ends
 --   next m f           the walk f behind a walk that found all in order
 --   kind_test k         what the place of an id asks of its entry; a write is in front where it is the channel's first
 --   placed_writes, placed_all   the walks over the writes, and over all places
-use Rattle.std.specs.Prelude.{ℕ, ◌+◌, Bool, true, false, ◌&&◌, List, [], ◌∷◌, Option, Some, None, eqb, ltb, get_or, set, replicate, if◌then◌else◌}
+use Rattle.std.specs.Prelude.{ℕ, ◌+◌, Bool, true, false, ◌&&◌, List, [], ◌∷◌, Result, Ok, Err, eqb, ltb, get_or, set, replicate, if◌then◌else◌}
 use Rattle.queue.specs.Queue.{list_of}
 use Rattle.channel.specs.declared.Channel.{Channel}
 use Rattle.span_entries.specs.store.declared.State.{State}
@@ -19,19 +19,19 @@ unfoldable pub spare : List ℕ → ℕ → Bool
 spare seen i = ltb i 64 && eqb (get_or seen i 0) 0
 
 abbrev pub Marks : Type 0
-Marks = Option (List ℕ)
+Marks = Result (List ℕ) (List ℕ)
 
 abbrev pub marks_in : Marks → List ℕ
-marks_in None = []
-marks_in (Some seen) = seen
+marks_in (Ok seen) = seen
+marks_in (Err seen) = seen
 
 unfoldable pub placed : (ℕ → Bool) → List ℕ → List ℕ → Marks
-placed p seen [] = Some seen
-placed p seen (i ∷ is) = if spare seen i && p i then placed p (set seen i 1) is else None
+placed p seen [] = Ok seen
+placed p seen (i ∷ is) = if spare seen i && p i then placed p (set seen i 1) is else Err seen
 
 abbrev pub next : Marks → (List ℕ → Marks) → Marks
-next None f = None
-next (Some seen) f = f seen
+next (Ok seen) f = f seen
+next (Err seen) f = Err seen
 
 abbrev pub kind_test : Kind → List Channel → List ℕ → ℕ → Bool
 kind_test (Write key lead) cs tb i = write_test key (eqb i lead) tb i
@@ -44,7 +44,7 @@ abbrev pub write_of : Channel → List ℕ → ℕ → Bool
 write_of c tb i = write_test c.key (eqb i (get_or c.writes.ids 0 0)) tb i
 
 unfoldable pub placed_writes : List ℕ → List ℕ → List Channel → Marks
-placed_writes tb seen [] = Some seen
+placed_writes tb seen [] = Ok seen
 placed_writes tb seen (c ∷ cs) = next (placed (write_of c tb) seen (list_of c.writes)) (λ marks. placed_writes tb marks cs)
 
 unfoldable pub placed_all : ℕ → State → List ℕ → Marks

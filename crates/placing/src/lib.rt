@@ -45,34 +45,35 @@ fn fits(cs: [Channel; 8], table: &[u8], kind: Kind, mark: u8, id: u8) -> bool
     mark == 0 && kept(cs, table, id, kind)
 }
 
-// The ids of a queue, each with its entry: the marks of those seen so far, 1 at each, or none where an id is not in order.
+// The ids of a queue, each with its entry: the marks of the ids seen so far, 1 at each. Where an id is not in order they are the error,
+// and tell the ids before it.
 fn place(
     cs: [Channel; 8],
     table: &[u8],
     kind: Kind,
     seen: [u8; Queue::ROOM],
     q: Queue,
-) -> Option<[u8; Queue::ROOM]>
+) -> Result<[u8; Queue::ROOM], [u8; Queue::ROOM]>
     requires { (q.n ≤ 64) × (length table.now ≡ 1472) }
     ensures { result ≡ placed (kind_test kind cs table.now) seen (list_of q) }
 {
     let mut marks = seen;
     for id in &q.ids[..q.n as usize] {
         if *id >= State::REQUESTS {
-            return None;
+            return Err(marks);
         }
         let at = *id as usize;
         let mark = marks[at];
         if !fits(cs, table, kind, mark, *id) {
-            return None;
+            return Err(marks);
         }
         marks[at] = 1;
     }
-    Some(marks)
+    Ok(marks)
 }
 
 // The writes of every channel. Where there are none, nothing is copied for a walk.
-fn place_writes(cs: [Channel; 8], table: &[u8]) -> Option<[u8; Queue::ROOM]>
+fn place_writes(cs: [Channel; 8], table: &[u8]) -> Result<[u8; Queue::ROOM], [u8; Queue::ROOM]>
     requires { T (all goodM cs) × (length table.now ≡ 1472) }
     ensures { result ≡ placed_writes table.now (replicate 64 0) cs }
 {
@@ -83,11 +84,11 @@ fn place_writes(cs: [Channel; 8], table: &[u8]) -> Option<[u8; Queue::ROOM]>
             marks = place(cs, table, Kind::Write(c.key, q.at(0)), marks, q)?;
         }
     }
-    Some(marks)
+    Ok(marks)
 }
 
-// The ids of all places, one after another: their marks, or none where an id is not in order.
-pub fn place_all(s: State, table: &[u8], top: u8) -> Option<[u8; Queue::ROOM]>
+// The ids of all places, one after another: their marks, or, as the error, those of the ids before the first that is not in order.
+pub fn place_all(s: State, table: &[u8], top: u8) -> Result<[u8; Queue::ROOM], [u8; Queue::ROOM]>
     requires { T (shaped_m s) × (length table.now ≡ 1472) }
     ensures { result ≡ placed_all (top + 1) s table.now }
 {

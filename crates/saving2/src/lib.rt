@@ -53,7 +53,7 @@ fn agrees(b: Board, table: &[u8], display: &[u8]) -> bool
     }
     let mut counted = [0u8; 18];
     recounting::recount(b, table, &mut counted);
-    &display[..16] == &counted[..16]
+    accepting::same(&display[..16], &counted[..16])
 }
 
 // The first n bytes of a page, in room that is lent: 12 where they do not fit, and then nothing is written.

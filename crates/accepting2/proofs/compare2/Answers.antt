@@ -1,9 +1,7 @@
 -- `compare2` meets its contract: a text that was saved reads back to its state, so each test that fails shows that it was not. Assumes nothing.
 use mathlib.Core.Path.{refl, ap, sym, ◌∙◌}
-use mathlib.Core.Bool.{not}
 use native.Mathlib.Omega.{arith}
-use borrow.Author.Tests.{not-false}
-use lib.ListN.{length, take, drop}
+use lib.ListN.{length, drop}
 use lib.Seq.{length-take-le}
 use Rattle.std.proofs.lemmas.Bool.Decides.{Decides-eqb}
 use Rattle.std.proofs.lemmas.Slice.Eq.{slice_eq-Decides}
@@ -34,17 +32,15 @@ spell2-n-requires c = ((c.sound.ensures.only c.if-not-sound.false), refl)
 pub slice_bounds-page-end : goal.slice_bounds-page-end
 slice_bounds-page-end c = page-within c.spell2-n.ensures (text2_fits (c.sound.ensures.only c.if-not-sound.false))
 
-pub slice_bounds-ne-end : goal.slice_bounds-ne-end
-slice_bounds-ne-end c = sym (length-take-le _ _ (page-within c.spell2-n.ensures (text2_fits (c.sound.ensures.only c.if-not-sound.false))))
+pub slice_bounds-same-end : goal.slice_bounds-same-end
+slice_bounds-same-end c = sym (length-take-le _ _ (page-within c.spell2-n.ensures (text2_fits (c.sound.ensures.only c.if-not-sound.false))))
 
-pub returns-then-ne : goal.returns-then-ne
-returns-then-ne c =
+pub returns-then-not-same : goal.returns-then-not-same
+returns-then-not-same c =
     let r = took_from (drop 10 c.args.text.now) c.requires.1 c.read-s.ensures in
-    let d = slice_eq-Decides Decides-eqb c.args.text.now (take c.spell2-n.result c.spell2-n.new.page) _ refl in
-    differs r (c.sound.ensures.only c.if-not-sound.false) c.spell2-n.ensures (λ e. false_true (sym (sym c.if-ne.true ∙ (c.ne.ensures ∙ ap not (d.1 e)))))
+    differs r (c.sound.ensures.only c.if-not-sound.false) c.spell2-n.ensures (λ e. false_true (sym c.if-not-same.true ∙ c.same.ensures.always e))
 
 pub returns : goal.returns
 returns c =
     let r = took_from (drop 10 c.args.text.now) c.requires.1 c.read-s.ensures in
-    let d = slice_eq-Decides Decides-eqb c.args.text.now (take c.spell2-n.result c.spell2-n.new.page) _ refl in
-    compared r (c.sound.ensures.only c.if-not-sound.false) c.spell2-n.ensures (d.0 (not-false _ (sym c.ne.ensures ∙ c.if-ne.false)))
+    compared r (c.sound.ensures.only c.if-not-sound.false) c.spell2-n.ensures (c.same.ensures.only c.if-not-same.false)

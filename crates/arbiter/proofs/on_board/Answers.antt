@@ -8,20 +8,24 @@ use borrow.Author.Rules.{rules}
 use Rattle.arbiter.proofs.on_board.Goals as goal
 
 pub decided-d-requires : goal.decided-d-requires
-decided-d-requires c = may_decide _ c.requires c.ranges-2.ensures c.refusal-verdict.ensures (λ i. search rules)
+decided-d-requires c =
+    let f = rw (← c.number_of-e.ensures) at c.refusal-verdict.ensures in
+    may_decide _ c.requires c.ranges-2.ensures f (λ i. search rules)
 
 pub show-requires : goal.show-requires
-show-requires c = (
-  search rules,
-  looks_few _ c.requires c.ranges-2.ensures c.refusal-verdict.ensures (λ i. search rules)
-      c.decided-d.ensures.0 c.looks-looks.ensures.1 c.decided-d.ensures.1,
-)
+show-requires c =
+    let f = rw (← c.number_of-e.ensures) at c.refusal-verdict.ensures in (
+      search rules,
+      looks_few _ c.requires c.ranges-2.ensures f (λ i. search rules)
+          c.decided-d.ensures.0 c.looks-looks.ensures.1 c.decided-d.ensures.1,
+    )
 
 pub returns : goal.returns
 returns c =
     let e = c.decided-d.ensures in
+    let f = rw (← c.number_of-e.ensures) at c.refusal-verdict.ensures in
     let n : length c.args.display.now ≡ 18 = search rules in (
-      done _ c.requires c.ranges-2.ensures c.refusal-verdict.ensures (λ i. search rules) e.0,
-      shown _ c.requires c.ranges-2.ensures c.refusal-verdict.ensures (λ i. search rules) e.0 _ n
+      done _ c.requires c.ranges-2.ensures f (λ i. search rules) e.0,
+      shown _ c.requires c.ranges-2.ensures f (λ i. search rules) e.0 _ n
           c.looks-looks.ensures.0 e.1 e.2 c.show.ensures,
     )

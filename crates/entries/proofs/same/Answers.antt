@@ -1,17 +1,21 @@
--- `same` meets its contract: the slices compared are the entry and the bytes. Assumes nothing.
-use Prim.Native.Nat.{◌+◌, ◌*◌, ◌-◌}
-use mathlib.Core.Path.{◌≡◌, ◌∙◌}
-use native.Mathlib.Omega.{arith}
-use lib.Dec.{eqb}
-use lib.Pointwise.{pointwise}
-use Rattle.memory.specs.Splice.{block}
-use Rattle.entries.proofs.Turns.{pointwise-same}
+-- `same` meets its contract: what was gathered so far, and the test of the bytes left, are the test of all. Assumes nothing.
+use Rattle.memory.proofs.Splice.{block_byte}
+use Rattle.entries.proofs.Cases.{length-entry}
+use Rattle.entries.proofs.Turns.{alike_start, alike_more, alike_end}
+use borrow.Author.Rules.{rules}
 use Rattle.entries.proofs.same.Goals as goal
 
+pub loop-k-init : goal.loop-k-init
+loop-k-init c = alike_start _ _
+
+pub loop-k-preserved : goal.loop-k-preserved
+loop-k-preserved c =
+    let a = c.args in
+    let h = length-entry a.table.now a.id c.requires.0 c.requires.1 in
+    alike_more c.loop-k.invariant (search rules) (search rules) (block_byte 23 a.table.now a.id c.loop-k.k (search rules))
+
 pub returns : goal.returns
-unfolding block
 returns c =
     let a = c.args in
-    let n : a.id * 23 + 23 - a.id * 23 ≡ 23 = omega arith in
-    let e : c.eq.result ≡ pointwise eqb (block 23 a.table.now a.id) a.want = rw n at c.eq.ensures in
-    e ∙ pointwise-same _ _
+    let h = length-entry a.table.now a.id c.requires.0 c.requires.1 in
+    alike_end c.loop-k.invariant (search rules) (search rules)

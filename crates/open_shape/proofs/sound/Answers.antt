@@ -1,10 +1,10 @@
--- `sound` meets its contract: each key is tested, and each place behind them, or one that fails is found. Assumes nothing.
+-- `sound` meets its contract: each key is tested, and the places behind them, or a key that fails is found. Assumes nothing.
 use Rattle.std.proofs.Common.{rules, ◌≡◌, ℕ, ◌-◌, ◌<◌, true, false, length, take, drop, get_or}
 use Rattle.std.proofs.iter.runs.Made.{chains}
 use mathlib.Core.Path.{ap, sym, ◌∙◌}
 use lib.ListN.{length-drop}
 use lib.Seq.{take-length}
-use borrow.Author.Tests.{le-leb, lt-leb, eq-eqb, ne_eqb}
+use borrow.Author.Tests.{le-leb, lt-leb, eq-eqb}
 use Rattle.open_keys.specs.machine.Lists.{all}
 use Rattle.open_shape.specs.OpenShape.{is_key, is_none, sound_keys}
 use Rattle.open_shape.proofs.Turns.{all_tested}
@@ -17,7 +17,7 @@ returns-then-q c =
     rw (lt-leb _ _ h)
 
 pub returns-then-all : goal.returns-then-all
-unfolding sound_keys is_none
+unfolding sound_keys
 returns-then-all c =
     let q = c.args.q in
     let ks = take q.n q.keys in
@@ -25,11 +25,8 @@ returns-then-all c =
     let ns = take (32 - q.n) (drop q.n q.keys) in
     let l : ns ≡ drop q.n q.keys = ap (λ (m : ℕ). take m (drop q.n q.keys)) (sym (rw z at (length-drop q.n q.keys))) ∙ take-length (drop q.n q.keys) in
     let yes : (i : ℕ) → i < length ks → is_key (get_or ks i 0) ≡ true = search (rules, chains) in
-    let none : c.all-then-all.result ≡ true → (i : ℕ) → i < length ns → get_or ns i 0 ≡ 0 = search (rules, chains) in
-    let some : c.all-then-all.result ≡ false → (i : ℕ) × (i < length ns) × (get_or ns i 0 ≡ 0 → ⊥) = search (rules, chains) in
     let a = all_tested is_key 0 ks true (λ e. yes) (λ e. absurd (cc)) in
-    let b = all_tested is_none 0 ns c.all-then-all.result (λ e i h. eq-eqb _ _ (none e i h)) (λ e. let (i, h, g) = some e in (i, h, ne_eqb _ _ g)) in
-    rw (le-leb _ _ c.if-q.false, eq-eqb _ _ z, ← a) (b ∙ ap (all is_none) l)
+    rw (le-leb _ _ c.if-q.false, eq-eqb _ _ z, ← a) (c.zeros.ensures ∙ ap (all is_none) l)
 
 pub returns-else-all : goal.returns-else-all
 unfolding sound_keys

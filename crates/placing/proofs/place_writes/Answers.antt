@@ -1,7 +1,7 @@
 -- `place_writes` meets its contract: the walks over the channels left, with the marks made so far, are all the walks. Assumes nothing.
 use Prim.Native.Nat.{◌+◌}
 use mathlib.Core.Path.{◌≡◌, refl, ◌∙◌}
-use Rattle.std.specs.Prelude.{None}
+use Rattle.std.specs.Prelude.{Err}
 use lib.ListN.{length, replicate}
 use Rattle.placing.proofs.Turns.{Written, written_stop, written_more, written_none, written_end}
 use Rattle.placing.proofs.Cases.{good_few}
@@ -20,7 +20,7 @@ place-requires c =
 pub returns-in_err-marks : goal.returns-in_err-marks
 returns-in_err-marks c =
     let z : length c.args.cs ≡ 8 = search rules in
-    let e : c.from_residual.result ≡ None = search rules in
+    let e : c.from_residual.result ≡ Err c.in_err-marks.field-0.0 = search rules in
     e ∙ written_stop c.loop-c.invariant.1 _ (search rules) (rw c.at.ensures at c.place.ensures) c.in_err-marks.was
 
 -- a channel's writes were walked over, or it has none

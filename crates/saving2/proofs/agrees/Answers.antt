@@ -1,10 +1,7 @@
 -- `agrees` meets its contract: the sixteen numbers are compared with those of a count. Assumes nothing.
-use mathlib.Core.Path.{refl, sym, ◌∙◌}
+use mathlib.Core.Path.{sym}
 use native.Mathlib.Omega.{arith}
-use lib.ListN.{take}
 use lib.Seq.{length-take-le}
-use Rattle.std.proofs.lemmas.Bool.Decides.{Decides-eqb}
-use Rattle.std.proofs.lemmas.Slice.Eq.{slice_eq-Decides}
 use Rattle.accepting.proofs.Accepting.{false_true}
 use Rattle.saving2.proofs.Laws2.{counted-numbers, numbers_agree}
 use borrow.Author.Rules.{rules}
@@ -15,13 +12,11 @@ returns-then-display-ne18 c =
     let a = c.args in
     record { only = λ z. absurd (false_true z); always = λ g. let l = g.size in absurd (omega arith) }
 
-pub slice_bounds-eq-end : goal.slice_bounds-eq-end
-slice_bounds-eq-end c = sym (length-take-le _ c.args.display.now (omega arith))
+pub slice_bounds-same-end : goal.slice_bounds-same-end
+slice_bounds-same-end c = sym (length-take-le _ c.args.display.now (omega arith))
 
-pub slice_bounds-eq-end-2 : goal.slice_bounds-eq-end-2
-slice_bounds-eq-end-2 c = sym (length-take-le _ c.recount.new.display (search rules))
+pub slice_bounds-same-end-2 : goal.slice_bounds-same-end-2
+slice_bounds-same-end-2 c = sym (length-take-le _ c.recount.new.display (search rules))
 
 pub returns : goal.returns
-returns c =
-    let d = slice_eq-Decides Decides-eqb (take 16 c.args.display.now) (take 16 c.recount.new.display) _ refl in
-    numbers_agree _ (omega arith) (counted-numbers _ c.recount.ensures) (record { only = λ e. d.0 (sym c.eq.ensures ∙ e); always = λ e. c.eq.ensures ∙ d.1 e })
+returns c = numbers_agree _ (omega arith) (counted-numbers _ c.recount.ensures) c.same.ensures
